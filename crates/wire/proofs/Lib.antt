@@ -1,0 +1,6 @@
+pub mod Choices
+pub mod Numbers
+pub mod Overlays
+pub mod Parts
+pub mod Sums
+pub mod Once

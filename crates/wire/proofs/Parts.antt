@@ -1,0 +1,81 @@
+-- Parts of a list, and comparing one with bytes. Assumes nothing.
+use mathlib.Core.Path.{_≡_, refl, sym, _∙_, ap}
+use mathlib.Core.Bool.{Bool, true, false, _&&_}
+use mathlib.Core.List.{List, [], _∷_}
+use Prim.Native.Nat.{ℕ, _+_, _-_, _≤_, _<_, min}
+use native.Mathlib.Numerals.{add-one}
+use native.Mathlib.Omega.{arith}
+use native.Mathlib.Decide.{decLe}
+use lib.Dec.{eqb}
+use lib.ListN.{length, getD, take, drop, length-drop, drop-of-length-le}
+use lib.Seq.{drop-cons, getD-take, getD-drop, length-take-le, take-all}
+use borrow.Author.Tests.{eq-eqb, eqb-true}
+use Rattle.wire.specs.Same.{same}
+use Rattle.wire.proofs.Choices.{never, and-false}
+
+pub same-refl : (l : List ℕ) → same l l ≡ true
+same-refl [] = refl
+same-refl (x ∷ xs) = rw (eq-eqb x x refl, same-refl xs)
+
+pub same-true : (a b : List ℕ) → same a b ≡ true → a ≡ b
+same-true [] [] e = refl
+same-true [] (y ∷ ys) e = never e refl
+same-true (x ∷ xs) [] e = never e refl
+same-true (x ∷ xs) (y ∷ ys) e = go (λ q. same-true xs ys q) (eqb x y) refl e
+  where
+    go : (same xs ys ≡ true → xs ≡ ys) → (b : Bool) → eqb x y ≡ b → (b && same xs ys) ≡ true → x ∷ xs ≡ y ∷ ys
+    go ih true p q =
+        let h : x ≡ y = eqb-true x y p in
+        let t : xs ≡ ys = ih q in
+        cc
+    go ih false p q = never q refl
+
+-- lists of different lengths are not the same
+pub same-short : (a b : List ℕ) → length a < length b → same a b ≡ false
+same-short [] [] h = absurd (let z : ⊥ = omega arith in z)
+same-short [] (y ∷ ys) h = refl
+same-short (x ∷ xs) [] h = refl
+same-short (x ∷ xs) (y ∷ ys) h = rw (same-short xs ys (omega arith)) (and-false (eqb x y))
+
+-- the part of d that is to be s
+abbrev pub window : List ℕ → ℕ → List ℕ → List ℕ
+window d at s = take (length s) (drop at d)
+
+module _ (d : List ℕ) (at : ℕ) (s : List ℕ) (fits : length s ≤ length d - at) where
+  window-length : length (window d at s) ≡ length s
+  window-length = length-take-le (length s) (drop at d) (rw length-drop fits)
+
+  pub same-step : (i : ℕ) → i < length s
+      → same (drop i (window d at s)) (drop i s) ≡ (eqb (getD d (at + i) 0) (getD s i 0) && same (drop (i + 1) (window d at s)) (drop (i + 1) s))
+  same-step i h =
+      let g : i < length (window d at s) = rw window-length h in
+      let w : getD (window d at s) i 0 ≡ getD d (at + i) 0 = rw (getD-take, getD-drop) in
+      rw (drop-cons (window d at s) i 0 g, drop-cons s i 0 h, add-one) (rw w)
+
+  pub same-end : (i : ℕ) → length s ≤ i → same (drop i (window d at s)) (drop i s) ≡ true
+  same-end i h =
+      let g : length (window d at s) ≤ i = rw window-length h in
+      rw (drop-of-length-le (window d at s) g, drop-of-length-le s h)
+
+-- ---- the part that is asked for, and the part that there is
+
+take-least : (n : ℕ) (l : List ℕ) → take (min n (length l)) l ≡ take n l
+take-least n l = elim (decLe n (length l)) [
+  | yes h ↦ ap (λ (k : ℕ). take k l) (let e : min n (length l) ≡ n = omega arith in e)
+  | no h ↦ take-all (min n (length l)) l (omega arith) ∙ sym (take-all n l (omega arith))
+]
+
+drop-least : (n : ℕ) (l : List ℕ) → drop (min n (length l)) l ≡ drop n l
+drop-least n l = elim (decLe n (length l)) [
+  | yes h ↦ ap (λ (k : ℕ). drop k l) (let e : min n (length l) ≡ n = omega arith in e)
+  | no h ↦ drop-of-length-le l (let e : length l ≤ min n (length l) = omega arith in e) ∙ sym (drop-of-length-le l (let e : length l ≤ n = omega arith in e))
+]
+
+pub part-least : (s : List ℕ) (at n a m : ℕ) → a ≡ min at (length s) → m ≡ min n (length s - a) → take m (drop a s) ≡ take n (drop at s)
+part-least s at n a m e f =
+    let l : length s - a ≡ length (drop a s) = sym (length-drop a s) in
+    rw (f, l, take-least, e, drop-least) refl
+
+-- from a place to the end
+pub part-rest : (s : List ℕ) (at : ℕ) → take (length s - at) (drop at s) ≡ drop at s
+part-rest s at = take-all (length s - at) (drop at s) (rw length-drop (omega arith))

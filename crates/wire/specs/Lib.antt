@@ -1,0 +1,5 @@
+pub mod Bytes
+pub mod Choice
+pub mod Overlay
+pub mod Same
+pub mod Sum
