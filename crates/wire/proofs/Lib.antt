@@ -2,5 +2,6 @@ pub mod Choices
 pub mod Numbers
 pub mod Overlays
 pub mod Parts
+pub mod Signs
 pub mod Sums
 pub mod Once

@@ -2,4 +2,5 @@ pub mod Bytes
 pub mod Choice
 pub mod Overlay
 pub mod Same
+pub mod Signed
 pub mod Sum
