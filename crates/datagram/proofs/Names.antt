@@ -1,0 +1,144 @@
+-- Laws of names. Where the name rule changes, `long-name` and `name-no-zero` are shown again. Assumes nothing.
+use mathlib.Core.Path.{_≡_, refl, ap, sym, _∙_}
+use mathlib.Core.Bool.{Bool, true, false, _&&_}
+use mathlib.Core.List.{List, [], _∷_, _++_}
+use Prim.Native.Nat.{ℕ, zero, suc, _+_, _-_, _≤_, _<_, _^_, min}
+use native.Mathlib.Nat.{pow-le-pow-right}
+use native.Mathlib.Numerals.{add-one}
+use native.Mathlib.Omega.{arith}
+use native.Mathlib.Decide.{decLe}
+use lib.Dec.{eqb, leb, ltb}
+use lib.ListN.{length, getD, take, drop, length-take, length-append, drop-of-length-le}
+use lib.Seq.{drop-cons, take-append-seam, length-take-le}
+use borrow.Author.Tests.{eq-eqb, ne-eqb, lt-leb, le-ltb, lt-ltb, ltb-true, leb-true}
+use Rattle.wire.specs.Choice.{pick}
+use Rattle.wire.proofs.Choices.{never, and-false, and-l, and-r}
+use Rattle.wire.proofs.Parts.{part-rest}
+use Rattle.datagram.specs.Limits.{maxName}
+use Rattle.datagram.specs.Name.{every, printable, goodName, untilZero, nameLength}
+use Rattle.datagram.specs.declared.Named.{Named}
+use Rattle.datagram.specs.declared.Named.the-variants.{Nameless, Long}
+
+-- ---- every byte of a list
+
+module _ (p : ℕ → Bool) (l : List ℕ) where
+  pub every-step : (i : ℕ) → i < length l → every p (drop i l) ≡ (p (getD l i 0) && every p (drop (i + 1) l))
+  every-step i h = rw (drop-cons l i 0 h, add-one) refl
+
+  pub every-end : (i : ℕ) → length l ≤ i → every p (drop i l) ≡ true
+  every-end i h = rw (drop-of-length-le l h)
+
+-- ---- names
+
+-- no name is longer
+pub long-name : (nm : List ℕ) → maxName < length nm → goodName nm ≡ false
+unfolding goodName
+long-name nm h = rw (lt-leb (length nm) maxName h) (and-false (leb 1 (length nm)))
+
+-- a name has no zero byte: it ends at the first
+pub name-no-zero : (nm t : List ℕ) → goodName nm ≡ true → untilZero (nm ++ 0 ∷ t) ≡ length nm
+unfolding goodName untilZero
+name-no-zero nm t e = go nm (and-r (leb (length nm) maxName) _ (and-r (leb 1 (length nm)) _ e))
+  where
+    go : (l : List ℕ) → every printable l ≡ true → untilZero (l ++ 0 ∷ t) ≡ length l
+    go [] h = refl
+    go (x ∷ l) h =
+        let a : leb 32 x ≡ true = and-l (leb 32 x) (leb x 126) (and-l (printable x) (every printable l) h) in
+        let b : 32 ≤ x = leb-true 32 x a in
+        rw (ne-eqb x 0 (λ z. let w : ⊥ = omega arith in w)) (ap suc (go l (and-r (printable x) (every printable l) h)))
+
+-- ---- the bytes before the first zero byte
+
+pub zero-le-length : (b : List ℕ) → untilZero b ≤ length b
+unfolding untilZero
+zero-le-length [] = omega arith
+zero-le-length (x ∷ b) = go (eqb x 0) (zero-le-length b)
+  where
+    go : (t : Bool) → untilZero b ≤ length b → pick t 0 (suc (untilZero b)) ≤ suc (length b)
+    go true h = omega arith
+    go false h = omega arith
+
+pub zero-here : (b : List ℕ) (i : ℕ) → i < length b → getD b i 0 ≡ 0 → untilZero (drop i b) ≡ 0
+unfolding untilZero
+zero-here b i h e = rw (drop-cons b i 0 h, eq-eqb (getD b i 0) 0 e)
+
+pub zero-later : (b : List ℕ) (i : ℕ) → i < length b → (getD b i 0 ≡ 0 → ⊥) → i + untilZero (drop i b) ≡ i + 1 + untilZero (drop (i + 1) b)
+unfolding untilZero
+zero-later b i h e = rw (drop-cons b i 0 h, ne-eqb (getD b i 0) 0 e, add-one) (omega arith)
+
+pub zero-end : (b : List ℕ) (i : ℕ) → length b ≤ i → untilZero (drop i b) ≡ 0
+unfolding untilZero
+zero-end b i h = rw (drop-of-length-le b h)
+
+-- ---- what the search for the first 64 bytes says of the name
+
+module _ (b : List ℕ) (c : ℕ) (e : c ≡ min (untilZero b) (maxName + 1)) where
+  pub name-none : length b ≤ c → nameLength b ≡ Nameless
+  unfolding nameLength
+  name-none h = rw (le-ltb (untilZero b) (length b) (omega arith))
+
+  pub name-here : c < length b → goodName (take c b) ≡ true → nameLength b ≡ Long c
+  unfolding nameLength
+  name-here h g = elim (decLe 64 (untilZero b)) [
+    | yes w ↦ never g (long-name (take c b) (rw length-take (omega arith)))
+    | no w ↦
+        let u : untilZero b ≡ c = omega arith in
+        rw (u, lt-ltb c (length b) h, g)
+  ]
+
+  pub name-bad : c < length b → goodName (take c b) ≡ false → nameLength b ≡ Nameless
+  unfolding nameLength
+  name-bad h g = elim (decLe 64 (untilZero b)) [
+    | yes w ↦
+        let l : goodName (take (untilZero b) b) ≡ false = long-name (take (untilZero b) b) (rw length-take (omega (arith, zero-le-length b))) in
+        rw (l, and-false)
+    | no w ↦
+        let u : untilZero b ≡ c = omega arith in
+        rw (u, g, and-false)
+  ]
+
+-- a name and a zero byte are read as that name
+pub name-read : (nm t : List ℕ) → goodName nm ≡ true → nameLength (nm ++ 0 ∷ t) ≡ Long (length nm)
+unfolding nameLength
+name-read nm t e =
+    let l : length nm < length (nm ++ 0 ∷ t) = rw length-append (omega arith) in
+    rw (name-no-zero nm t e, lt-ltb (length nm) (length (nm ++ 0 ∷ t)) l, take-append-seam, e)
+
+-- a good name's length
+pub name-short : (nm : List ℕ) → goodName nm ≡ true → length nm ≤ maxName
+name-short nm e = elim (decLe (length nm) maxName) [ yes h ↦ h | no h ↦ never e (long-name nm (omega arith)) ]
+
+-- ---- numbers of at most four bytes
+
+pub word-fits : (k r : ℕ) → k ≤ 4 → r < 256 ^ min k 8 → r < 2 ^ 32
+word-fits k r h l =
+    let e : min k 8 ≡ k = omega arith in
+    let p : 256 ^ k ≤ 256 ^ 4 = pow-le-pow-right {n = 256} (omega arith) h in
+    let q : r < 256 ^ k = rw e at l in
+    omega arith
+
+-- ---- a name that was found
+
+pub record Found (b : List ℕ) (c : ℕ) : Type 0 where
+  pub inside : c < length b
+  pub good : goodName (take c b) ≡ true
+
+pub name-found : (b : List ℕ) (c : ℕ) → nameLength b ≡ Long c → Found b c
+unfolding nameLength
+name-found b c e = go (ltb (untilZero b) (length b)) (goodName (take (untilZero b) b)) refl refl e
+  where
+    go : (s t : Bool) → ltb (untilZero b) (length b) ≡ s → goodName (take (untilZero b) b) ≡ t → pick (s && t) (Long (untilZero b)) Nameless ≡ Long c → Found b c
+    go true true p q r =
+        let u : untilZero b ≡ c = cc in
+        record { inside = rw u at (ltb-true (untilZero b) (length b) p); good = rw u at q }
+    go true false p q r = absurd (let z : _≡_ {A = ℕ} 0 1 = cc in let y : ⊥ = omega arith in y)
+    go false t p q r = absurd (let z : _≡_ {A = ℕ} 0 1 = cc in let y : ⊥ = omega arith in y)
+
+pub found-short : (b : List ℕ) (c : ℕ) → nameLength b ≡ Long c → c ≤ maxName
+found-short b c e =
+    let f = name-found b c e in
+    rw (length-take-le c b (omega (arith, f .inside))) at (name-short (take c b) (f .good))
+
+-- what is found in the part from a place on
+pub named-rest : (d : List ℕ) (at : ℕ) (r : Named) → r ≡ nameLength (take (length d - at) (drop at d)) → nameLength (drop at d) ≡ r
+named-rest d at r e = sym (e ∙ ap nameLength (part-rest d at))

@@ -1,0 +1,25 @@
+-- `datagram::payload_part` meets its contract. Assumes nothing.
+use mathlib.Core.Path.{ap, _∙_}
+use Rattle.datagram.specs.Read.{payloadOf, payloadPlace, partOf}
+use borrow.Author.Needs.{needs}
+use Rattle.datagram.proofs.payload_part.Statement.{statement}
+use Rattle.datagram.proofs.payload_part.Tie as tie
+
+read-datagram-requires : tie.Need-read-datagram-requires
+read-datagram-requires c κs = search needs
+
+payload-place-requires : tie.Need-payload-place-requires
+payload-place-requires c κs = search needs
+
+part-requires : tie.Need-part-requires
+part-requires c κs = search needs
+
+returns : tie.Need-returns
+unfolding payloadOf
+returns c =
+    let p = c .before .payload-place .ensures ∙ ap payloadPlace (c .before .before .read-datagram .ensures) in
+    c .part .ensures ∙ ap (partOf (c .before .before .before .before .args .d .now)) p
+
+pub payload-part-spec : {M : Type 1} → statement M
+payload-part-spec =
+    tie.close (tie.spec read-datagram-requires payload-place-requires part-requires returns)

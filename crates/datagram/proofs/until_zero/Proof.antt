@@ -1,0 +1,71 @@
+-- `datagram::until_zero` meets its contract. The loop's invariant: no byte passed is zero. Assumes nothing.
+use mathlib.Core.Path.{_≡_, sym, _∙_}
+use Prim.Native.Nat.{_≤_, _+_, _-_, min}
+use native.Mathlib.Omega.{arith}
+use native.Mathlib.Decide.{decLe}
+use native.Mathlib.Nat.{zero-add}
+use lib.ListN.{length, drop}
+use Rattle.datagram.specs.Limits.{maxName}
+use Rattle.datagram.specs.Name.{untilZero}
+use Rattle.datagram.proofs.Names.{zero-here, zero-later, zero-end}
+use borrow.Author.Needs.{needs}
+use Rattle.datagram.proofs.until_zero.Statement.{statement}
+use Rattle.datagram.proofs.until_zero.Tie as tie
+
+abbrev Inv-loop : tie.InvT-loop
+Inv-loop b n i₀ i = (i ≤ n) × (n ≡ min (length b) (maxName + 1)) × (untilZero b ≡ i + untilZero (drop i b))
+
+abbrev μ-loop : tie.MeasureT-loop
+μ-loop b n i₀ i = n - i
+
+add-least : tie.Need-add-least Inv-loop μ-loop
+add-least c = search needs
+
+least-requires : tie.Need-least-requires Inv-loop μ-loop
+least-requires c κs = search needs
+
+loop-holds : tie.Need-loop-holds Inv-loop μ-loop
+loop-holds c = (omega arith, c .least .ensures, sym (zero-add _))
+
+shared-slice-read-if1 : tie.Need-shared-slice-read-if1 Inv-loop μ-loop
+shared-slice-read-if1 c = search needs
+
+returns : tie.Need-returns Inv-loop μ-loop
+returns c =
+    let b = c .before .before .before .before .before .before .args .b .now in
+    omega (arith, c .before .before .before .loop .inv .2, zero-here b (c .before .before .before .loop .i) (omega arith) (c .if1 .taken))
+
+add-i : tie.Need-add-i Inv-loop μ-loop
+add-i c = search needs
+
+loop-less : tie.Need-loop-less Inv-loop μ-loop
+loop-less c = search needs
+
+loop-again : tie.Need-loop-again Inv-loop μ-loop
+loop-again c =
+    let b = c .before .before .before .before .before .before .args .b .now in
+    (omega arith, c .before .before .before .loop .inv .1, c .before .before .before .loop .inv .2 ∙ zero-later b (c .before .before .before .loop .i) (omega arith) (c .if1 .left))
+
+returns-2 : tie.Need-returns-2 Inv-loop μ-loop
+returns-2 c =
+    let b = c .before .before .before .before .args .b .now in
+    elim (decLe (length b) (c .before .loop .i)) [
+      | yes h ↦ omega (arith, c .before .loop .inv .2, zero-end b (c .before .loop .i) h)
+      | no h ↦ omega (arith, c .before .loop .inv .2)
+    ]
+
+pub until-zero-spec : {M : Type 1} → statement M
+until-zero-spec =
+    tie.close
+    (tie.spec
+    Inv-loop
+    μ-loop
+    add-least
+    least-requires
+    loop-holds
+    shared-slice-read-if1
+    returns
+    add-i
+    loop-less
+    loop-again
+    returns-2)

@@ -1,0 +1,4 @@
+pub mod Limits
+pub mod Name
+pub mod Read
+pub mod Said

@@ -1,0 +1,275 @@
+// What a datagram says: its header as numbers, with the places of its name and its data; and these two as parts of the datagram.
+ghost use mathlib.Core.Path.{_≡_};
+ghost use Prim.Native.Nat.{_+_, _≤_, min};
+ghost use lib.ListN.{length, drop};
+ghost use Rattle.wire.specs.Bytes.{be};
+ghost use Rattle.datagram.specs.Name.{goodName, untilZero, nameLength};
+ghost use Rattle.datagram.specs.Limits.{maxDatagram, maxName};
+ghost use Rattle.datagram.specs.Read.{goodStart, goodForm, formed, readSmall, readFragment, readDatagram, namePlace, payloadPlace, nameOf, payloadOf};
+
+// The largest payload, the most fragments of a message, the longest datagram and the longest name.
+pub const MAX_PAYLOAD: usize = 262144;
+
+pub const MAX_FRAGMENTS: u32 = 256;
+
+pub const MAX_DATAGRAM: usize = 65535;
+
+pub const MAX_NAME: usize = 63;
+
+const SMALL_MAGIC: u32 = 1279471666;
+
+const FRAGMENT_MAGIC: u32 = 1279471667;
+
+// A part of a datagram: where it begins, and its length.
+pub struct Place {
+    pub at: usize,
+    pub len: usize,
+}
+
+// What a datagram of good form says. A small message is told as the only fragment of its payload.
+pub struct Header {
+    pub small: bool,
+    pub sequence: u32,
+    pub size: u32,
+    pub offset: u32,
+    pub number: u32,
+    pub count: u32,
+    pub name: Place,
+    pub payload: Place,
+}
+
+pub enum Read {
+    Good(Header),
+    Refused(u32),
+}
+
+// The length of a name, or no name.
+pub enum Named {
+    Nameless,
+    Long(usize),
+}
+
+// The name rule.
+pub fn good_name(name: &[u8]) -> bool
+    ensures { λ r. ⌜ r ≡ goodName (now (name .entry)) ⌝ }
+{
+    if name.len() < 1 {
+        return false;
+    }
+    if MAX_NAME < name.len() {
+        return false;
+    }
+    let mut i: usize = 0;
+    while i < name.len() {
+        let x = name[i];
+        if x < 32 {
+            return false;
+        }
+        if 126 < x {
+            return false;
+        }
+        i += 1;
+    }
+    true
+}
+
+// How many bytes stand before the first zero byte, at most 64.
+fn until_zero(b: &[u8]) -> usize
+    ensures { λ r. ⌜ r ≡ min (untilZero (now (b .entry))) (maxName + 1) ⌝ }
+{
+    let n = wire::least(b.len(), MAX_NAME + 1);
+    let mut i: usize = 0;
+    while i < n {
+        if b[i] == 0 {
+            return i;
+        }
+        i += 1;
+    }
+    i
+}
+
+// The length of the good name that b begins with, before a zero byte.
+fn name_length(b: &[u8]) -> Named
+    ensures { λ r. ⌜ r ≡ nameLength (now (b .entry)) ⌝ }
+{
+    let c = until_zero(b);
+    if b.len() <= c {
+        return Named::Nameless;
+    }
+    if good_name(&b[..c]) {
+        return Named::Long(c);
+    }
+    Named::Nameless
+}
+
+fn wide(x: u32) -> usize
+    ensures { λ r. ⌜ r ≡ x ⌝ }
+{
+    x as usize
+}
+
+// The big-endian number of k bytes, at most 4, at a place.
+fn word(d: &[u8], at: usize, k: usize) -> u32
+    requires { ⌜ k ≤ 4 ⌝ }
+    ensures { λ r. ⌜ r ≡ be k (drop at (now (d .entry))) ⌝ }
+{
+    wire::number(d, at, k) as u32
+}
+
+fn read_small(d: &[u8]) -> Read
+    requires { ⌜ (8 ≤ length (now d)) × (length (now d) ≤ maxDatagram) ⌝ }
+    ensures { λ r. ⌜ r ≡ readSmall (now (d .entry)) ⌝ }
+{
+    let Named::Long(c) = name_length(&d[8..]) else {
+        return Read::Refused(4);
+    };
+    let at = 9 + c;
+    let n = wire::room(d.len(), at);
+    Read::Good(Header {
+        small: true,
+        sequence: word(d, 4, 4),
+        size: n as u32,
+        offset: 0,
+        number: 0,
+        count: 1,
+        name: Place { at: 8, len: c },
+        payload: Place { at: at, len: n },
+    })
+}
+
+// Fragment 0 begins the payload; any other has data.
+fn good_start(number: u32, offset: u32, n: usize) -> bool
+    ensures { λ r. ⌜ r ≡ goodStart number offset n ⌝ }
+{
+    if number == 0 {
+        return offset == 0;
+    }
+    1 <= n
+}
+
+// The form of a fragment. Offset and length are added in 64 bits, so that a huge offset cannot pass.
+fn good_form(h: Header) -> bool
+    requires { ⌜ h .payload .len ≤ maxDatagram ⌝ }
+    ensures { λ r. ⌜ r ≡ goodForm h ⌝ }
+{
+    let n = h.payload.len;
+    if !good_start(h.number, h.offset, n) {
+        return false;
+    }
+    let end = wide(h.offset) + n;
+    let size = wide(h.size);
+    if size < end {
+        return false;
+    }
+    if wide(h.number) + 1 == wide(h.count) {
+        return end == size;
+    }
+    true
+}
+
+// The fragment whose name stands there, and whose data begins at a place.
+fn formed_of(d: &[u8], name: Place, at: usize) -> Read
+    requires { ⌜ length (now d) ≤ maxDatagram ⌝ }
+    ensures { λ r. ⌜ r ≡ formed (now (d .entry)) name at ⌝ }
+{
+    let n = wire::room(d.len(), at);
+    let h = Header {
+        small: false,
+        sequence: word(d, 4, 4),
+        size: word(d, 8, 4),
+        offset: word(d, 12, 4),
+        number: word(d, 16, 2),
+        count: word(d, 18, 2),
+        name: name,
+        payload: Place { at: at, len: n },
+    };
+    if good_form(h) {
+        return Read::Good(h);
+    }
+    Read::Refused(7)
+}
+
+fn read_fragment(d: &[u8], max_size: usize, max_count: u32) -> Read
+    requires { ⌜ (20 ≤ length (now d)) × (length (now d) ≤ maxDatagram) ⌝ }
+    ensures { λ r. ⌜ r ≡ readFragment «max_size» «max_count» (now (d .entry)) ⌝ }
+{
+    let count = word(d, 18, 2);
+    if count == 0 {
+        return Read::Refused(5);
+    }
+    if max_count < count {
+        return Read::Refused(5);
+    }
+    let number = word(d, 16, 2);
+    if count <= number {
+        return Read::Refused(5);
+    }
+    if max_size < wide(word(d, 8, 4)) {
+        return Read::Refused(6);
+    }
+    if number != 0 {
+        return formed_of(d, Place { at: 20, len: 0 }, 20);
+    }
+    let Named::Long(c) = name_length(&d[20..]) else {
+        return Read::Refused(4);
+    };
+    formed_of(d, Place { at: 20, len: c }, 21 + c)
+}
+
+// What a datagram says, for payloads of at most max_size bytes in at most max_count fragments.
+pub fn read_datagram(d: &[u8], max_size: usize, max_count: u32) -> Read
+    ensures { λ r. ⌜ r ≡ readDatagram «max_size» «max_count» (now (d .entry)) ⌝ }
+{
+    if MAX_DATAGRAM < d.len() {
+        return Read::Refused(3);
+    }
+    if d.len() < 8 {
+        return Read::Refused(1);
+    }
+    let magic = word(d, 0, 4);
+    if magic == SMALL_MAGIC {
+        return read_small(d);
+    }
+    if magic != FRAGMENT_MAGIC {
+        return Read::Refused(2);
+    }
+    if d.len() < 20 {
+        return Read::Refused(1);
+    }
+    read_fragment(d, max_size, max_count)
+}
+
+// Where the name and the payload stand: nowhere, for a refused datagram.
+fn name_place(r: Read) -> Place
+    ensures { λ p. ⌜ p ≡ namePlace r ⌝ }
+{
+    match r {
+        Read::Good(h) => h.name,
+        Read::Refused(_) => Place { at: 0, len: 0 },
+    }
+}
+
+fn payload_place(r: Read) -> Place
+    ensures { λ p. ⌜ p ≡ payloadPlace r ⌝ }
+{
+    match r {
+        Read::Good(h) => h.payload,
+        Read::Refused(_) => Place { at: 0, len: 0 },
+    }
+}
+
+// The name, as the part of the datagram that holds it: empty for a refused datagram, and for a fragment above 0.
+pub fn name_part(d: &[u8]) -> &[u8]
+    ensures { λ r. ⌜ now r ≡ nameOf (now (d .entry)) ⌝ }
+{
+    let p = name_place(read_datagram(d, MAX_PAYLOAD, MAX_FRAGMENTS));
+    wire::part(d, p.at, p.len)
+}
+
+// The payload of a small message, or the data of a fragment, as the part of the datagram that holds it: empty for a refused datagram.
+pub fn payload_part(d: &[u8]) -> &[u8]
+    ensures { λ r. ⌜ now r ≡ payloadOf (now (d .entry)) ⌝ }
+{
+    let p = payload_place(read_datagram(d, MAX_PAYLOAD, MAX_FRAGMENTS));
+    wire::part(d, p.at, p.len)
+}
