@@ -1,0 +1,7 @@
+pub mod Limits
+pub mod Search
+pub mod Held
+pub mod Memory
+pub mod Slots
+pub mod Receive
+pub mod Answers
