@@ -1,2 +1,6 @@
 pub mod Tables
 pub mod Helds
+pub mod Memories
+pub mod Stores
+pub mod Seats
+pub mod Branches
