@@ -2,3 +2,4 @@ pub mod Limits
 pub mod Name
 pub mod Read
 pub mod Said
+pub mod Lawful

@@ -16,9 +16,10 @@ pub const MAX_DATAGRAM: usize = 65535;
 
 pub const MAX_NAME: usize = 63;
 
-const SMALL_MAGIC: u32 = 1279471666;
+// "LC02" and "LC03", as numbers of four bytes.
+pub const SMALL_MAGIC: u32 = 1279471666;
 
-const FRAGMENT_MAGIC: u32 = 1279471667;
+pub const FRAGMENT_MAGIC: u32 = 1279471667;
 
 // A part of a datagram: where it begins, and its length.
 pub struct Place {
@@ -49,7 +50,7 @@ pub enum Named {
     Long(usize),
 }
 
-// The name rule.
+// The name rule: 1 to 63 bytes, each from 32 to 126. The reader and the cutter ask it here.
 pub fn good_name(name: &[u8]) -> bool
     ensures { λ r. ⌜ r ≡ goodName (now (name .entry)) ⌝ }
 {

@@ -1,0 +1,57 @@
+-- `cutter::put_head` meets its contract. Assumes nothing.
+use lib.ListN.{length-append}
+use Rattle.wire.proofs.Numbers.{length-bytes}
+use Rattle.wire.proofs.Overlays.{overlay-next}
+use Rattle.cutter.specs.Cut.{headBytes}
+use borrow.Author.Needs.{needs}
+use Rattle.cutter.proofs.put_head.Statement.{statement}
+use Rattle.cutter.proofs.put_head.Tie as tie
+
+wide-requires : tie.Need-wide-requires
+wide-requires c κs = search needs
+
+put-requires : tie.Need-put-requires
+put-requires c κs = search needs
+
+put-requires-2 : tie.Need-put-requires-2
+put-requires-2 c κs = search needs
+
+put-requires-3 : tie.Need-put-requires-3
+put-requires-3 c κs = search needs
+
+put-requires-4 : tie.Need-put-requires-4
+put-requires-4 c κs = search needs
+
+put-requires-5 : tie.Need-put-requires-5
+put-requires-5 c κs = search needs
+
+put-requires-6 : tie.Need-put-requires-6
+put-requires-6 c κs = search needs
+
+same-length : tie.Need-same-length
+same-length c = search needs
+
+returns : tie.Need-returns
+unfolding headBytes
+returns c =
+    let d = c .before .before .before .before .before .before .before .before .before .before .before .before .before .before .before .before .before .before .before .before .before .before .before .before .before .before .args .out .now in
+    let w1 = rw (c .before .before .before .before .before .before .before .before .before .before .before .before .before .before .before .before .before .before .before .before .before .before .before .wide .ensures) at (c .before .before .before .before .before .before .before .before .before .before .before .before .before .before .before .before .before .before .before .before .before .before .put .ensures) in
+    let w2 = overlay-next d _ _ _ _ 4 w1 (simp length-bytes) (c .before .before .before .before .before .before .before .before .before .before .before .before .before .before .before .before .before .before .put2 .ensures) in
+    let w3 = overlay-next d _ _ _ _ 8 w2 (simp (length-append, length-bytes)) (c .before .before .before .before .before .before .before .before .before .before .before .before .before .before .put3 .ensures) in
+    let w4 = overlay-next d _ _ _ _ 12 w3 (simp (length-append, length-bytes)) (c .before .before .before .before .before .before .before .before .before .before .put4 .ensures) in
+    let w5 = overlay-next d _ _ _ _ 16 w4 (simp (length-append, length-bytes)) (c .before .before .before .before .before .before .put5 .ensures) in
+    overlay-next d _ _ _ _ 18 w5 (simp (length-append, length-bytes)) (c .before .before .put6 .ensures)
+
+pub put-head-spec : {M : Type 1} → statement M
+put-head-spec =
+    tie.close
+    (tie.spec
+    wide-requires
+    put-requires
+    put-requires-2
+    put-requires-3
+    put-requires-4
+    put-requires-5
+    put-requires-6
+    same-length
+    returns)

@@ -1,0 +1,61 @@
+-- `cutter::put_small` meets its contract. Assumes nothing.
+use native.Mathlib.Omega.{arith}
+use lib.ListN.{length-append}
+use Rattle.wire.proofs.Numbers.{length-bytes}
+use Rattle.wire.proofs.Overlays.{overlay-next}
+use Rattle.cutter.specs.Cut.{smallBytes}
+use borrow.Author.Needs.{needs}
+use Rattle.cutter.proofs.put_small.Statement.{statement}
+use Rattle.cutter.proofs.put_small.Tie as tie
+
+wide-requires : tie.Need-wide-requires
+wide-requires c κs = search needs
+
+put-requires : tie.Need-put-requires
+put-requires c κs = search needs
+
+put-requires-2 : tie.Need-put-requires-2
+put-requires-2 c κs = search needs
+
+put-bytes-requires : tie.Need-put-bytes-requires
+put-bytes-requires c κs = search needs
+
+add-put : tie.Need-add-put
+add-put c = search needs
+
+put-requires-3 : tie.Need-put-requires-3
+put-requires-3 c κs = search needs
+
+add-put-bytes : tie.Need-add-put-bytes
+add-put-bytes c = search needs
+
+put-bytes-requires-2 : tie.Need-put-bytes-requires-2
+put-bytes-requires-2 c κs = search needs
+
+same-length : tie.Need-same-length
+same-length c = search needs
+
+returns : tie.Need-returns
+unfolding smallBytes
+returns c =
+    let d = c .before .before .before .before .before .before .before .before .before .before .before .before .before .before .before .before .before .before .before .before .before .before .before .before .args .out .now in
+    let w1 = rw (c .before .before .before .before .before .before .before .before .before .before .before .before .before .before .before .before .before .before .before .wide .ensures) at (c .before .before .before .before .before .before .before .before .before .before .before .before .before .before .before .before .before .before .put .ensures) in
+    let w2 = overlay-next d _ _ _ _ 4 w1 (simp length-bytes) (c .before .before .before .before .before .before .before .before .before .before .before .before .before .before .put2 .ensures) in
+    let w3 = overlay-next d _ _ _ _ 8 w2 (simp (length-append, length-bytes)) (c .before .before .before .before .before .before .before .before .before .before .put-bytes .ensures) in
+    let w4 = overlay-next d _ _ _ _ _ w3 (simp (length-append, length-bytes) (omega arith)) (c .before .before .before .before .before .before .put3 .ensures) in
+    overlay-next d _ _ _ _ _ w4 (simp (length-append, length-bytes) (omega arith)) (c .before .before .put-bytes2 .ensures)
+
+pub put-small-spec : {M : Type 1} → statement M
+put-small-spec =
+    tie.close
+    (tie.spec
+    wide-requires
+    put-requires
+    put-requires-2
+    put-bytes-requires
+    add-put
+    put-requires-3
+    add-put-bytes
+    put-bytes-requires-2
+    same-length
+    returns)
