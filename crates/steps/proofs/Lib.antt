@@ -4,3 +4,4 @@ pub mod Memories
 pub mod Stores
 pub mod Seats
 pub mod Branches
+pub mod Reaches

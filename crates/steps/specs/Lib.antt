@@ -5,3 +5,4 @@ pub mod Memory
 pub mod Slots
 pub mod Receive
 pub mod Answers
+pub mod Reach
