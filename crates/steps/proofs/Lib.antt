@@ -5,3 +5,4 @@ pub mod Stores
 pub mod Seats
 pub mod Branches
 pub mod Reaches
+pub mod Marks

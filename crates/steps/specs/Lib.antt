@@ -6,3 +6,4 @@ pub mod Slots
 pub mod Receive
 pub mod Answers
 pub mod Reach
+pub mod Marked

@@ -1,0 +1,18 @@
+-- Cases m4 to m7, computed in one statement.
+use mathlib.Core.Path.{_≡_, refl}
+use mathlib.Core.List.{List, map}
+use Rattle.wire.specs.Bytes.{be}
+use Rattle.wire.specs.Overlay.{overlay}
+use Rattle.datagram.specs.Name.{goodName, untilZero, nameLength}
+use Rattle.datagram.specs.Read.{readSmall, goodForm, formed, readFragment, readDatagram}
+use Rattle.datagram.specs.Said.{said}
+use Rattle.steps.specs.Held.{noneHeld, isHeld, hold}
+use Rattle.steps.specs.Memory.{among, emptyMemory, isRemembered, remember, memoryOk}
+use Rattle.steps.specs.Slots.{oldest, openCount, lower, release, seat, opening, filled}
+use Rattle.steps.specs.Receive.{opened, stay, sameFragment, agrees, step3, decide, step5, act, receive, sound, step}
+use Rattle.steps.specs.Answers.{Reply}
+use Rattle.steps.specs.Marked.{Case, receiverCases, freshReplies, A, B, B₀, B₄}
+
+pub marked : map (λ (c : Case). freshReplies (c .come)) receiverCases ≡ map (λ (c : Case). c .answered) receiverCases
+unfolding freshReplies A B B₀ B₄ step sound receive decide act stay step3 step5 sameFragment agrees seat oldest release lower opening openCount filled opened emptyMemory isRemembered remember memoryOk among isHeld hold noneHeld said readDatagram readSmall readFragment formed goodForm nameLength goodName untilZero be overlay
+marked = refl
