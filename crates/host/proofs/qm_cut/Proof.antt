@@ -1,0 +1,58 @@
+-- `host::qm_cut` meets its contract. Assumes nothing.
+use mathlib.Core.Path.{sym, ap, _∙_}
+use native.Mathlib.Omega.{arith}
+use Rattle.cutter.proofs.Sizes.{made, made-short}
+use Rattle.host.specs.Code.{codeOf}
+use Rattle.host.proofs.Accept.{cut-told}
+use borrow.Author.Needs.{needs}
+use Rattle.host.proofs.qm_cut.Statement.{statement}
+use Rattle.host.proofs.qm_cut.Tie as tie
+
+cut-datagram-requires : tie.Need-cut-datagram-requires
+cut-datagram-requires c κs = search needs
+
+enum-known-count : tie.Need-enum-known-count
+enum-known-count c = search needs
+
+mul-result : tie.Need-mul-result
+mul-result c =
+    let d = made _ _ _ _ _ _ _ (sym (c .before .before .before .before .before .cut-datagram .ensures .answer) ∙ c .before .count .given .1) in
+    omega (arith, d .plan .few)
+
+add-result : tie.Need-add-result
+add-result c =
+    let d = made _ _ _ _ _ _ _ (sym (c .before .before .before .before .before .cut-datagram .ensures .answer) ∙ c .before .count .given .1) in
+    omega (arith, d .plan .few, made-short _ _ _ _ _ _ _ d)
+
+enum-known-n : tie.Need-enum-known-n
+enum-known-n c = search needs
+
+wide-requires : tie.Need-wide-requires
+wide-requires c κs = search needs
+
+same-length : tie.Need-same-length
+same-length c = search needs
+
+returns : tie.Need-returns
+returns c = cut-told _ _ _ _ _ _ _ _ _ (c .before .before .before .before .before .cut-datagram .ensures) (sym (ap codeOf (c .before .count .given .1)))
+
+same-length-2 : tie.Need-same-length-2
+same-length-2 c = search needs
+
+returns-2 : tie.Need-returns-2
+returns-2 c = cut-told _ _ _ _ _ _ _ _ _ (c .before .before .before .before .before .before .cut-datagram .ensures) (c .wide .ensures ∙ sym (ap codeOf (c .before .before .n .given .1)))
+
+pub qm-cut-spec : {M : Type 1} → statement M
+qm-cut-spec =
+    tie.close
+    (tie.spec
+    cut-datagram-requires
+    enum-known-count
+    mul-result
+    add-result
+    enum-known-n
+    wide-requires
+    same-length
+    returns
+    same-length-2
+    returns-2)

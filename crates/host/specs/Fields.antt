@@ -1,0 +1,52 @@
+-- What the C host is told of a datagram: a number, and ten numbers at the start of a lent list. Definitions only.
+use mathlib.Core.Path.{_≡_}
+use mathlib.Core.Bool.{Bool}
+use mathlib.Core.List.{List, [], _∷_}
+use Prim.Native.Nat.{ℕ, _^_, _<_}
+use lib.Dec.{ltb}
+use lib.ListN.{length}
+use Rattle.wire.specs.Choice.{pick}
+use Rattle.wire.specs.Overlay.{overlay}
+use Rattle.datagram.specs.declared.Header.{Header}
+use Rattle.datagram.specs.declared.Read.{Read}
+use Rattle.datagram.specs.declared.Read.the-variants.{Good, Refused}
+
+-- 1 small, 2 fragment
+abbrev pub kindOf : Bool → ℕ
+kindOf isSmall = pick isSmall 1 2
+
+-- kind, sequence, size, offset, number, count, name place and length, data place and length
+abbrev pub fieldsOf : Header → List ℕ
+fieldsOf h =
+    kindOf (h .small)
+    ∷ h .sequence
+    ∷ h .size
+    ∷ h .offset
+    ∷ h .number
+    ∷ h .count
+    ∷ h .name .at
+    ∷ h .name .len
+    ∷ h .payload .at
+    ∷ h .payload .len
+    ∷ []
+
+-- the reader's refusal; else 13 where fewer than ten numbers fit; else 0
+abbrev pub toldAnswer : Read → List ℕ → ℕ
+toldAnswer (Refused n) list = n
+toldAnswer (Good h) list = pick (ltb (length list) 10) 13 0
+
+-- a refusal leaves the list; else the ten numbers stand at its start, and the rest stays
+abbrev pub toldFields : Read → List ℕ → List ℕ
+toldFields (Refused n) list = list
+toldFields (Good h) list = pick (ltb (length list) 10) list (overlay list 0 (fieldsOf h))
+
+pub record Told (r : Read) (list : List ℕ) (answer : ℕ) (list′ : List ℕ) : Type 0 where
+  pub gave : answer ≡ toldAnswer r list
+  pub left : list′ ≡ toldFields r list
+
+-- places that fit a field of 32 bits
+pub record PlacesFit (h : Header) : Type 0 where
+  pub name-at : h .name .at < 2 ^ 32
+  pub name-len : h .name .len < 2 ^ 32
+  pub payload-at : h .payload .at < 2 ^ 32
+  pub payload-len : h .payload .len < 2 ^ 32
