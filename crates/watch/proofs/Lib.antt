@@ -1,0 +1,5 @@
+pub mod Places
+pub mod Tells
+pub mod Cases
+pub mod Unique
+pub mod Runs

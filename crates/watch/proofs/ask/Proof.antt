@@ -1,0 +1,65 @@
+-- What a sender's number says. Assumes nothing.
+use mathlib.Core.Path.{sym, ap, _∙_}
+use borrow.Author.Needs.{needs}
+use mir.Syntax.{w32}
+use mir.ValLaws.{toZ-ofZ}
+use Rattle.watch.specs.Difference.{told}
+use Rattle.watch.proofs.Cases.{asked-claims, asked-known, asked-new, asked-full}
+use Rattle.watch.proofs.ask.Statement.{statement}
+use Rattle.watch.proofs.ask.Tie as tie
+
+returns : tie.Need-returns
+returns c = let a = c .before .args in sym (asked-claims (a .t1) (a .sender) (a .number) (c .if1 .taken))
+
+find-requires : tie.Need-find-requires
+find-requires c κs = search needs
+
+mul-sequence-difference : tie.Need-mul-sequence-difference
+mul-sequence-difference c = search needs
+
+element-copy-out-sequence-difference : tie.Need-element-copy-out-sequence-difference
+element-copy-out-sequence-difference c = search needs
+
+sequence-difference-requires : tie.Need-sequence-difference-requires
+sequence-difference-requires c κs = search needs
+
+tell-requires : tie.Need-tell-requires
+tell-requires c κs = search needs
+
+returns-2 : tie.Need-returns-2
+returns-2 c =
+    let f = c .before .before .before .before in
+    let s = f .before .before .before .before in
+    let a = s .before .args in
+    let d = c .before .sequence-difference in
+    c .tell .ensures
+    ∙ ap told (toZ-ofZ w32 (d .result) (record { sfits = d .ok }) ∙ d .ensures)
+    ∙ sym (asked-known (a .t1) (a .sender) (a .number) (f .find .result) (s .if1 .left) (f .find .ensures) (c .before .before .before .if2 .taken))
+
+returns-3 : tie.Need-returns-3
+returns-3 c =
+    let f = c .before .before in
+    let s = f .before .before .before .before in
+    let a = s .before .args in
+    sym (asked-new (a .t1) (a .sender) (a .number) (f .find .result) (s .if1 .left) (f .find .ensures) (c .before .if2 .left) (c .if3 .taken))
+
+returns-4 : tie.Need-returns-4
+returns-4 c =
+    let f = c .before .before in
+    let s = f .before .before .before .before in
+    let a = s .before .args in
+    sym (asked-full (a .t1) (a .sender) (a .number) (f .find .result) (s .if1 .left) (f .find .ensures) (c .before .if2 .left) (c .if3 .left))
+
+pub ask-spec : {M : Type 1} → statement M
+ask-spec =
+    tie.close
+    (tie.spec
+    returns
+    find-requires
+    mul-sequence-difference
+    element-copy-out-sequence-difference
+    sequence-difference-requires
+    tell-requires
+    returns-2
+    returns-3
+    returns-4)

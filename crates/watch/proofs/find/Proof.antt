@@ -1,0 +1,52 @@
+-- Where a sender stands. The loop has passed i senders, none of them this one. Assumes nothing.
+use Prim.Native.Nat.{_-_}
+use mathlib.Core.Path.{_≡_, sym, _∙_}
+use native.Mathlib.Omega.{arith}
+use borrow.Author.Needs.{needs}
+use lib.ListN.{length, take}
+use lib.Seq.{getD-take, length-take-le}
+use Rattle.watch.proofs.Places.{Passed, passed-none, passed-here, passed-more, passed-all}
+use Rattle.watch.proofs.find.Statement.{statement}
+use Rattle.watch.proofs.find.Tie as tie
+
+abbrev Inv-loop : tie.InvT-loop
+Inv-loop senders count sender i₀ i = (length (take count senders) ≡ count) × Passed sender (take count senders) i
+
+abbrev μ-loop : tie.MeasureT-loop
+μ-loop senders count sender i₀ i = count - i
+
+loop-holds : tie.Need-loop-holds Inv-loop μ-loop
+loop-holds c = (length-take-le (c .args .count) (c .args .senders .now) (c .pre), passed-none (c .args .sender) _)
+
+mul-if1 : tie.Need-mul-if1 Inv-loop μ-loop
+mul-if1 c = search needs
+
+shared-slice-read-if1 : tie.Need-shared-slice-read-if1 Inv-loop μ-loop
+shared-slice-read-if1 c = omega arith
+
+returns : tie.Need-returns Inv-loop μ-loop
+returns c =
+    let a = c .before .before .before .before .args in
+    let l = c .before .before .before .loop in
+    passed-here (l .inv .1) (omega arith) (getD-take (a .count) (a .senders .now) (l .i) 0 (c .before .before .loop-test .taken) ∙ c .if1 .taken)
+
+add-i : tie.Need-add-i Inv-loop μ-loop
+add-i c = omega arith
+
+loop-less : tie.Need-loop-less Inv-loop μ-loop
+loop-less c = omega arith
+
+loop-again : tie.Need-loop-again Inv-loop μ-loop
+loop-again c =
+    let a = c .before .before .before .before .args in
+    let l = c .before .before .before .loop in (
+      l .inv .0,
+      passed-more (l .inv .1) (omega arith) (λ e. c .if1 .left (sym (getD-take (a .count) (a .senders .now) (l .i) 0 (c .before .before .loop-test .taken)) ∙ e)),
+    )
+
+returns-2 : tie.Need-returns-2 Inv-loop μ-loop
+returns-2 c = passed-all (c .before .loop .inv .1) (omega arith)
+
+pub find-spec : {M : Type 1} → statement M
+find-spec =
+    tie.close (tie.spec Inv-loop μ-loop loop-holds mul-if1 shared-slice-read-if1 returns add-i loop-less loop-again returns-2)

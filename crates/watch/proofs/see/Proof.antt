@@ -1,0 +1,39 @@
+-- The answer and the watch afterwards. Assumes nothing.
+use mathlib.Core.Path.{sym, _∙_}
+use borrow.Author.Needs.{needs}
+use Rattle.watch.specs.Said.{says}
+use Rattle.watch.proofs.Cases.{after-moves, after-stays}
+use Rattle.watch.proofs.see.Statement.{statement}
+use Rattle.watch.proofs.see.Tie as tie
+
+ask-requires : tie.Need-ask-requires
+ask-requires c κs = search needs
+
+does-move-requires : tie.Need-does-move-requires
+does-move-requires c κs = search needs
+
+move-to-requires : tie.Need-move-to-requires
+move-to-requires c κs = search needs
+
+returns : tie.Need-returns
+returns c =
+    let k = c .before .before .before in
+    let a = k .before .args in
+    record {
+      answer = k .ask .ensures;
+      watch =
+          c .move-to .ensures
+          ∙ after-moves (a .w) (a .sender) (a .number) (says (k .ask .result)) (k .ask .ensures) (sym (c .before .before .does-move .ensures) ∙ c .before .if1 .taken);
+    }
+
+returns-2 : tie.Need-returns-2
+returns-2 c =
+    let k = c .before .before in
+    let a = k .before .args in
+    record {
+      answer = k .ask .ensures;
+      watch = after-stays (a .w) (a .sender) (a .number) (says (k .ask .result)) (k .ask .ensures) (sym (c .before .does-move .ensures) ∙ c .if1 .left);
+    }
+
+pub see-spec : {M : Type 1} → statement M
+see-spec = tie.close (tie.spec ask-requires does-move-requires move-to-requires returns returns-2)

@@ -1,0 +1,53 @@
+-- The difference of two sequence numbers, read as a signed number. Assumes nothing.
+use mathlib.Core.Path.{_≡_, _∙_}
+use Prim.Native.Nat.{_-_, _<_, _^_}
+use native.Mathlib.Omega.{arith}
+use borrow.Author.Needs.{needs}
+use mir.Syntax.{w32}
+use mir.Val.{toZ}
+use mir.ValLaws.{toZ-ofZ}
+use Rattle.wire.proofs.Signs.{toZ-signed, from-end, from-end-fits}
+use Rattle.watch.specs.Difference.{difference}
+use Rattle.watch.proofs.Tells.{wraps-back}
+use Rattle.watch.proofs.sequence_difference.Statement.{statement}
+use Rattle.watch.proofs.sequence_difference.Tie as tie
+
+bits : (c : tie.After-wrapping-sub-u32) → c .wrapping-sub-u32 .result < 2 ^ 32
+bits c = omega arith
+
+-- the bits that the subtraction gave, read as a signed number
+read : (c : tie.After-wrapping-sub-u32) → toZ w32 (c .wrapping-sub-u32 .result) ≡ difference (c .before .args .new) (c .before .args .last)
+read c =
+    let u = c .wrapping-sub-u32 in
+    toZ-signed w32 (u .result)
+    ∙ wraps-back (c .before .args .new) (c .before .args .last) (u .result) (c .before .fits .new .fits) (c .before .fits .last .fits) (bits c) (u .ensures)
+
+wrapping-sub-u32-requires : tie.Need-wrapping-sub-u32-requires
+wrapping-sub-u32-requires c κs = search needs
+
+cast-result : tie.Need-cast-result
+cast-result c = search needs
+
+returns : tie.Need-returns
+returns c = read (c .before)
+
+sub-k : tie.Need-sub-k
+sub-k c = search needs
+
+cast-m : tie.Need-cast-m
+cast-m c = search needs
+
+sub-result : tie.Need-sub-result
+sub-result c = let u = c .before .wrapping-sub-u32 in from-end-fits w32 (u .result) (bits (c .before)) (c .if1 .left)
+
+returns-2 : tie.Need-returns-2
+returns-2 c =
+    let u = c .before .wrapping-sub-u32 in
+    toZ-ofZ w32 _ (from-end-fits w32 (u .result) (bits (c .before)) (c .if1 .left))
+    ∙ from-end w32 (u .result) (bits (c .before)) (c .if1 .left)
+    ∙ read (c .before)
+
+pub sequence-difference-spec : {M : Type 1} → statement M
+sequence-difference-spec =
+    tie.close
+    (tie.spec wrapping-sub-u32-requires cast-result returns sub-k cast-m sub-result returns-2)
