@@ -1,0 +1,61 @@
+-- `slots::all_sound` meets its contract. The loop's invariant: the i slots passed are sound. Assumes nothing.
+use mathlib.Core.Path.{_≡_, refl, sym, _∙_}
+use mathlib.Core.Bool.{true}
+use Prim.Native.Nat.{_-_, _≤_}
+use native.Mathlib.Omega.{arith}
+use borrow.Author.Tests.{not-true, not-false}
+use borrow.Author.Needs.{needs}
+use Rattle.steps.specs.Search.{allBelow}
+use Rattle.steps.proofs.Tables.{all-not}
+use Rattle.steps.specs.Limits.{slotCount}
+use Rattle.slots.specs.Words.{soundIn}
+use Rattle.slots.proofs.Loops.{all-more}
+use Rattle.slots.proofs.all_sound.Statement.{statement}
+use Rattle.slots.proofs.all_sound.Tie as tie
+
+abbrev Inv-loop : tie.InvT-loop
+Inv-loop state room i₀ i = (i ≤ slotCount) × (allBelow i (soundIn state room) ≡ true)
+
+abbrev μ-loop : tie.MeasureT-loop
+μ-loop state room i₀ i = slotCount - i
+
+loop-holds : tie.Need-loop-holds Inv-loop μ-loop
+loop-holds c = (omega arith, refl)
+
+is-sound-requires : tie.Need-is-sound-requires Inv-loop μ-loop
+is-sound-requires c κs = search needs
+
+returns : tie.Need-returns Inv-loop μ-loop
+returns c =
+    let a = c .before .before .before .before .before .args in
+    sym (all-not slotCount (soundIn (a .state .now) (a .room)) (c .before .before .before .loop .i) (omega arith) (sym (c .before .is-sound .ensures) ∙ not-true _ (c .if1 .taken)))
+
+add-i : tie.Need-add-i Inv-loop μ-loop
+add-i c = search needs
+
+loop-less : tie.Need-loop-less Inv-loop μ-loop
+loop-less c = search needs
+
+loop-again : tie.Need-loop-again Inv-loop μ-loop
+loop-again c =
+    let a = c .before .before .before .before .before .args in
+    (omega arith, all-more (soundIn (a .state .now) (a .room)) (c .before .before .before .loop .i) (c .before .before .before .loop .inv .1) (sym (c .before .is-sound .ensures) ∙ not-false _ (c .if1 .left)))
+
+returns-2 : tie.Need-returns-2 Inv-loop μ-loop
+returns-2 c =
+    let e : c .before .loop .i ≡ slotCount = omega arith in
+    sym (rw e at (c .before .loop .inv .1))
+
+pub all-sound-spec : {M : Type 1} → statement M
+all-sound-spec =
+    tie.close
+    (tie.spec
+    Inv-loop
+    μ-loop
+    loop-holds
+    is-sound-requires
+    returns
+    add-i
+    loop-less
+    loop-again
+    returns-2)

@@ -1,0 +1,58 @@
+-- `slots::find_open` meets its contract. The loop's invariant: the key is open in none of the i slots passed. Assumes nothing.
+use mathlib.Core.Path.{_≡_, refl, sym, _∙_}
+use Prim.Native.Nat.{_-_, _≤_}
+use native.Mathlib.Omega.{arith}
+use borrow.Author.Needs.{needs}
+use Rattle.steps.specs.Limits.{slotCount}
+use Rattle.slots.specs.declared.Found.the-variants.{Nothing}
+use Rattle.slots.specs.Words.{keyIn, firstBelow}
+use Rattle.slots.proofs.Loops.{first-none, first-here}
+use Rattle.slots.proofs.find_open.Statement.{statement}
+use Rattle.slots.proofs.find_open.Tie as tie
+
+abbrev Inv-loop : tie.InvT-loop
+Inv-loop state sender sequence i₀ i = (i ≤ slotCount) × (firstBelow (keyIn state sender sequence) i ≡ Nothing)
+
+abbrev μ-loop : tie.MeasureT-loop
+μ-loop state sender sequence i₀ i = slotCount - i
+
+loop-holds : tie.Need-loop-holds Inv-loop μ-loop
+loop-holds c = (omega arith, refl)
+
+is-key-requires : tie.Need-is-key-requires Inv-loop μ-loop
+is-key-requires c κs = search needs
+
+returns : tie.Need-returns Inv-loop μ-loop
+returns c =
+    let a = c .before .before .before .before .before .args in
+    sym (first-here (keyIn (a .state .now) (a .sender) (a .sequence)) (c .before .before .before .loop .i) slotCount (omega arith) (c .before .before .before .loop .inv .1) (sym (c .before .is-key .ensures) ∙ c .if1 .taken))
+
+add-i : tie.Need-add-i Inv-loop μ-loop
+add-i c = search needs
+
+loop-less : tie.Need-loop-less Inv-loop μ-loop
+loop-less c = search needs
+
+loop-again : tie.Need-loop-again Inv-loop μ-loop
+loop-again c =
+    let a = c .before .before .before .before .before .args in
+    (omega arith, first-none (keyIn (a .state .now) (a .sender) (a .sequence)) (c .before .before .before .loop .i) (c .before .before .before .loop .inv .1) (sym (c .before .is-key .ensures) ∙ c .if1 .left))
+
+returns-2 : tie.Need-returns-2 Inv-loop μ-loop
+returns-2 c =
+    let e : c .before .loop .i ≡ slotCount = omega arith in
+    sym (rw e at (c .before .loop .inv .1))
+
+pub find-open-spec : {M : Type 1} → statement M
+find-open-spec =
+    tie.close
+    (tie.spec
+    Inv-loop
+    μ-loop
+    loop-holds
+    is-key-requires
+    returns
+    add-i
+    loop-less
+    loop-again
+    returns-2)

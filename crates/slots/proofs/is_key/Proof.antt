@@ -1,0 +1,27 @@
+-- `slots::is_key` meets its contract. Assumes nothing.
+use borrow.Author.Tests.{eq-eqb, ne-eqb}
+use borrow.Author.Needs.{needs}
+use Rattle.slots.proofs.is_key.Statement.{statement}
+use Rattle.slots.proofs.is_key.Tie as tie
+
+at-requires : tie.Need-at-requires
+at-requires c κs = search needs
+
+returns : tie.Need-returns
+returns c = simp (← c .before .at .ensures, eq-eqb _ _ (c .if1 .taken))
+
+at-requires-2 : tie.Need-at-requires-2
+at-requires-2 c κs = search needs
+
+returns-2 : tie.Need-returns-2
+returns-2 c = simp (← c .before .before .before .at .ensures, ← c .before .at2 .ensures, ne-eqb _ _ (c .before .before .if1 .left), ne-eqb _ _ (c .if2 .taken))
+
+at-requires-3 : tie.Need-at-requires-3
+at-requires-3 c κs = search needs
+
+returns-3 : tie.Need-returns-3
+returns-3 c = simp (← c .before .before .before .before .at .ensures, ← c .before .before .at2 .ensures, ← c .at3 .ensures, ne-eqb _ _ (c .before .before .before .if1 .left), eq-eqb _ _ (c .before .if2 .left))
+
+pub is-key-spec : {M : Type 1} → statement M
+is-key-spec =
+    tie.close (tie.spec at-requires returns at-requires-2 returns-2 at-requires-3 returns-3)

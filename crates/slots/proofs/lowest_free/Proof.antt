@@ -1,0 +1,46 @@
+-- `slots::lowest_free` meets its contract. The loop's invariant: none of the i slots passed is free. Assumes nothing.
+use mathlib.Core.Path.{_≡_, refl, sym, _∙_}
+use Prim.Native.Nat.{_-_, _≤_}
+use native.Mathlib.Omega.{arith}
+use borrow.Author.Tests.{eq-eqb, ne-eqb}
+use borrow.Author.Needs.{needs}
+use Rattle.steps.specs.Limits.{slotCount}
+use Rattle.slots.specs.declared.Found.the-variants.{Nothing}
+use Rattle.slots.specs.Words.{freeIn, firstBelow}
+use Rattle.slots.proofs.Loops.{first-none, first-here}
+use Rattle.slots.proofs.lowest_free.Statement.{statement}
+use Rattle.slots.proofs.lowest_free.Tie as tie
+
+abbrev Inv-loop : tie.InvT-loop
+Inv-loop state i₀ i = (i ≤ slotCount) × (firstBelow (freeIn state) i ≡ Nothing)
+
+abbrev μ-loop : tie.MeasureT-loop
+μ-loop state i₀ i = slotCount - i
+
+loop-holds : tie.Need-loop-holds Inv-loop μ-loop
+loop-holds c = (omega arith, refl)
+
+at-requires : tie.Need-at-requires Inv-loop μ-loop
+at-requires c κs = search needs
+
+returns : tie.Need-returns Inv-loop μ-loop
+returns c = sym (first-here (freeIn (c .before .before .before .before .before .args .state .now)) (c .before .before .before .loop .i) slotCount (omega arith) (c .before .before .before .loop .inv .1) (eq-eqb _ _ (sym (c .before .at .ensures) ∙ c .if1 .taken)))
+
+add-i : tie.Need-add-i Inv-loop μ-loop
+add-i c = search needs
+
+loop-less : tie.Need-loop-less Inv-loop μ-loop
+loop-less c = search needs
+
+loop-again : tie.Need-loop-again Inv-loop μ-loop
+loop-again c = (omega arith, first-none (freeIn (c .before .before .before .before .before .args .state .now)) (c .before .before .before .loop .i) (c .before .before .before .loop .inv .1) (ne-eqb _ _ (λ q. c .if1 .left (c .before .at .ensures ∙ q))))
+
+returns-2 : tie.Need-returns-2 Inv-loop μ-loop
+returns-2 c =
+    let e : c .before .loop .i ≡ slotCount = omega arith in
+    sym (rw e at (c .before .loop .inv .1))
+
+pub lowest-free-spec : {M : Type 1} → statement M
+lowest-free-spec =
+    tie.close
+    (tie.spec Inv-loop μ-loop loop-holds at-requires returns add-i loop-less loop-again returns-2)

@@ -1,0 +1,56 @@
+-- `slots::open_count` meets its contract. The loop's invariant: n of the i slots passed are open. Assumes nothing.
+use mathlib.Core.Path.{_≡_, refl, sym, _∙_, ap}
+use mathlib.Core.Bool.{not}
+use mathlib.Core.Logic.{⊎-elim}
+use Prim.Native.Nat.{_+_, _-_, _≤_}
+use native.Mathlib.Omega.{arith}
+use borrow.Author.Tests.{eq-eqb, ne-eqb}
+use borrow.Author.Needs.{needs}
+use Rattle.steps.specs.Search.{count}
+use Rattle.steps.specs.Limits.{slotCount}
+use Rattle.slots.specs.Words.{busyIn}
+use Rattle.slots.proofs.Loops.{count-yes, count-no}
+use Rattle.slots.proofs.open_count.Statement.{statement}
+use Rattle.slots.proofs.open_count.Tie as tie
+
+abbrev Inv-loop : tie.InvT-loop
+Inv-loop state n₀ i₀ n i = (i ≤ slotCount) × (n ≤ i) × (n ≡ count (busyIn state) i)
+
+abbrev μ-loop : tie.MeasureT-loop
+μ-loop state n₀ i₀ n i = slotCount - i
+
+loop-holds : tie.Need-loop-holds Inv-loop μ-loop
+loop-holds c = (omega arith, omega arith, refl)
+
+at-requires : tie.Need-at-requires Inv-loop μ-loop
+at-requires c κs = search needs
+
+add-n : tie.Need-add-n Inv-loop μ-loop
+add-n c = search needs
+
+add-i : tie.Need-add-i Inv-loop μ-loop
+add-i c = search needs
+
+loop-less : tie.Need-loop-less Inv-loop μ-loop
+loop-less c = search needs
+
+loop-again : tie.Need-loop-again Inv-loop μ-loop
+loop-again c =
+    let p = busyIn (c .before .before .before .before .before .args .state .now) in (
+      omega arith,
+      ⊎-elim (λ w. omega arith) (λ w. omega arith) (c .if1 .came),
+      ⊎-elim
+          (λ w. w .1 ∙ ap (λ k. k + 1) (c .before .before .before .loop .inv .2) ∙ sym (count-yes p (c .before .before .before .loop .i) (ap not (ne-eqb _ _ (λ q. w .0 .taken (c .before .at .ensures ∙ q))))))
+          (λ w. w .1 ∙ c .before .before .before .loop .inv .2 ∙ sym (count-no p (c .before .before .before .loop .i) (ap not (eq-eqb _ _ (sym (c .before .at .ensures) ∙ w .0 .left)))))
+          (c .if1 .came),
+    )
+
+returns : tie.Need-returns Inv-loop μ-loop
+returns c =
+    let e : c .before .loop .i ≡ slotCount = omega arith in
+    rw e at (c .before .loop .inv .2)
+
+pub open-count-spec : {M : Type 1} → statement M
+open-count-spec =
+    tie.close
+    (tie.spec Inv-loop μ-loop loop-holds at-requires add-n add-i loop-less loop-again returns)
