@@ -1,0 +1,9 @@
+pub mod Heads
+pub mod Makes
+pub mod Never
+pub mod Once
+pub mod Pitsurv
+pub mod Tables
+pub mod Trips
+pub mod Undo
+pub mod Values

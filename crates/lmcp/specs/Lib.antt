@@ -1,0 +1,9 @@
+pub mod Limits
+pub mod Run
+pub mod Table
+pub mod Walk
+pub mod Value
+pub mod Read
+pub mod Write
+pub mod Message
+pub mod Ends

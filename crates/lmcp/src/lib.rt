@@ -1,0 +1,213 @@
+// Survey messages: the message table of series PITSURV, and what the reader and the writer answer.
+ghost use mathlib.Core.Path.{_≡_};
+ghost use lib.ListN.{length, getD};
+ghost use Rattle.lmcp.specs.Table.{pitsurv, rowsOf, startsOf, nothing};
+
+// One field of a type: the bytes of its count (0: it has none, but `fixed` elements), the kind of its elements, and their bytes
+// or, of objects, the declared type (0: any).
+pub struct Row {
+    pub count: usize,
+    pub fixed: usize,
+    pub kind: u8,
+    pub arg: usize,
+}
+
+pub const UNSIGNED_KIND: u8 = 0;
+
+pub const SIGNED_KIND: u8 = 1;
+
+pub const BOOL_KIND: u8 = 2;
+
+pub const CHAR_KIND: u8 = 3;
+
+pub const OBJECT_KIND: u8 = 4;
+
+// Where a walk stands: its place in what it reads and in what it writes; or the number of the refusal.
+pub enum Went {
+    To(usize, usize),
+    Stopped(u8),
+}
+
+// A count or a type on the way, and the two places after it; or the number of the refusal.
+pub enum Mark {
+    Of(usize, usize, usize),
+    Bad(u8),
+}
+
+// What the reader answers: how many numbers the list now begins with, or the number of the refusal.
+pub enum Found {
+    Numbers(usize),
+    Unread(u8),
+}
+
+// What the writer answers: how many bytes the output now begins with, or the number of the refusal.
+pub enum Made {
+    Bytes(usize),
+    Unwritten(u8),
+}
+
+const INT16: Row = Row {
+    count: 0,
+    fixed: 1,
+    kind: SIGNED_KIND,
+    arg: 2,
+};
+
+const INT32: Row = Row {
+    count: 0,
+    fixed: 1,
+    kind: SIGNED_KIND,
+    arg: 4,
+};
+
+const INT64: Row = Row {
+    count: 0,
+    fixed: 1,
+    kind: SIGNED_KIND,
+    arg: 8,
+};
+
+const UINT16: Row = Row {
+    count: 0,
+    fixed: 1,
+    kind: UNSIGNED_KIND,
+    arg: 2,
+};
+
+const UINT32: Row = Row {
+    count: 0,
+    fixed: 1,
+    kind: UNSIGNED_KIND,
+    arg: 4,
+};
+
+const BOOL: Row = Row {
+    count: 0,
+    fixed: 1,
+    kind: BOOL_KIND,
+    arg: 1,
+};
+
+// Its bits, not negative.
+const REAL32: Row = Row {
+    count: 0,
+    fixed: 1,
+    kind: UNSIGNED_KIND,
+    arg: 4,
+};
+
+// The signed number with the same bits.
+const REAL64: Row = Row {
+    count: 0,
+    fixed: 1,
+    kind: SIGNED_KIND,
+    arg: 8,
+};
+
+const BYTES4: Row = Row {
+    count: 0,
+    fixed: 4,
+    kind: UNSIGNED_KIND,
+    arg: 1,
+};
+
+const STRING: Row = Row {
+    count: 2,
+    fixed: 0,
+    kind: CHAR_KIND,
+    arg: 1,
+};
+
+const PLACE: Row = Row {
+    count: 0,
+    fixed: 1,
+    kind: OBJECT_KIND,
+    arg: 2,
+};
+
+const TILE_HEAD: Row = Row {
+    count: 0,
+    fixed: 1,
+    kind: OBJECT_KIND,
+    arg: 3,
+};
+
+const PIT_MARKS: Row = Row {
+    count: 2,
+    fixed: 0,
+    kind: OBJECT_KIND,
+    arg: 4,
+};
+
+const LMCP_OBJECT: Row = Row {
+    count: 0,
+    fixed: 1,
+    kind: OBJECT_KIND,
+    arg: 0,
+};
+
+// Series PITSURV, version 1: the fields of one type after the other.
+const ROWS: [Row; 19] = [
+    // 2 Place: lat, lon, height
+    INT32,
+    INT32,
+    INT16,
+    // 3 TileHead: tile, column, row, corner
+    UINT32,
+    UINT16,
+    UINT16,
+    PLACE,
+    // 4 PitMark: pit, sure, at
+    UINT32,
+    BOOL,
+    PLACE,
+    // 5 PitList: tile, pits
+    UINT32,
+    PIT_MARKS,
+    // 6 Note: text, about
+    STRING,
+    LMCP_OBJECT,
+    // 7 Frame: camera, stamp, tilt, tick, head
+    BYTES4,
+    REAL64,
+    REAL32,
+    INT64,
+    TILE_HEAD,
+];
+
+// Where the rows of each type begin, null and Ping first, and at last where they all end.
+const STARTS: [usize; 9] = [0, 0, 0, 3, 7, 10, 12, 14, 19];
+
+const TYPES: usize = 8;
+
+// Row i of the table of a version.
+pub fn row_at(version: u64, i: usize) -> Row
+    ensures { λ r. ⌜ r ≡ getD (rowsOf (pitsurv version)) i nothing ⌝ }
+{
+    if i < 19 {
+        return ROWS[i];
+    }
+    Row {
+        count: 0,
+        fixed: 0,
+        kind: UNSIGNED_KIND,
+        arg: 0,
+    }
+}
+
+// Where the rows of type t begin; one past the last type, where they all end.
+pub fn start_of(version: u64, t: usize) -> usize
+    ensures { λ r. ⌜ r ≡ getD (startsOf (pitsurv version)) t 0 ⌝ }
+{
+    if t < 9 {
+        return STARTS[t];
+    }
+    0
+}
+
+// How many types there are, null among them.
+pub fn types_of(version: u64) -> usize
+    ensures { λ r. ⌜ r ≡ length ((pitsurv version) .types) ⌝ }
+{
+    TYPES
+}
