@@ -1,0 +1,85 @@
+/* Quartzmitten for a C host: the checksum, the datagram reader and the cutter.
+
+   Link the archive libhost.a, which the toolchain's `rt staticlib host` writes (x86-64 Linux). No other header is needed.
+
+   What holds for all three:
+   - They end for any bytes and any lengths, keep no state, ask the system for nothing, and may be called from any thread.
+   - They read and write only the bytes lent in the call. A refusal writes nothing.
+   - Lent memory is a pointer and how many elements stand there. The pointer is never null, also where the length is 0, and
+     a list of 32-bit numbers is aligned to 4 bytes. What is written to must not overlap what is read.
+   - All numbers in datagrams are big-endian; the numbers here are the host's own. */
+
+#ifndef QUARTZMITTEN_H
+#define QUARTZMITTEN_H
+
+#ifdef __cplusplus
+extern "C" {
+#endif
+
+typedef unsigned char qm_byte;
+typedef unsigned int qm_u32;
+typedef unsigned long long qm_u64;
+typedef unsigned long long qm_size; /* a length, a place or a number of elements: 64 bits, unsigned */
+
+/* The refusals that these functions give. */
+#define QM_TOO_FEW_BYTES 1      /* fewer than 8 bytes, or fragment magic and fewer than 20 */
+#define QM_OTHER_MAGIC 2        /* neither 4c433032 nor 4c433033 */
+#define QM_DATAGRAM_TOO_LONG 3  /* a datagram over 65,535 bytes */
+#define QM_NAME 4               /* name empty, over 63 bytes or without its zero byte, or a byte outside 32 to 126 */
+#define QM_FRAGMENT_NUMBER 5    /* count 0 or over 256, or a number not below the count */
+#define QM_PAYLOAD_TOO_LONG 6   /* payload size over 262,144 */
+#define QM_FORM 7               /* the form of a fragment broken */
+#define QM_DATAGRAM_SIZE 10     /* datagram size outside 96 to 65,507 */
+#define QM_TOO_MANY_FRAGMENTS 11 /* more than 256 fragments */
+#define QM_NO_SUCH_DATAGRAM 12  /* the datagram asked for is not below the number of datagrams */
+#define QM_TOO_SHORT 13         /* output or list too short */
+
+/* The sum of all `length` bytes modulo 2^32. Of no bytes it is 0. Nothing is written. */
+qm_u32 qm_checksum(const qm_byte *bytes, qm_size length);
+
+/* The places of the ten numbers that qm_read_datagram writes. */
+enum {
+    QM_KIND,          /* 1 a small message, 2 a fragment */
+    QM_SEQUENCE,      /* the sequence number */
+    QM_SIZE,          /* the payload size P of the whole message; of a small message its data length */
+    QM_OFFSET,        /* where the data begins in the payload; of a small message 0 */
+    QM_NUMBER,        /* the fragment's number k, from 0; of a small message 0 */
+    QM_COUNT,         /* the number n of fragments; of a small message 1 */
+    QM_NAME_PLACE,    /* where the name begins in the datagram: 8 in a small message, 20 in a fragment */
+    QM_NAME_LENGTH,   /* 1 to 63; 0 in a fragment with a number above 0, which has no name */
+    QM_DATA_PLACE,    /* where the data begins in the datagram */
+    QM_DATA_LENGTH,   /* how many bytes of data it carries */
+    QM_FIELDS         /* ten */
+};
+
+/* Reads one datagram of `length` bytes.
+
+   Answers 0 for a datagram of good form and writes the ten numbers above to the start of `fields`; whatever stands in
+   `fields` after them stays. Otherwise answers the first refusal that fits, in the order 3, 1, 2, 5, 6, 4, 7, and then 13
+   where `fields` has room for fewer than ten numbers; then nothing is written.
+
+   Good form of a fragment with d bytes of data: fragment 0 has offset 0; one with a number above 0 has d at least 1; offset
+   + d is at most the payload size, and equal to it in the last fragment. The sum is not taken modulo anything. */
+qm_u32 qm_read_datagram(const qm_byte *datagram, qm_size length, qm_u32 *fields, qm_size fields_length);
+
+/* Cuts the message of `name` and `payload` into datagrams of at most `size` bytes and writes the one with the number `index`
+   (from 0) to the start of `out`; the rest of `out` stays.
+
+   Answers (number of datagrams) * 2^32 + (length of the datagram written). The number of datagrams is the same for each
+   index. Where 9 + name_length + payload_length is at most `size` it is one small datagram; else fragment 0 carries size -
+   21 - name_length bytes of the payload, each later one size - 20, and the last the rest.
+
+   Otherwise answers a refusal, which is below 2^32 as no other answer is: the first that fits in the order 10, 4, 6, 11, 12,
+   13; then nothing is written. `name` has no zero byte at its end. */
+qm_u64 qm_cut(const qm_byte *name, qm_size name_length, const qm_byte *payload, qm_size payload_length, qm_u32 sequence,
+              qm_size size, qm_size index, qm_byte *out, qm_size out_length);
+
+/* The two halves of what qm_cut answers. */
+#define QM_CUT_COUNT(answer) ((qm_u32) ((answer) >> 32))
+#define QM_CUT_LENGTH(answer) ((qm_u32) (answer))
+
+#ifdef __cplusplus
+}
+#endif
+
+#endif
