@@ -1,0 +1,68 @@
+-- DEMAND 3, proved.
+use mathlib.Core.Path.{_≡_, refl, sym, ap, _∙_}
+use mathlib.Core.Logic.{_⊎_, inl, inr}
+use mathlib.Core.Bool.{Bool, true, false}
+use mathlib.Core.Option.{Option, none, some, Option·map}
+use mathlib.Core.List.{List, [], _∷_, map}
+use Prim.Native.Nat.{ℕ, _<_}
+use Rattle.wire.proofs.Choices.{never, either}
+use Rattle.steps.specs.Search.{one}
+use Rattle.steps.specs.Memory.{rememberAll}
+use Rattle.steps.specs.Slots.{busy, slotAt}
+use Rattle.steps.proofs.Tables.{all-of}
+use Rattle.arrival.specs.Demand.{Scene, Feed, start, _▹_, Event, parts, size, message, Supposed, got, done, completes, completed, keysOf, call, after, delivery, Delivery, own, deliveries, push, inOrderOfCompletion, AtCompletion, NoneEmptied, Promised, Demand3}
+use Rattle.arrival.proofs.Track.{Lawful, Fair, fair-of, done-once, ended-dead}
+use Rattle.arrival.proofs.Order.{Inv, Fine, arrival-fine, invariant}
+use Rattle.arrival.proofs.Whole.{Tidy, whole-tidy, completed-apart}
+
+module _ (σ : Scene) (law : Lawful σ) where
+  fine : (f : Feed) → Fair σ f → (e : Event) → Fair σ (f ▹ e) → Fine σ f e (call σ (after σ f) e)
+  fine f fair e g = arrival-fine σ law f fair (after σ f) (invariant σ law f fair) e (g .1)
+
+  pub at-completion : (f : Feed) → Fair σ f → AtCompletion σ f
+  unfolding delivery
+  at-completion start fair = tt
+  at-completion (f ▹ e) fair = (at-completion f (fair .0), fine f (fair .0) e fair .hands)
+
+  pub none-emptied : (f : Feed) → Fair σ f → NoneEmptied σ f
+  none-emptied start fair = tt
+  none-emptied (f ▹ e) fair = (none-emptied f (fair .0), fine f (fair .0) e fair .spared)
+
+  push-map : (o : Option ℕ) (l : List ℕ) → push (Option·map (own σ) o) (map (own σ) l) ≡ map (own σ) (push o l)
+  push-map none l = refl
+  push-map (some a) l = refl
+
+  -- what is delivered are the completed messages' own, in order of completion
+  pub delivered-own : (f : Feed) → Fair σ f → deliveries σ f ≡ map (own σ) (completed σ f)
+  unfolding deliveries completed delivery
+  delivered-own start fair = refl
+  delivered-own (f ▹ e) fair =
+      ap (λ (o : Option Delivery). push o (deliveries σ f)) (fine f (fair .0) e fair .hands)
+      ∙ ap (λ (x : List Delivery). push (Option·map (own σ) (completes σ f e)) x) (delivered-own f (fair .0))
+      ∙ push-map (completes σ f e) (completed σ f)
+
+  promised : (f : Feed) → Fair σ f → ((i : ℕ) → i < size σ → done σ f i ≡ true) → Promised σ f
+  promised f fair full =
+      let v : Inv σ f (after σ f) = invariant σ law f fair in
+      let t : Tidy σ (inOrderOfCompletion σ f) (completed σ f) = whole-tidy σ law (completed σ f) (completed-apart σ law f fair) in
+      let u : Inv σ (inOrderOfCompletion σ f) (after σ (inOrderOfCompletion σ f)) = invariant σ law (inOrderOfCompletion σ f) (t .fair) in
+      record {
+        at-completion = at-completion f fair;
+        once = λ i b. done-once σ law f fair i b ∙ ap one (full i b);
+        same-deliveries = delivered-own f fair ∙ sym (delivered-own (inOrderOfCompletion σ f) (t .fair) ∙ ap (map (own σ)) (t .list));
+        same-memory = v .memory ∙ sym (u .memory ∙ ap (λ (l : List ℕ). rememberAll (keysOf σ l)) (t .list));
+        none-emptied = none-emptied f fair;
+        none-open = λ s b. elim (either (busy (slotAt (after σ f .machine .slots) s))) [
+          | inl e ↦
+              let o = v .slots .owner s b e in
+              never (o .alive) (ended-dead σ f (o .i) (full (o .i) (o .known)))
+          | inr e ↦ e
+        ];
+      }
+
+pub demand3 : Demand3
+unfolding done
+demand3 σ f s =
+    promised σ (record { distinct = s .distinct; sent = s .sent; ledger-fits = s .ledger-fits }) f
+    (fair-of σ f (s .mixture) (s .never-over-eight) (s .never-too-late))
+    (λ i b. all-of (parts (message σ i)) (got f i) (λ k c. s .each-comes i k b c))

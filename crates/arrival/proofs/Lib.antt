@@ -1,0 +1,9 @@
+pub mod Within
+pub mod Pieces
+pub mod Joining
+pub mod Sitting
+pub mod Storing
+pub mod Track
+pub mod Order
+pub mod Whole
+pub mod Demand3

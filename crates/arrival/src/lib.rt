@@ -1,0 +1,1 @@
+// The promise of order: theorems only, in `specs/` (the statement) and `proofs/`.
