@@ -50,4 +50,78 @@ u32 ref_read(const u8 *d, u64 length, u64 max_size, struct ref_header *h);
 u32 ref_cut(const u8 *name, u64 c, const u8 *payload, u64 p, u32 sequence, u64 m, u64 index, u8 *out, u64 room, u32 *count,
             u32 *length);
 
+/* ---- the receiver */
+
+enum { SLOTS = 8, REMEMBERED = 64, LEDGER = SLOTS * MAX_FRAGMENTS * 2 };
+
+struct ref_key {
+    u64 sender;
+    u32 sequence;
+};
+
+struct ref_slot {
+    int busy;
+    struct ref_key key;
+    u32 size, count;
+    u64 opened;   /* the number of openings before this one */
+    int held[MAX_FRAGMENTS];
+    u8 name[MAX_NAME];
+    u32 name_length;
+};
+
+struct ref_receiver {
+    u8 *store;
+    u64 slot_size;
+    u32 ledger[LEDGER];
+    struct ref_slot slots[SLOTS];
+    u64 openings;
+    struct ref_key memory[REMEMBERED];   /* in order of delivery */
+    int remembered;
+};
+
+enum ref_kind { REF_REFUSED, REF_KEPT, REF_REPEAT, REF_DELIVERED };
+
+struct ref_answer {
+    enum ref_kind kind;
+    u32 refusal;
+    int in_store;      /* Delivered: the payload lies in the store, else in the datagram */
+    u64 place, length;
+    int emptied;       /* a slot was emptied, and this was its key */
+    struct ref_key emptied_key;
+    u8 name[MAX_NAME]; /* Delivered: a copy of the name */
+    u32 name_length;
+};
+
+void ref_open(struct ref_receiver *r, u8 *store, u64 store_length);
+struct ref_answer ref_receive(struct ref_receiver *r, u64 sender, const u8 *d, u64 length);
+
+/* ---- the watch of one sender */
+
+enum ref_seen { REF_FIRST, REF_FORWARD, REF_SAME, REF_LATE };
+
+struct ref_watch {
+    int any;
+    u32 last;
+};
+
+/* by: the missing numbers of Forward, how late of Late, else 0 */
+enum ref_seen ref_watch(struct ref_watch *w, u32 sequence, u64 *by);
+
+/* ---- LMCP */
+
+enum { MAX_MESSAGE = 262144, DEEPEST = 16, TYPES = 7 };
+
+/* Answers 0 and the numbers written to the list, or the refusal. The list has room for any message within the limit. */
+u32 ref_read_message(const u8 *message, u64 length, i64 *list, u64 *numbers);
+
+/* The walk of a list alone: writes the root object to `out` whatever its length, and answers 0 and that length, or the refusal
+   of the walk or 28. Out has room for 15 bytes a number. */
+u32 ref_write_root(const i64 *list, u64 numbers, u8 *out, u64 *length);
+
+/* Answers 0 and the length of the message written, or the refusal. Out as above, and 12 more. */
+u32 ref_write_message(const i64 *list, u64 numbers, int calculate, u8 *out, u64 *length);
+
+/* The fields of a type, a letter or two each; lmcp.c says which. */
+extern const char *const ref_fields[TYPES + 1];
+
 #endif

@@ -1,0 +1,37 @@
+/* Makes hostile input for the programs, seeded, and what each program must write for it. */
+
+#ifndef TWIN_H
+#define TWIN_H
+
+#include "../reference/random.h"
+
+/* The C library's, declared here since the toolchain ships no headers. */
+void *fopen(const char *path, const char *how);
+int fclose(void *file);
+unsigned long fwrite(const void *from, unsigned long size, unsigned long n, void *file);
+int fprintf(void *file, const char *format, ...);
+int sprintf(char *to, const char *format, ...);
+int strcmp(const char *a, const char *b);
+unsigned long strlen(const char *s);
+void exit(int code);
+
+/* Where a stream goes: the program's input, and what it must write. */
+struct stream {
+    void *in, *expected;
+    u64 number;   /* of the datagram, message or list that came last */
+};
+
+/* How often each answer is expected over all streams of a program. An answer that is never met is not tested. */
+enum { KINDS = 64, FIRST_KIND = 40 };
+extern u64 met[KINDS];   /* below 40 the refusal of that number, from 40 the kinds of the program */
+
+/* One stream of a program, by its place among that program's streams. */
+void replay_stream(struct stream *s, int which);
+void gaps_stream(struct stream *s, int which);
+void list_stream(struct stream *s, int which);
+void bytes_stream(struct stream *s, int which);
+
+/* Ends the stream: in some streams inside the next length or body, else whole. A length has `width` bytes. */
+void end_stream(struct stream *s, int width, int cut);
+
+#endif
