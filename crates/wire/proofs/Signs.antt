@@ -11,7 +11,7 @@ use lib.Dec.{T, ltb}
 use borrow.Author.Tests.{ltb-true, ltb-false, lt-ltb, le-ltb}
 use mir.Syntax.{Width, w8, w16, w32, w64, w128}
 use mir.Val.{toZ, ofZ, sel, bits, hbits, SFits, Fits}
-use mir.ValLaws.{toZ-pos, toZ-neg, toZ-fits, pow-bits, half-full}
+use mir.ValLaws.{toZ-pos, toZ-neg, toZ-fits, toZ-ofZ, pow-bits, half-full}
 use Rattle.wire.specs.Choice.{pick}
 use Rattle.wire.specs.Signed.{signed, unsigned, Within}
 
@@ -156,3 +156,29 @@ pub record Above (w : Width) (z : ℤ) : Type 0 where
 pub above : (w : Width) (z : ℤ) → SFits w z → ltZ z (pos 0) ≡ false → Above w z
 above w (pos n) f t = record { count = tt; fits = record { fits = half-full w (f .sfits) }; bits = refl }
 above w (negsuc n) f t = absurd (let z : _≡_ {A = ℕ} 0 1 = cc in omega arith)
+
+-- The negation of z below 0, as code computes it with no number that does not fit: m is less one less z, each read back from its bits, and
+-- one more than m is the answer, at the lowest number too.
+pub record Negates (w : Width) (z m : ℤ) : Type 0 where
+  pub fits : SFits w (negsuc 0 -ℤ toZ w (ofZ w z))
+  pub count : T (nonNeg m) × Fits w (natAbs m)
+  pub next : Fits w (natAbs m + 1)
+  pub size : natAbs m + 1 ≡ natAbs z
+
+pub negates : (w : Width) (z : ℤ) → SFits w z → ltZ z (pos 0) ≡ true → Negates w z (toZ w (ofZ w (negsuc 0 -ℤ toZ w (ofZ w z))))
+negates w z f t =
+    let b = below w z f t in
+    let same : toZ w (ofZ w z) ≡ z = toZ-ofZ w z f in
+    let made : toZ w (ofZ w (negsuc 0 -ℤ toZ w (ofZ w z))) ≡ negsuc 0 -ℤ z =
+    ap (λ (y : ℤ). toZ w (ofZ w (negsuc 0 -ℤ y))) same ∙ toZ-ofZ w (negsuc 0 -ℤ z) (b .sfits) in
+    subst (λ (m : ℤ). Negates w z m) (sym made)
+    (record {
+      fits = subst (λ (y : ℤ). SFits w (negsuc 0 -ℤ y)) (sym same) (b .sfits);
+      count = (b .count, record { fits = half-full w (b .small) });
+      next = record { fits = let d : 2 ^ bits w ≡ 2 ^ hbits w * 2 = pow-bits w in omega (arith, b .small) };
+      size = b .size;
+    })
+
+-- z not below 0, read back from its bits
+pub counts : (w : Width) (z : ℤ) → SFits w z → ltZ z (pos 0) ≡ false → T (nonNeg (toZ w (ofZ w z))) × Fits w (natAbs (toZ w (ofZ w z)))
+counts w z f t = let a = above w z f t in subst (λ (y : ℤ). T (nonNeg y) × Fits w (natAbs y)) (sym (toZ-ofZ w z f)) (a .count, a .fits)

@@ -3,13 +3,12 @@ use mathlib.Core.Path.{_≡_, sym, ap, _∙_, subst}
 use mathlib.Core.Bool.{true, false}
 use Prim.Native.Nat.{_-_}
 use lib.IntN.{ℤ, pos, natAbs}
-use lib.Signed.{ltZ, nonNeg}
-use lib.Dec.{T}
+use lib.Signed.{ltZ}
 use borrow.Author.Needs.{needs}
 use mir.Syntax.{w32}
-use mir.Val.{toZ, ofZ, Fits}
+use mir.Val.{toZ, ofZ}
 use mir.ValLaws.{toZ-ofZ}
-use Rattle.wire.proofs.Signs.{above}
+use Rattle.wire.proofs.Signs.{counts}
 use Rattle.watch.specs.Said.{late, forward}
 use Rattle.watch.proofs.Tells.{told-late, told-same, told-forward}
 use Rattle.watch.proofs.tell.Statement.{statement}
@@ -33,9 +32,7 @@ left : (c : tie.Else1) → ltZ (c .before .args .d) (pos 0) ≡ false
 left c = subst (λ (z : ℤ). ltZ z (pos 0) ≡ false) (same (c .before)) (c .if1 .left)
 
 cast-u : tie.Need-cast-u
-cast-u c =
-    let a = above w32 (c .before .args .d) (c .before .fits .d) (left c) in
-    subst (λ (z : ℤ). T (nonNeg z) × Fits w32 (natAbs z)) (sym (same (c .before))) (a .count, a .fits)
+cast-u c = counts w32 (c .before .args .d) (c .before .fits .d) (left c)
 
 returns-2 : tie.Need-returns-2
 returns-2 c = sym (told-same (c .before .before .args .d) (sym (ap natAbs (same (c .before .before))) ∙ c .if2 .taken))
