@@ -7,3 +7,6 @@ pub mod Track
 pub mod Order
 pub mod Whole
 pub mod Demand3
+pub mod Ours
+pub mod Tests
+pub mod Works

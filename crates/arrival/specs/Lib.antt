@@ -1,1 +1,3 @@
 pub mod Demand
+pub mod Ours
+pub mod Worked

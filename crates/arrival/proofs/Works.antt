@@ -1,0 +1,28 @@
+-- The premises of demand 3 can be met: worked scenes and feeds that meet them, by computation.
+use mathlib.Core.Path.{_≡_, refl}
+use mathlib.Core.List.{List, [], _∷_}
+use Rattle.wire.specs.Bytes.{be}
+use Rattle.datagram.specs.Name.{goodName, untilZero, nameLength}
+use Rattle.datagram.specs.Read.{readSmall, goodForm, formed, readFragment, readDatagram}
+use Rattle.datagram.specs.Said.{said}
+use Rattle.cutter.specs.Trip.{joined}
+use Rattle.steps.specs.Memory.{since}
+use Rattle.steps.specs.Marked.{A, B}
+use Rattle.arrival.specs.Demand.{done, unfinished, completes, completed, Promised}
+use Rattle.arrival.specs.Worked.{A-of, B-of, small-of, paperScene, paperFeed, nineScene, fromEach, nineFeed}
+use Rattle.arrival.proofs.Tests.{tests, allPass, tested}
+use Rattle.arrival.proofs.Demand3.{demand3}
+
+paper-meets : tests paperScene paperFeed ≡ allPass
+unfolding tests done unfinished completes completed since joined said readDatagram readSmall readFragment formed goodForm nameLength goodName untilZero be A B small-of
+paper-meets = refl
+
+pub paper-promised : Promised paperScene paperFeed
+paper-promised = demand3 paperScene paperFeed (tested paperScene paperFeed paper-meets)
+
+nine-meet : tests nineScene nineFeed ≡ allPass
+unfolding tests done unfinished completes completed since joined said readDatagram readSmall readFragment formed goodForm nameLength goodName untilZero be A-of B-of fromEach
+nine-meet = refl
+
+pub nine-promised : Promised nineScene nineFeed
+nine-promised = demand3 nineScene nineFeed (tested nineScene nineFeed nine-meet)
