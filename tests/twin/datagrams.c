@@ -55,7 +55,7 @@ static u8 history[HISTORY][ROOM];
 static u64 history_length[HISTORY];
 static u64 sent;
 
-static void send(struct stream *s, const u8 *d, u64 length) {
+void give_datagram(struct stream *s, const u8 *d, u64 length) {
     u8 prefix[2];
     ref_put(prefix, 2, length);
     fwrite(prefix, 1, 2, s->in);
@@ -226,7 +226,7 @@ static void flood(struct stream *s) {
     static u32 flooding = 0x40000000;
     for (u64 n = between(60, 66); n > 0; n--) {
         u64 length = small(flooding++, below(3), d);
-        send(s, d, length);
+        give_datagram(s, d, length);
     }
 }
 
@@ -248,10 +248,10 @@ static void bad_day(struct stream *s, int datagrams) {
         else if (roll < 96) length = noise(d);
         else if (roll < 97) length = 0;
         else length = damage(d, again(20, d));
-        send(s, d, length);
+        give_datagram(s, d, length);
     }
     u64 longest = small(next_sequence++, 65535 - 73, d);
-    send(s, d, longest);
+    give_datagram(s, d, longest);
 }
 
 /* ---- a stream from a small world, so that each kind of clash comes often: the message of a sequence number is computed from
@@ -297,7 +297,7 @@ static void small_world(struct stream *s, int datagrams) {
         u64 length = fragment(&m, (u32) below(m.count), d);
         if (chance(6)) length = small(sequence, below(4), d);
         else if (below(100) < foul) length = damage(d, length);
-        send(s, d, length);
+        give_datagram(s, d, length);
     }
 }
 
@@ -322,10 +322,10 @@ static void wide_world(struct stream *s, int datagrams) {
             u64 length = fragment(&m, order[k], d);
             if (chance(30)) {
                 u64 damaged = damage(d, length);
-                send(s, d, damaged);
+                give_datagram(s, d, damaged);
                 length = fragment(&m, order[k], d);
             }
-            send(s, d, length);
+            give_datagram(s, d, length);
         }
     }
 }
@@ -340,21 +340,15 @@ static void leaps(struct stream *s, int datagrams) {
         u64 length = small(sequence, below(6), d);
         if (chance(10)) length = damage(d, length);
         else if (chance(70)) last = sequence;
-        send(s, d, length);
+        give_datagram(s, d, length);
     }
 }
 
 /* Short streams first, for their ends; then the long ones. */
 static void datagram_stream(struct stream *s, int which) {
-    static const int short_ends[] = {0, 1, 2, 3};
-    ref_open(&receiver, store, STORE);
-    watch.any = 0;
-    watch.last = 0;
-    sent = 0;
-    memset(store, 0, sizeof store);
     if (which < 16) {
         small_world(s, which / 4);
-        end_stream(s, 2, short_ends[which % 4]);
+        end_stream(s, 2, which % 4);
         return;
     }
     if (watching && which % 2 == 0) leaps(s, 20000);
@@ -364,12 +358,24 @@ static void datagram_stream(struct stream *s, int which) {
     end_stream(s, 2, which % 4);
 }
 
+static void begin(int for_gaps) {
+    watching = for_gaps;
+    watch.any = 0;
+    watch.last = 0;
+    sent = 0;
+    memset(store, 0, sizeof store);
+    ref_open(&receiver, store, STORE);
+}
+
+void begin_replay(void) { begin(0); }
+void begin_gaps(void) { begin(1); }
+
 void replay_stream(struct stream *s, int which) {
-    watching = 0;
+    begin(0);
     datagram_stream(s, which);
 }
 
 void gaps_stream(struct stream *s, int which) {
-    watching = 1;
+    begin(1);
     datagram_stream(s, which);
 }

@@ -9,20 +9,24 @@ unsigned long fread(void *to, unsigned long size, unsigned long n, void *file);
 
 u64 met[KINDS];
 
+/* The streams of a program come first, then the paper's cases. */
 enum { STREAMS = 32, LEAST = 20 };
 
 struct program {
     const char *name;
     void (*stream)(struct stream *s, int which);
+    void (*begin)(void);
+    void (*give)(struct stream *s, const u8 *bytes, u64 length);
     const char *kinds[8];   /* what it answers beside refusals */
     int refusals[12];       /* the refusals that it can give */
 };
 
 static const struct program programs[] = {
-    {"replay", replay_stream, {"kept", "delivered", "delivered, small", "repeat", "kept, emptied", "delivered, emptied"}, {1, 2, 4, 5, 6, 7, 8}},
-    {"gaps", gaps_stream, {"first", "forward", "same", "late"}, {1, 2, 4, 5, 6, 7}},
-    {"lmcp_list", list_stream, {"list"}, {20, 21, 22, 23, 24, 25, 26, 27, 28}},
-    {"lmcp_bytes", bytes_stream, {"bytes"}, {21, 23, 24, 25, 26, 27, 28, 29}},
+    {"replay", replay_stream, begin_replay, give_datagram,
+     {"kept", "delivered", "delivered, small", "repeat", "kept, emptied", "delivered, emptied"}, {1, 2, 4, 5, 6, 7, 8}},
+    {"gaps", gaps_stream, begin_gaps, give_datagram, {"first", "forward", "same", "late"}, {1, 2, 4, 5, 6, 7}},
+    {"lmcp_list", list_stream, 0, give_message, {"list"}, {20, 21, 22, 23, 24, 25, 26, 27, 28}},
+    {"lmcp_bytes", bytes_stream, 0, give_list, {"bytes"}, {21, 23, 24, 25, 26, 27, 28, 29}},
 };
 
 static void *file_of(const char *folder, int which, const char *kind, const char *how) {
@@ -60,23 +64,6 @@ static int report(const struct program *p, u64 all) {
     printf("\n");
     if (!good) printf("twin: %s: an answer comes too seldom to be tested\n", p->name);
     return good ? 0 : 1;
-}
-
-static int make(const struct program *p, const char *folder) {
-    u64 all = 0;
-    for (int which = 0; which < STREAMS; which++) {
-        struct stream s = {file_of(folder, which, "in", "w"), file_of(folder, which, "expected", "w"), 0};
-        if (!s.in || !s.expected) {
-            printf("twin: cannot write to %s\n", folder);
-            return 2;
-        }
-        random_state = 7000 + (u64) which;
-        p->stream(&s, which);
-        fclose(s.in);
-        fclose(s.expected);
-        all += s.number;
-    }
-    return report(p, all);
 }
 
 /* ---- comparing */
@@ -120,8 +107,8 @@ static char *line(struct text *t, long *length) {
 
 static int shown(long length) { return length < 0 ? 0 : length < 120 ? (int) length : 120; }
 
-static void compare_stream(const char *folder, int which, u64 *agree, u64 *differ) {
-    struct text expected = read_text(folder, which, "expected"), got = read_text(folder, which, "got");
+static void compare_stream(const char *folder, int which, const char *kind, u64 *agree, u64 *differ) {
+    struct text expected = read_text(folder, which, "expected"), got = read_text(folder, which, kind);
     char *expected_begin = expected.at, *got_begin = got.at;
     u64 told = 0;
     for (;;) {
@@ -139,9 +126,61 @@ static void compare_stream(const char *folder, int which, u64 *agree, u64 *diffe
     free(got_begin);
 }
 
+/* ---- making */
+
+static struct stream open_stream(const char *folder, int which, const char *expected) {
+    struct stream s = {file_of(folder, which, "in", "w"), file_of(folder, which, expected, "w"), 0};
+    if (s.in && s.expected) return s;
+    printf("twin: cannot write to %s\n", folder);
+    exit(2);
+}
+
+static void close_stream(struct stream *s) {
+    fclose(s->in);
+    fclose(s->expected);
+}
+
+/* One of the paper's cases: the twin's own answer goes beside the paper's, and the two must agree. */
+static int make_paper(const struct program *p, const struct paper_case *c, const char *folder, int which) {
+    struct stream s = open_stream(folder, which, "twin");
+    u8 bytes[256];
+    u64 length, agree = 0, differ = 0;
+    if (p->begin) p->begin();
+    for (const char *at = c->input; (at = paper_item(at, bytes, &length)) != 0;) p->give(&s, bytes, length);
+    end_stream(&s, 0, 0);
+    close_stream(&s);
+    void *file = file_of(folder, which, "expected", "w");
+    fprintf(file, "%s", c->output);
+    fclose(file);
+    compare_stream(folder, which, "twin", &agree, &differ);
+    if (differ > 0) printf("twin: the twin differs from the paper\n");
+    return differ > 0;
+}
+
+static int make(const struct program *p, const char *folder) {
+    u64 all = 0;
+    int which = 0, bad = 0;
+    for (; which < STREAMS; which++) {
+        struct stream s = open_stream(folder, which, "expected");
+        random_state = 7000 + (u64) which;
+        p->stream(&s, which);
+        close_stream(&s);
+        all += s.number;
+    }
+    bad |= report(p, all);
+    for (const struct paper_case *c = paper_cases; c->program; c++)
+        if (strcmp(c->program, p->name) == 0) bad |= make_paper(p, c, folder, which++);
+    return bad;
+}
+
 static int compare(const char *folder) {
     u64 agree = 0, differ = 0;
-    for (int which = 0; which < STREAMS; which++) compare_stream(folder, which, &agree, &differ);
+    for (int which = 0;; which++) {
+        void *file = file_of(folder, which, "expected", "r");
+        if (!file) break;
+        fclose(file);
+        compare_stream(folder, which, "got", &agree, &differ);
+    }
     printf("%llu %llu\n", agree, differ);
     return 0;
 }

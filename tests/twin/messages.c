@@ -219,15 +219,26 @@ static void damage_frame(u64 root) {
     }
 }
 
-static void expect_list(struct stream *s) {
+/* What is read and written again, with the same choice of checksum, is the same bytes; else the twin itself is wrong. */
+static void check_trip(const u8 *bytes, u64 length, const i64 *read, u64 count) {
+    static u8 again[MESSAGE_ROOM];
+    u64 again_length = 0;
+    int calculate = ref_number(bytes + length - 4, 4) != 0;
+    if (ref_write_message(read, count, calculate, again, &again_length) != 0 || again_length != length || memcmp(again, bytes, length) != 0) {
+        printf("twin: a message read and written again is another\n");
+        exit(1);
+    }
+}
+
+void give_message(struct stream *s, const u8 *bytes, u64 length) {
     static i64 read[MAX_MESSAGE];
     u64 count = 0;
     u8 prefix[4];
-    ref_put(prefix, 4, built);
+    ref_put(prefix, 4, length);
     fwrite(prefix, 1, 4, s->in);
-    fwrite(message, 1, built, s->in);
+    fwrite(bytes, 1, length, s->in);
     s->number++;
-    u32 refusal = ref_read_message(message, built, read, &count);
+    u32 refusal = ref_read_message(bytes, length, read, &count);
     if (refusal != 0) {
         fprintf(s->expected, "%llu refused %u\n", s->number, refusal);
         met[refusal]++;
@@ -237,23 +248,10 @@ static void expect_list(struct stream *s) {
     fprintf(s->expected, "%llu list", s->number);
     for (u64 i = 0; i < count; i++) fprintf(s->expected, " %lld", read[i]);
     fprintf(s->expected, "\n");
+    check_trip(bytes, length, read, count);
 }
 
-/* Messages that the paper gives in full. */
-static void paper_messages(struct stream *s) {
-    static const u8 ping[] = "LMCP\0\0\0\17\1PITSURV\0\0\0\0\1\0\1\0\0\3\173";
-    static const u8 null[] = "LMCP\0\0\0\1\0\0\0\1\55";
-    for (int sum = 0; sum < 3; sum++) {
-        memcpy(message, ping, built = 27);
-        if (sum == 1) message[26]++;
-        if (sum == 2) ref_put(message + 23, 4, 0);
-        expect_list(s);
-    }
-    memcpy(message, null, built = 13);
-    expect_list(s);
-    frame(0, 1);
-    expect_list(s);
-}
+static void expect_list(struct stream *s) { give_message(s, message, built); }
 
 static void one_message(struct stream *s) {
     if (chance(8)) build_chain((int) between(14, 18), (int) below(5));
@@ -280,25 +278,72 @@ static void large_messages(struct stream *s) {
     }
 }
 
+/* Every message that differs from a small one in its end or in one byte, and some with a bad byte right before the end. */
+static void every_place(struct stream *s) {
+    static u8 kept[4096];
+    u64 root = built - 12;
+    memcpy(kept, message, built);
+    for (u64 i = 0; i <= root; i++) {
+        memcpy(message, kept, 8 + root);
+        frame(i, 1);
+        expect_list(s);
+        if (i == 0) continue;
+        u64 was = message[8 + i - 1];
+        static const u8 edges[] = {0, 1, 2, 7, 8, 127, 128, 255};
+        for (u64 e = 0; e < sizeof edges; e++) {
+            message[8 + i - 1] = edges[e];
+            frame(i, 0);
+            expect_list(s);
+            memcpy(message, kept, 8 + root);
+            message[8 + i - 1] = edges[e];
+            frame(root, e % 2 == 0);
+            expect_list(s);
+        }
+        message[8 + i - 1] = (u8) was;
+    }
+}
+
+/* A list of at most 60 numbers with a root of this type. */
+static void short_list(int type) {
+    do {
+        numbers = 0;
+        some_object(type, 1);
+    } while (numbers > 60);
+}
+
+static void sweep_messages(struct stream *s) {
+    for (int type = 1; type <= TYPES; type++)
+        for (int i = 0; i < 5; i++) {
+            short_list(type);
+            build();
+            every_place(s);
+        }
+    for (int notes = 15; notes <= 17; notes++) {
+        build_chain(notes, 1);
+        every_place(s);
+    }
+}
+
 void list_stream(struct stream *s, int which) {
     if (which < 16) {
         for (int i = 0; i < which / 4; i++) one_message(s);
         end_stream(s, 4, which % 4);
         return;
     }
-    paper_messages(s);
     if (which == 16) large_messages(s);
+    if (which == 17) sweep_messages(s);
     for (int i = 0; i < 15000; i++) one_message(s);
     end_stream(s, 4, which % 4);
 }
 
 /* ---- lists, good and damaged */
 
-static i64 edge_number(void) {
-    return (i64) ONE_OF(0, 1, 2, 3, 4, 5, 6, 7, 8, 127, 128, 255, 256, 32767, 32768, 65535, 65536, 0x7fffffff, 0x80000000, 0xffffffff,
-                        0x100000000, 0x7fffffffffffffff, -1ULL, -2ULL, -128ULL, -32768ULL, -32769ULL, -2147483648ULL, -2147483649ULL,
-                        0x8000000000000000);
-}
+static const i64 edges[] = {0, 1, 2, 3, 4, 5, 6, 7, 8, 127, 128, 255, 256, 32767, 32768, 65535, 65536, 2147483647, 2147483648,
+                            4294967295, 4294967296, 9223372036854775807, -1, -2, -128, -32768, -32769, -2147483648LL, -2147483649LL,
+                            -9223372036854775807 - 1};
+enum { EDGES = sizeof edges / sizeof *edges };
+
+static i64 edge_number(void) { return edges[below(EDGES)]; }
 
 static void damage_list(void) {
     u64 at = below(numbers);
@@ -316,10 +361,10 @@ static void damage_list(void) {
     }
 }
 
-static void expect_bytes(struct stream *s) {
+/* The list in `list`, as a program's input and what it must write. */
+static void expect_bytes_of(struct stream *s, int calculate) {
     u8 bytes[8];
     u64 length = 0;
-    int calculate = chance(50);
     bytes[0] = (u8) calculate;
     ref_put(bytes + 1, 4, numbers);
     fwrite(bytes, 1, 5, s->in);
@@ -340,11 +385,37 @@ static void expect_bytes(struct stream *s) {
     fprintf(s->expected, "\n");
 }
 
+static void expect_bytes(struct stream *s) { expect_bytes_of(s, chance(50)); }
+
+void give_list(struct stream *s, const u8 *bytes, u64 length) {
+    numbers = 0;
+    for (u64 i = 1; i + 8 <= length; i += 8) tell((i64) ref_number(bytes + i, 8));
+    expect_bytes_of(s, bytes[0]);
+}
+
 static void one_list(struct stream *s) {
     some_list();
     if (chance(45)) damage_list();
     if (chance(10)) damage_list();
     expect_bytes(s);
+}
+
+/* Every list that differs from a short one in its end or in one number. */
+static void sweep_lists(struct stream *s) {
+    for (int type = 1; type <= TYPES; type++)
+        for (int i = 0; i < 6; i++) {
+            short_list(type);
+            u64 whole = numbers;
+            for (numbers = 0; numbers < whole; numbers++) expect_bytes(s);
+            for (u64 at = 0; at < whole; at++) {
+                i64 was = list[at];
+                for (u64 e = 0; e < EDGES; e++) {
+                    list[at] = edges[e];
+                    expect_bytes(s);
+                }
+                list[at] = was;
+            }
+        }
 }
 
 void bytes_stream(struct stream *s, int which) {
@@ -359,9 +430,10 @@ void bytes_stream(struct stream *s, int which) {
         damage_list();
         expect_bytes(s);
     }
-    for (int turn = 0; turn < 2; turn++) {
+    if (which == 17) sweep_lists(s);
+    for (int turn = 0; turn < 3; turn++) {
         numbers = 0;
-        marks(between(9000, 14000));
+        marks(between(9000, 13000));
         expect_bytes(s);
     }
     for (int i = 0; i < 15000; i++) one_list(s);
