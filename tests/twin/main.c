@@ -42,7 +42,8 @@ void end_stream(struct stream *s, int width, int cut) {
         fprintf(s->expected, "end %llu\n", s->number);
         return;
     }
-    /* inside the length, right behind it, or inside the body */
+    /* inside the length, right behind it, or inside the body, which may be said to be larger than any program holds */
+    if (cut > 1 && chance(50)) bytes[width == 5 ? 1 : 0] = 255;
     u64 more = cut == 1 ? between(1, (u64) width - 1) : cut == 2 ? (u64) width : (u64) width + between(1, 8 - (u64) width);
     fwrite(bytes, 1, more, s->in);
     fprintf(s->expected, "cut %llu\n", s->number);

@@ -275,6 +275,8 @@ static void large_messages(struct stream *s) {
         frame(built - 12, chance(50));
         if (chance(20)) damage_frame(built - 12);
         expect_list(s);
+        message[below(4)] ^= (u8) (1 << below(8));
+        expect_list(s);
     }
 }
 
