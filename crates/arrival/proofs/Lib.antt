@@ -10,3 +10,4 @@ pub mod Demand3
 pub mod Ours
 pub mod Tests
 pub mod Works
+pub mod Needed
