@@ -197,3 +197,40 @@ module _ (T : Table) where
       head-writes (x ∷ b) n zs r f e =
           let p = tag-unless (ltb 1 x) 23 (pick (eqb x 0) (tag 0 (pos 0 ∷ []) b) (pick (eqb d 0) (bad 26) (readHeader T t b))) (sym (head-cons x b) ∙ e) in
           writes-by x b n zs r f (ltb-false 1 x (p .0)) (eqb x 0) refl (p .1)
+
+-- ---- an object that is not null has a type of the table, and depth is left for it
+
+pub record Some (T : Table) (d n : ℕ) : Type 0 where
+  pub deep : 0 < d
+  pub within : n < length (T .types)
+
+module _ (T : Table) (d t n : ℕ) (some : n ≡ 0 → ⊥) where
+  not-null : {A B : Type 0} (e : Bool) (ys zs : List B) (l r : List A) (X : Tag A B) → pick e (tag 0 ys l) X ≡ tag n zs r → X ≡ tag n zs r
+  not-null true ys zs l r X q = absurd (some (sym (tag-number q)))
+  not-null false ys zs l r X q = q
+
+  deep-enough : eqb d 0 ≡ false → 0 < d
+  deep-enough e = omega (arith, eqb-false d 0 e)
+
+  pub read-some : (b : List ℕ) {zs : List ℤ} {r : List ℕ} → readHead T d t b ≡ tag n zs r → Some T d n
+  unfolding readHead readHeader
+  read-some b {zs} {r} e =
+      let m = be 4 (drop 8 (drop 1 b)) in
+      let known' = known T t (drop 1 b) in
+      let header = pick (ltb (length (drop 1 b)) 14) (bad 25) (pick known' (tag m (pos m ∷ []) (drop 14 (drop 1 b))) (bad 24)) in
+      let p = tag-unless (ltb (length b) 1) 25 (pick (ltb 1 (be 1 b)) (bad 23) (pick (eqb (be 1 b) 0) (tag 0 (pos 0 ∷ []) (drop 1 b)) (pick (eqb d 0) (bad 26) header))) e in
+      let q = tag-unless (ltb 1 (be 1 b)) 23 (pick (eqb (be 1 b) 0) (tag 0 (pos 0 ∷ []) (drop 1 b)) (pick (eqb d 0) (bad 26) header)) (p .1) in
+      let o = not-null (eqb (be 1 b) 0) (pos 0 ∷ []) zs (drop 1 b) r (pick (eqb d 0) (bad 26) header) (q .1) in
+      let g = tag-unless (eqb d 0) 26 header o in
+      let h = tag-unless (ltb (length (drop 1 b)) 14) 25 (pick known' (tag m (pos m ∷ []) (drop 14 (drop 1 b))) (bad 24)) (g .1) in
+      let k = tag-where known' (tag m (pos m ∷ []) (drop 14 (drop 1 b))) 24 (h .1) in
+      record { deep = deep-enough (g .0); within = subst (λ (j : ℕ). j < length (T .types)) (tag-number (k .1)) (typed-most T t m (known-type T t (drop 1 b) (k .0))) }
+
+  pub write-some : (l : List ℤ) {ys : List ℕ} {r : List ℤ} → writeHead T d t l ≡ tag n ys r → Some T d n
+  unfolding writeHead
+  write-some [] e = not-bad e
+  write-some (z ∷ l) {ys} {r} e =
+      let o = not-null (below 1 z) (0 ∷ []) ys l r (pick (eqb d 0) (bad 26) (pick (typedBy T t z) (tag (mag z) (header T (mag z)) l) (bad 24))) e in
+      let g = tag-unless (eqb d 0) 26 (pick (typedBy T t z) (tag (mag z) (header T (mag z)) l) (bad 24)) o in
+      let k = tag-where (typedBy T t z) (tag (mag z) (header T (mag z)) l) 24 (g .1) in
+      record { deep = deep-enough (g .0); within = subst (λ (j : ℕ). j < length (T .types)) (tag-number (k .1)) (typed-most T t (mag z) (typedBy-mag T t z (k .0) .1)) }

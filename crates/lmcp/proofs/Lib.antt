@@ -1,3 +1,4 @@
+pub mod Goes
 pub mod Heads
 pub mod Makes
 pub mod Never
@@ -5,5 +6,6 @@ pub mod Once
 pub mod Pitsurv
 pub mod Tables
 pub mod Trips
+pub mod Types
 pub mod Undo
 pub mod Values

@@ -1,10 +1,11 @@
 -- Series PITSURV, version 1: its table is sound, by one computed test over all rows; and the marked cases m11 to m13. Assumes nothing.
-use mathlib.Core.Path.{_≡_, refl, subst}
+use mathlib.Core.Path.{_≡_, refl, sym, subst}
 use mathlib.Core.Bool.{Bool, true, false, _&&_, _||_}
 use mathlib.Core.List.{List, [], _∷_}
 use Prim.Native.Nat.{ℕ, _<_}
 use lib.Dec.{leb, eqb, lit<, lit≤}
 use lib.IntN.{ℤ, pos}
+use lib.ListN.{length, getD}
 use borrow.Author.Tests.{leb-true, ne-eqb}
 use Rattle.wire.specs.Choice.{pick}
 use Rattle.wire.specs.Bytes.{be}
@@ -12,13 +13,14 @@ use Rattle.wire.specs.Sum.{sum}
 use Rattle.wire.proofs.Choices.{and-l, and-r}
 use Rattle.lmcp.specs.declared.Row.{Row}
 use Rattle.lmcp.specs.Run.{got, refused, prepend, andThen, after, repeat, whole}
-use Rattle.lmcp.specs.Table.{objectKind, signedKind, RowFits, rowsOf, pitsurv}
+use Rattle.lmcp.specs.Table.{objectKind, signedKind, RowFits, rowsOf, nothing, pitsurv}
 use Rattle.lmcp.specs.Walk.{item, field, fields, object, root}
 use Rattle.lmcp.specs.Value.{fault, numberOf}
 use Rattle.lmcp.specs.Read.{Read, judged, readValue, readCount, typed, known, readHeader, readHead}
 use Rattle.lmcp.specs.Message.{frame, readMessage}
 use Rattle.lmcp.proofs.Undo.{RowsFit}
 use Rattle.lmcp.proofs.Heads.{Sound}
+use Rattle.lmcp.proofs.Tables.{row-fits}
 
 -- ---- the test, and what it says
 
@@ -29,8 +31,8 @@ abbrev all-fitting : List Row → Bool
 all-fitting [] = true
 all-fitting (f ∷ fs) = fitting f && all-fitting fs
 
-row-fits : (f : Row) → fitting f ≡ true → RowFits f
-row-fits f e =
+fits-row : (f : Row) → fitting f ≡ true → RowFits f
+fits-row f e =
     let plain = eqb (f .kind) signedKind || leb (f .arg) 7 in
     let rest = leb 1 (f .arg) && (leb (f .arg) 8 && plain) in
     let a : (eqb (f .kind) objectKind || rest) ≡ true = and-r (leb (f .count) 7) (eqb (f .kind) objectKind || rest) e in
@@ -46,10 +48,14 @@ row-fits f e =
 
 all-fit : (l : List Row) → all-fitting l ≡ true → RowsFit l
 all-fit [] e = tt
-all-fit (f ∷ l) e = (row-fits f (and-l (fitting f) (all-fitting l) e), all-fit l (and-r (fitting f) (all-fitting l) e))
+all-fit (f ∷ l) e = (fits-row f (and-l (fitting f) (all-fitting l) e), all-fit l (and-r (fitting f) (all-fitting l) e))
 
 pub rows-fit : (v : ℕ) → RowsFit (rowsOf (pitsurv v))
 rows-fit v = all-fit (rowsOf (pitsurv v)) refl
+
+-- row i of the table fits
+pub row-fit : (v i : ℕ) {f : Row} → i < length (rowsOf (pitsurv v)) → f ≡ getD (rowsOf (pitsurv v)) i nothing → RowFits f
+row-fit v i h e = subst RowFits (sym e) (row-fits (rowsOf (pitsurv v)) (rows-fit v) i h)
 
 pub sound : Sound (pitsurv 1)
 sound = record { version-fits = lit< tt; types-fit = lit≤ tt; rows-fit = rows-fit 1 }

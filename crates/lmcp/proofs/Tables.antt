@@ -2,7 +2,10 @@
 use mathlib.Core.Path.{_≡_, refl, ap, sym, _∙_, subst}
 use mathlib.Core.List.{List, [], _∷_, _++_}
 use Prim.Native.Nat.{ℕ, zero, suc, _+_, _-_, _≤_, _<_}
-use native.Mathlib.Nat.{zero-add, suc-add}
+use native.Mathlib.Nat.{zero-add, suc-add, le-of-suc-le-suc, not-suc-le-zero, eq-or-lt-of-le}
+use mathlib.Core.Logic.{⊎-elim}
+use mathlib.Core.Bool.{Bool, true, false, _&&_}
+use Rattle.wire.proofs.Choices.{and-l, and-r}
 use native.Mathlib.Numerals.{add-one}
 use native.Mathlib.Omega.{arith}
 use lib.ListN.{length, getD, take, drop, length-append}
@@ -81,3 +84,26 @@ pub row-fits : (l : List Row) → RowsFit l → (i : ℕ) → i < length l → R
 row-fits [] s i h = absurd (let z : ⊥ = omega arith in z)
 row-fits (f ∷ l) s zero h = s .0
 row-fits (f ∷ l) s (suc i) h = row-fits l (s .1) i (omega arith)
+
+-- ---- a rule at each number below n, from one test that is computed
+
+abbrev pub upto : (ℕ → Bool) → ℕ → Bool
+upto f zero = true
+upto f (suc n) = f n && upto f n
+
+pub under : (f : ℕ → Bool) (n : ℕ) → upto f n ≡ true → (k : ℕ) → k < n → f k ≡ true
+under f zero t k h = absurd (not-suc-le-zero h)
+under f (suc n) t k h =
+    ⊎-elim (λ e. subst (λ (m : ℕ). f m ≡ true) (sym e) (and-l (f n) (upto f n) t)) (λ l. under f n (and-r (f n) (upto f n) t) k l)
+    (eq-or-lt-of-le (le-of-suc-le-suc h))
+
+-- ---- the rows of a type, by its two places among all rows
+
+pub record Rows (T : Table) (n i e : ℕ) : Type 0 where
+  pub rise : i ≤ e
+  pub inside : e ≤ length (rowsOf T)
+  pub are : fieldsOf T n ≡ slice i e (rowsOf T)
+
+pub rows-of : (T : Table) (n i e : ℕ) → n < length (T .types) → i ≡ getD (startsOf T) n 0 → e ≡ getD (startsOf T) (n + 1) 0 → Rows T n i e
+rows-of T n i e h a b =
+    rw (a, b) (record { rise = starts-rise T n h; inside = starts-inside T n h; are = sym (fields-slice T n h) })

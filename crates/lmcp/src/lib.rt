@@ -1,7 +1,9 @@
 // Survey messages: the message table of series PITSURV, and what the reader and the writer answer.
 ghost use mathlib.Core.Path.{_≡_};
+ghost use Prim.Native.Nat.{_-_, _*_, _^_, min};
 ghost use lib.ListN.{length, getD};
 ghost use Rattle.lmcp.specs.Table.{pitsurv, rowsOf, startsOf, nothing};
+ghost use Rattle.lmcp.specs.Read.{typed};
 
 // One field of a type: the bytes of its count (0: it has none, but `fixed` elements), the kind of its elements, and their bytes
 // or, of objects, the declared type (0: any).
@@ -178,7 +180,8 @@ const ROWS: [Row; 19] = [
 // Where the rows of each type begin, null and Ping first, and at last where they all end.
 const STARTS: [usize; 9] = [0, 0, 0, 3, 7, 10, 12, 14, 19];
 
-const TYPES: usize = 8;
+// How many types there are, null among them.
+const TYPES: u64 = 8;
 
 // Row i of the table of a version.
 pub fn row_at(version: u64, i: usize) -> Row
@@ -205,9 +208,38 @@ pub fn start_of(version: u64, t: usize) -> usize
     0
 }
 
-// How many types there are, null among them.
-pub fn types_of(version: u64) -> usize
-    ensures { λ r. ⌜ r ≡ length ((pitsurv version) .types) ⌝ }
+// Whether n is a type of the table, and the declared one unless any may stand there.
+pub fn typed_in(version: u64, declared: usize, n: u64) -> bool
+    ensures { λ r. ⌜ r ≡ typed (pitsurv version) declared n ⌝ }
 {
-    TYPES
+    if n < 1 {
+        return false;
+    }
+    if TYPES <= n {
+        return false;
+    }
+    if declared == 0 {
+        return true;
+    }
+    n as usize == declared
+}
+
+// 2^(8w - 1), for w up to 8.
+const HALVES: [u64; 9] = [
+    1,
+    128,
+    32768,
+    8388608,
+    2147483648,
+    549755813888,
+    140737488355328,
+    36028797018963968,
+    9223372036854775808,
+];
+
+// How many numbers of w bytes, at most 8, are not negative where they are signed.
+pub fn half(w: usize) -> u64
+    ensures { λ r. ⌜ r ≡ 2 ^ (8 * min w 8 - 1) ⌝ }
+{
+    HALVES[wire::least(w, 8)]
 }

@@ -1,0 +1,20 @@
+-- `lmcp::typed_in` meets its contract, case by case.
+use Rattle.lmcp.specs.Table.{pitsurv}
+use Rattle.lmcp.proofs.Types.{typed-low, typed-high, typed-any, typed-declared}
+use Rattle.lmcp.proofs.typed_in.Statement.{statement}
+use Rattle.lmcp.proofs.typed_in.Tie as tie
+
+returns : tie.Need-returns
+returns c = typed-low (pitsurv (c .before .args .version)) _ _ (c .if1 .taken)
+
+returns-2 : tie.Need-returns-2
+returns-2 c = typed-high (pitsurv (c .before .before .args .version)) _ _ (c .if2 .taken)
+
+returns-3 : tie.Need-returns-3
+returns-3 c = typed-any (pitsurv (c .before .before .before .args .version)) _ _ (c .before .before .if1 .left) (c .before .if2 .left) (c .if3 .taken)
+
+returns-4 : tie.Need-returns-4
+returns-4 c = typed-declared (pitsurv (c .before .before .before .args .version)) _ _ (c .before .before .if1 .left) (c .before .if2 .left) (c .if3 .left)
+
+pub typed-in-spec : {M : Type 1} → statement M
+typed-in-spec = tie.close (tie.spec returns returns-2 returns-3 returns-4)

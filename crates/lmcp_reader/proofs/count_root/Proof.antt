@@ -1,0 +1,40 @@
+-- `lmcp_reader::count_root` meets its contract: of no list nothing is left.
+use mathlib.Core.Path.{_≡_, ap, subst}
+use mathlib.Core.List.{List, [], _++_}
+use lib.IntN.{ℤ}
+use borrow.Author.Needs.{needs}
+use Rattle.lmcp.proofs.Goes.{empty}
+use Rattle.lmcp_reader.specs.Steps.{Ends, readRoot}
+use Rattle.lmcp_reader.proofs.count_root.Statement.{statement}
+use Rattle.lmcp_reader.proofs.count_root.Tie as tie
+
+slice-relend-prefix-root-at : tie.Need-slice-relend-prefix-root-at
+slice-relend-prefix-root-at c = search needs
+
+slice-aggregate-root-at : tie.Need-slice-aggregate-root-at
+slice-aggregate-root-at c = search needs
+
+root-at-requires : tie.Need-root-at-requires
+root-at-requires c κs = search needs
+
+same-length : tie.Need-same-length
+same-length c = search needs
+
+returns : tie.Need-returns
+returns c =
+    let a = c .before .before .before .before .args in
+    let o : List ℤ = c .before .root-at .last .1 .1 .0 in
+    let nil : o ≡ [] = empty o (c .before .root-at .kept .1 .1 .0) in (
+      ap (λ (l : List ℤ). l ++ a .list .now) nil,
+      subst (λ (l : List ℤ). Ends (a .s .now) [] 0 (readRoot (a .version) (a .s .now)) (c .before .root-at .result) l) nil (c .before .root-at .ensures),
+    )
+
+pub count-root-spec : {M : Type 1} → statement M
+count-root-spec =
+    tie.close
+    (tie.spec
+    slice-relend-prefix-root-at
+    slice-aggregate-root-at
+    root-at-requires
+    same-length
+    returns)
