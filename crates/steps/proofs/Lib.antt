@@ -6,3 +6,4 @@ pub mod Seats
 pub mod Branches
 pub mod Reaches
 pub mod Marks
+pub mod Forgets

@@ -1,4 +1,4 @@
--- Cases m4 to m7, computed in one statement.
+-- Cases m4 to m7, computed in one statement, and the worked cases in another.
 use mathlib.Core.Path.{_≡_, refl}
 use mathlib.Core.List.{List, map}
 use Rattle.wire.specs.Bytes.{be}
@@ -12,7 +12,13 @@ use Rattle.steps.specs.Slots.{oldest, openCount, lower, release, seat, o
 use Rattle.steps.specs.Receive.{opened, stay, sameFragment, agrees, step3, decide, step5, act, receive, sound, step}
 use Rattle.steps.specs.Answers.{Reply}
 use Rattle.steps.specs.Marked.{Case, receiverCases, freshReplies, A, B, B₀, B₄}
+use Rattle.steps.specs.Worked.{freshTold, cases}
+use Rattle.steps.specs.Worked as worked
 
 pub marked : map (λ (c : Case). freshReplies (c .come)) receiverCases ≡ map (λ (c : Case). c .answered) receiverCases
 unfolding freshReplies A B B₀ B₄ step sound receive decide act stay step3 step5 sameFragment agrees seat oldest release lower opening openCount filled opened emptyMemory isRemembered remember memoryOk among isHeld hold noneHeld said readDatagram readSmall readFragment formed goodForm nameLength goodName untilZero be overlay
 marked = refl
+
+pub worked-cases : map (λ (c : worked.Case). freshTold (c .come)) cases ≡ map (λ (c : worked.Case). c .answered) cases
+unfolding freshTold A B step sound receive decide act stay step3 step5 sameFragment agrees seat oldest release lower opening openCount filled opened emptyMemory isRemembered remember memoryOk among isHeld hold noneHeld said readDatagram readSmall readFragment formed goodForm nameLength goodName untilZero be overlay
+worked-cases = refl

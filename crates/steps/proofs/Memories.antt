@@ -1,6 +1,6 @@
 -- Laws of the memory of keys. Nothing else opens its definitions: another memory shows these laws again.
 use mathlib.Core.Path.{_≡_, refl, ap, _∙_, sym, subst}
-use mathlib.Core.Logic.{_⊎_, inl, inr}
+use mathlib.Core.Logic.{_≢_, _⊎_, inl, inr}
 use mathlib.Core.Bool.{Bool, true, false, _&&_, _||_, or-assoc, or-false, or-comm}
 use mathlib.Core.List.{List, [], _∷_, _++_, reverse, reverse-cons, reverse-append}
 use Prim.Native.Nat.{ℕ, zero, suc, _+_, _-_, _≤_, _<_}
@@ -15,7 +15,7 @@ use Rattle.wire.specs.Choice.{pick}
 use Rattle.wire.proofs.Choices.{either, never, and-l, and-r, or-l, or-r}
 use Rattle.steps.specs.Limits.{memorySize}
 use Rattle.steps.specs.Memory.{Key, noKey, sameKey, among, Memory, remembered, emptyMemory, isRemembered, remember, others, forgetKeys, memoryOk, rememberAll, since, Lately}
-use Rattle.steps.proofs.Tables.{or-none}
+use Rattle.steps.proofs.Tables.{or-not, or-none}
 
 -- ---- keys
 
@@ -227,3 +227,37 @@ forget-whole m from w =
 pub forget-other : (m : Memory) (from : ℕ) (k : Key) → isRemembered m k ≡ false → isRemembered (forgetKeys m from) k ≡ false
 unfolding isRemembered
 forget-other m from k e = ap (λ (x : List Key). among x k) (forget-shown m from) ∙ others-among from (remembered m) k e
+
+-- that sender's keys are not remembered any more
+pub forget-own : (m : Memory) (from : ℕ) (k : Key) → k .sender ≡ from → isRemembered (forgetKeys m from) k ≡ false
+unfolding isRemembered others among
+forget-own m from k e = ap (λ (x : List Key). among x k) (forget-shown m from) ∙ go (remembered m)
+  where
+    by : (x : Key) (b : Bool) → eqb (x .sender) from ≡ b → (l : List Key) → among l k ≡ false → among (pick b l (x ∷ l)) k ≡ false
+    by x true q l h = h
+    by x false q l h = or-none (sameKey x k) (among l k) (differ (sameKey x k) refl) h
+      where
+        differ : (t : Bool) → sameKey x k ≡ t → sameKey x k ≡ false
+        differ false z = z
+        differ true z = never (eq-eqb (x .sender) from (ap (λ (y : Key). y .sender) (same-key x k z) ∙ e)) q
+
+    go : (l : List Key) → among (others from l) k ≡ false
+    go [] = refl
+    go (x ∷ l) = by x (eqb (x .sender) from) refl (others from l) (go l)
+
+-- every other key is remembered as before
+pub forget-kept : (m : Memory) (from : ℕ) (k : Key) → k .sender ≢ from → isRemembered (forgetKeys m from) k ≡ isRemembered m k
+unfolding isRemembered others among
+forget-kept m from k n = ap (λ (x : List Key). among x k) (forget-shown m from) ∙ go (remembered m)
+  where
+    by : (x : Key) (b : Bool) → eqb (x .sender) from ≡ b → (l l′ : List Key) → among l k ≡ among l′ k → among (pick b l (x ∷ l)) k ≡ (sameKey x k || among l′ k)
+    by x false q l l′ h = ap (λ (t : Bool). sameKey x k || t) h
+    by x true q l l′ h = h ∙ sym (drop-it (sameKey x k) refl)
+      where
+        drop-it : (t : Bool) → sameKey x k ≡ t → (sameKey x k || among l′ k) ≡ among l′ k
+        drop-it false z = or-not (sameKey x k) (among l′ k) z
+        drop-it true z = absurd (n (sym (ap (λ (y : Key). y .sender) (same-key x k z)) ∙ eqb-true (x .sender) from q))
+
+    go : (l : List Key) → among (others from l) k ≡ among l k
+    go [] = refl
+    go (x ∷ l) = by x (eqb (x .sender) from) refl (others from l) l (go l)

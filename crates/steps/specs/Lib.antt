@@ -7,3 +7,4 @@ pub mod Receive
 pub mod Answers
 pub mod Reach
 pub mod Marked
+pub mod Worked
