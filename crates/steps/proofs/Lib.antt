@@ -4,6 +4,7 @@ pub mod Memories
 pub mod Stores
 pub mod Seats
 pub mod Branches
+pub mod Never9
 pub mod Reaches
 pub mod Marks
 pub mod Forgets

@@ -27,6 +27,7 @@ use Rattle.steps.specs.Reach.{Reached, opens, receives, forgets, InOrder
 use Rattle.steps.proofs.Tables.{all-of, or-not}
 use Rattle.steps.proofs.Memories.{same-key, Whole, whole-ok, empty-whole, remember-whole, remember-other, forget-whole, forget-other}
 use Rattle.steps.proofs.Seats.{busyAt, keyAt, counted-busy, Found, open-found, open-none, free-found, free-none, set-there, release-length, freed, left, left-busy, left-key, not-freed, oldest-low}
+use Rattle.steps.proofs.Never9.{never-by-nine}
 use Rattle.steps.proofs.Branches.{step-unsound, step-sound, receive-refused, small-again, small-open, small-whole, fragment-again, fragment-free, fragment-full, fragment-open, step3-other, step3-again, step3-differs, step3-join, step3-clash, step5-delivered, step5-kept}
 
 -- ---- slots in order, beside a memory
@@ -321,4 +322,9 @@ reached-good n m (forgets {m = m₀} r sender) = forget-good n m₀ (reached-goo
 pub reached-in-order : (n : ℕ) (m : Machine) → Reached n m → InOrder n m
 reached-in-order n m r =
     let g : Good n m = reached-good n m r in
-    record { never-nine = good-sound n m g; one-slot = g .tidy .one-slot; not-both = g .tidy .not-both }
+    record {
+      is-sound = good-sound n m g;
+      never-nine = λ store ledger a b sender d. never-by-nine m store ledger sender d (rw (a, b) (good-sound n m g));
+      one-slot = g .tidy .one-slot;
+      not-both = g .tidy .not-both;
+    }
