@@ -1,19 +1,23 @@
 -- DEMAND 3, proved.
-use mathlib.Core.Path.{_≡_, refl, sym, ap, _∙_}
+use mathlib.Core.Path.{_≡_, refl, sym, ap, _∙_, subst}
 use mathlib.Core.Logic.{_⊎_, inl, inr}
 use mathlib.Core.Bool.{Bool, true, false}
 use mathlib.Core.Option.{Option, none, some, Option·map}
 use mathlib.Core.List.{List, [], _∷_, map}
-use Prim.Native.Nat.{ℕ, _<_}
+use Prim.Native.Nat.{ℕ, _+_, _<_}
+use native.Mathlib.Decide.{ℕ-discrete}
+use lib.Dec.{eqb}
+use borrow.Author.Tests.{eq-eqb, ne-eqb}
 use Rattle.wire.proofs.Choices.{never, either}
 use Rattle.steps.specs.Search.{one}
-use Rattle.steps.specs.Memory.{rememberAll}
+use Rattle.steps.specs.Memory.{sameKey, rememberAll}
 use Rattle.steps.specs.Slots.{busy, slotAt}
 use Rattle.steps.proofs.Tables.{all-of}
-use Rattle.arrival.specs.Demand.{Scene, Feed, start, _▹_, Event, parts, size, message, Supposed, got, done, completes, completed, keysOf, call, after, delivery, Delivery, own, deliveries, push, inOrderOfCompletion, AtCompletion, NoneEmptied, Promised, Demand3}
-use Rattle.arrival.proofs.Track.{Lawful, Fair, fair-of, done-once, ended-dead}
+use Rattle.steps.proofs.Memories.{key-same}
+use Rattle.arrival.specs.Demand.{Scene, Feed, start, _▹_, Event, parts, size, message, key, Supposed, got, done, completes, completed, keysOf, call, after, delivery, Delivery, own, deliveries, timesOf, push, inOrderOfCompletion, AtCompletion, NoneEmptied, Promised, Demand3}
+use Rattle.arrival.proofs.Track.{Lawful, Fair, fair-of, times, other-key, done-once, ended-dead}
 use Rattle.arrival.proofs.Order.{Inv, Fine, arrival-fine, invariant}
-use Rattle.arrival.proofs.Whole.{Tidy, whole-tidy, completed-apart}
+use Rattle.arrival.proofs.Whole.{Apart, Tidy, whole-tidy, completed-apart}
 
 module _ (σ : Scene) (law : Lawful σ) where
   fine : (f : Feed) → Fair σ f → (e : Event) → Fair σ (f ▹ e) → Fine σ f e (call σ (after σ f) e)
@@ -41,6 +45,20 @@ module _ (σ : Scene) (law : Lawful σ) where
       ∙ ap (λ (x : List Delivery). push (Option·map (own σ) (completes σ f e)) x) (delivered-own f (fair .0))
       ∙ push-map (completes σ f e) (completed σ f)
 
+  same-test : (x i : ℕ) → x < size σ → i < size σ → sameKey (key (message σ x)) (key (message σ i)) ≡ eqb x i
+  same-test x i a b = elim (ℕ-discrete x i) [
+    | yes e ↦ subst (λ (y : ℕ). sameKey (key (message σ x)) (key (message σ y)) ≡ true) e (key-same (key (message σ x))) ∙ sym (eq-eqb x i e)
+    | no e ↦ other-key σ law x i a b e ∙ sym (ne-eqb x i e)
+  ]
+
+  -- a message's key is delivered as often as the message is completed
+  once-each : (i : ℕ) → i < size σ → (l : List ℕ) → Apart σ l → timesOf (key (message σ i)) (map (own σ) l) ≡ times i l
+  unfolding timesOf times
+  once-each i b [] n = refl
+  once-each i b (x ∷ l) n =
+      ap (λ (u : Bool). one u + timesOf (key (message σ i)) (map (own σ) l)) (same-test x i (n .0) b)
+      ∙ ap (λ (y : ℕ). one (eqb x i) + y) (once-each i b l (n .2))
+
   promised : (f : Feed) → Fair σ f → ((i : ℕ) → i < size σ → done σ f i ≡ true) → Promised σ f
   promised f fair full =
       let v : Inv σ f (after σ f) = invariant σ law f fair in
@@ -48,7 +66,9 @@ module _ (σ : Scene) (law : Lawful σ) where
       let u : Inv σ (inOrderOfCompletion σ f) (after σ (inOrderOfCompletion σ f)) = invariant σ law (inOrderOfCompletion σ f) (t .fair) in
       record {
         at-completion = at-completion f fair;
-        once = λ i b. done-once σ law f fair i b ∙ ap one (full i b);
+        once = λ i b.
+            ap (timesOf (key (message σ i))) (delivered-own f fair)
+            ∙ once-each i b (completed σ f) (completed-apart σ law f fair) ∙ done-once σ law f fair i b ∙ ap one (full i b);
         same-deliveries = delivered-own f fair ∙ sym (delivered-own (inOrderOfCompletion σ f) (t .fair) ∙ ap (map (own σ)) (t .list));
         same-memory = v .memory ∙ sym (u .memory ∙ ap (λ (l : List ℕ). rememberAll (keysOf σ l)) (t .list));
         none-emptied = none-emptied f fair;

@@ -20,7 +20,7 @@ use Rattle.steps.specs.Slots.{oldest, openCount, lower, release, releaseOf, sea
 use Rattle.steps.specs.Receive.{Machine, After, opened, stay, sameFragment, agrees, step3, decide, step5, act, receive, sound, step, forget}
 use Rattle.steps.specs.Answers.{Reply, refusedBy, kept, delivered, reply}
 use Rattle.steps.specs.Marked.{A, B}
-use Rattle.arrival.specs.Demand.{Feed, Delivery, after, delivery, deliveries, done, unfinished, completes, completed, times, Promised}
+use Rattle.arrival.specs.Demand.{Feed, Delivery, after, delivery, deliveries, done, unfinished, completes, completed, Promised}
 use Rattle.arrival.specs.Worked.{A-of, B-of, small-of, A-gap, B-gap, fromEach, EachNeeded, twinScene, twinFeed, gapScene, bothFeed, largeScene, barredScene, oneScene, strangerFeed, lackingFeed, nineScene, crowdedFeed, manyScene, manyFeed}
 use Rattle.arrival.proofs.Tests.{tests, giving}
 

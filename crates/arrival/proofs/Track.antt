@@ -18,7 +18,7 @@ use Rattle.steps.specs.Search.{allBelow, one, count}
 use Rattle.steps.specs.Memory.{sameKey, among, Lately}
 use Rattle.steps.proofs.Tables.{or-not, or-yes, all-at, all-of, all-not, all-cong}
 use Rattle.steps.proofs.Memories.{same-key, key-same}
-use Rattle.arrival.specs.Demand.{Message, Scene, Distinct, EachSent, SentCut, SentSmall, Sent, key, parts, size, message, slotBytes, Event, part, noise, Feed, start, _▹_, RefusedForForm, MayCome, Mixture, NeverOverEight, StillKnown, NeverTooLate, got, begun, done, completes, completed, keysOf, unfinished, push, times}
+use Rattle.arrival.specs.Demand.{Message, Scene, Distinct, EachSent, SentCut, SentSmall, Sent, key, parts, size, message, slotBytes, Event, part, noise, Feed, start, _▹_, RefusedForForm, MayCome, Mixture, NeverOverEight, StillKnown, NeverTooLate, got, begun, done, completes, completed, keysOf, unfinished, push}
 
 -- ---- what is supposed, arrival by arrival
 
@@ -49,6 +49,11 @@ arrival-of σ f (noise from d) a b c = a
 pub fair-of : (σ : Scene) (f : Feed) → Mixture σ f → NeverOverEight σ f → NeverTooLate σ f → Fair σ f
 fair-of σ start a b c = tt
 fair-of σ (f ▹ e) a b c = (fair-of σ f (a .0) (b .0) (c .0), arrival-of σ f e (a .1) (b .1) (c .1))
+
+-- how often i stands in l
+unfoldable pub times : ℕ → List ℕ → ℕ
+times i [] = 0
+times i (x ∷ xs) = one (eqb x i) + times i xs
 
 -- ---- one arrival, datagram k of message i
 
@@ -144,7 +149,7 @@ module _ (σ : Scene) (law : Lawful σ) where
   unfolding done
   nothing-done i b = all-not (parts (message σ i)) (got start i) 0 (has-parts σ law i b) refl
 
-  other-key : (a i : ℕ) → a < size σ → i < size σ → a ≢ i → sameKey (key (message σ a)) (key (message σ i)) ≡ false
+  pub other-key : (a i : ℕ) → a < size σ → i < size σ → a ≢ i → sameKey (key (message σ a)) (key (message σ i)) ≡ false
   other-key a i p q n = elim (either (sameKey (key (message σ a)) (key (message σ i)))) [
     | inl e ↦ absurd (n (law .distinct a i p q (same-key (key (message σ a)) (key (message σ i)) e)))
     | inr e ↦ e

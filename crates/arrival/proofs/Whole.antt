@@ -12,8 +12,8 @@ use borrow.Author.Tests.{eq-eqb, ne-eqb, lt-ltb, le-ltb}
 use Rattle.wire.proofs.Choices.{never}
 use Rattle.steps.specs.Search.{allBelow, one, count}
 use Rattle.steps.proofs.Tables.{or-not, or-yes, all-of, all-not, count-one}
-use Rattle.arrival.specs.Demand.{Scene, parts, size, message, Event, part, noise, Feed, start, _▹_, got, begun, done, completes, completed, unfinished, fedWhole, oneAfterAnother, times}
-use Rattle.arrival.proofs.Track.{Lawful, MayArrive, Fair, got-own, begun-other, not-begun, done-other, completes-yes, completes-not, completed-none, completed-some, done-once, has-parts, Change, same, more, change}
+use Rattle.arrival.specs.Demand.{Scene, parts, size, message, Event, part, noise, Feed, start, _▹_, got, begun, done, completes, completed, unfinished, fedWhole, oneAfterAnother}
+use Rattle.arrival.proofs.Track.{Lawful, MayArrive, Fair, got-own, begun-other, not-begun, done-other, completes-yes, completes-not, completed-none, completed-some, done-once, has-parts, Change, same, more, change, times}
 
 -- distinct messages of the scene
 abbrev pub Apart : Scene → List ℕ → Type 0

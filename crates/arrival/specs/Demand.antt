@@ -16,7 +16,7 @@ use Rattle.steps.specs.Limits.{slotCount, ledgerLength, slotSizeOf}
 use Rattle.steps.specs.Search.{allBelow, one, count}
 use Rattle.steps.specs.declared.Key.{Key}
 use Rattle.steps.specs.declared.Emptied.the-variants.{Nobody}
-use Rattle.steps.specs.Memory.{keyOf, Lately}
+use Rattle.steps.specs.Memory.{keyOf, sameKey, Lately}
 use Rattle.steps.specs.Slots.{busy, slotAt}
 use Rattle.steps.specs.Receive.{Machine, After, opened, step, sequenceOf}
 use Rattle.steps.specs.Answers.{Reply, refusedBy, kept, repeat, delivered, reply}
@@ -236,20 +236,20 @@ abbrev pub AtCompletion : Scene → Feed → Type 0
 AtCompletion σ start = Unit {0}
 AtCompletion σ (f ▹ e) = AtCompletion σ f × (delivery σ f e ≡ Option·map (own σ) (completes σ f e))
 
--- how often i stands in l
-unfoldable pub times : ℕ → List ℕ → ℕ
-times i [] = 0
-times i (x ∷ xs) = one (eqb x i) + times i xs
-
-abbrev pub Once : Scene → Feed → Type 0
-Once σ f = (i : ℕ) → i < size σ → times i (completed σ f) ≡ 1
-
--- ==== "The delivered keys, names and bytes in order, and the memory of keys, are as if the messages had been fed whole, one after another, in order of completion"
-
 -- all that is delivered, the latest first
 unfoldable pub deliveries : Scene → Feed → List Delivery
 deliveries σ start = []
 deliveries σ (f ▹ e) = push (delivery σ f e) (deliveries σ f)
+
+-- how many of these are of key k
+unfoldable pub timesOf : Key → List Delivery → ℕ
+timesOf k [] = 0
+timesOf k (x ∷ xs) = one (sameKey (x .key) k) + timesOf k xs
+
+abbrev pub Once : Scene → Feed → Type 0
+Once σ f = (i : ℕ) → i < size σ → timesOf (key (message σ i)) (deliveries σ f) ≡ 1
+
+-- ==== "The delivered keys, names and bytes in order, and the memory of keys, are as if the messages had been fed whole, one after another, in order of completion"
 
 -- the first n datagrams of message i, one after another
 unfoldable pub fedWhole : Feed → ℕ → ℕ → Feed
