@@ -239,7 +239,7 @@ whole-more ys [] h = absurd (let z : ⊥ = omega arith in z)
 whole-more ys (x ∷ r) h = refl
 
 module _ {A B : Type 0} {Few : ℕ → ℕ → Type 0} {s : List A} {X : Run A B} {t0 at to : ℕ} {o0 o1 : List B} (h : Sofar Few s o0 t0 X (got []) at to o1) where
-  run-is : X ≡ got (h .ys) (drop at s)
+  pub run-is : X ≡ got (h .ys) (drop at s)
   unfolding prepend
   run-is = h .whole ∙ ap (λ (l : List B). got l (drop at s)) (append-nil (h .ys))
 

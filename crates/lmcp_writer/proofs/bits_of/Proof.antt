@@ -1,0 +1,24 @@
+-- `lmcp_writer::bits_of` meets its contract.
+use mathlib.Core.Path.{_≡_, refl, sym, ap, _∙_, subst}
+use mathlib.Core.Bool.{Bool, true, false}
+use lib.IntN.{ℤ, pos, negsuc, _-ℤ_, natAbs}
+use lib.Signed.{mag, ltZ, nonNeg}
+use Rattle.lmcp_writer.proofs.Cases.{through, negative-bits, positive-bits}
+use borrow.Author.Needs.{needs}
+use Rattle.lmcp_writer.proofs.bits_of.Statement.{statement}
+use Rattle.lmcp_writer.proofs.bits_of.Tie as tie
+
+size-of-requires : tie.Need-size-of-requires
+size-of-requires c κs = search needs
+
+sub-result : tie.Need-sub-result
+sub-result c = search needs
+
+returns : tie.Need-returns
+returns c = negative-bits (c .before .before .args .z) (c .before .size-of .result) (c .before .size-of .ensures ∙ ap mag (through (c .before .before .args .z) (c .before .before .fits .z))) (subst (λ (y : ℤ). ltZ y (pos 0) ≡ true) (through (c .before .before .args .z) (c .before .before .fits .z)) (c .if1 .taken))
+
+returns-2 : tie.Need-returns-2
+returns-2 c = positive-bits (c .before .before .args .z) (c .before .size-of .result) (c .before .size-of .ensures ∙ ap mag (through (c .before .before .args .z) (c .before .before .fits .z))) (subst (λ (y : ℤ). ltZ y (pos 0) ≡ false) (through (c .before .before .args .z) (c .before .before .fits .z)) (c .if1 .left))
+
+pub bits-of-spec : {M : Type 1} → statement M
+bits-of-spec = tie.close (tie.spec size-of-requires sub-result returns returns-2)

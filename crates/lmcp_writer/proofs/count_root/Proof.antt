@@ -1,0 +1,40 @@
+-- `lmcp_writer::count_root` meets its contract: of no output nothing is left.
+use mathlib.Core.Path.{_≡_, refl, sym, ap, _∙_, subst}
+use mathlib.Core.List.{List, [], _∷_, _++_}
+use Rattle.lmcp.proofs.Goes.{empty}
+use Prim.Native.Nat.{ℕ}
+use Rattle.lmcp_writer.specs.Steps.{Ends, writeRoot}
+use borrow.Author.Needs.{needs}
+use Rattle.lmcp_writer.proofs.count_root.Statement.{statement}
+use Rattle.lmcp_writer.proofs.count_root.Tie as tie
+
+slice-relend-prefix-put-root : tie.Need-slice-relend-prefix-put-root
+slice-relend-prefix-put-root c = search needs
+
+slice-aggregate-put-root : tie.Need-slice-aggregate-put-root
+slice-aggregate-put-root c = search needs
+
+put-root-requires : tie.Need-put-root-requires
+put-root-requires c κs = search needs
+
+same-length : tie.Need-same-length
+same-length c = search needs
+
+returns : tie.Need-returns
+returns c =
+    let a = c .before .before .before .before .before .args in
+    let o : List ℕ = c .before .before .put-root .last .1 .1 .0 in
+    let nil : o ≡ [] = empty o (c .before .before .put-root .kept .1 .1 .0) in (
+      ap (λ (l : List ℕ). l ++ a .out .now) nil,
+      subst (λ (l : List ℕ). Ends (a .list .now) [] 8 (writeRoot (a .version) (a .list .now)) (c .before .before .put-root .result) l) nil (c .before .before .put-root .ensures),
+    )
+
+pub count-root-spec : {M : Type 1} → statement M
+count-root-spec =
+    tie.close
+    (tie.spec
+    slice-relend-prefix-put-root
+    slice-aggregate-put-root
+    put-root-requires
+    same-length
+    returns)

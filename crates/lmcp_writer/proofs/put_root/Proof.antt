@@ -1,0 +1,69 @@
+-- `lmcp_writer::put_root` meets its contract: an empty list, a null root, an object.
+use mathlib.Core.Path.{_≡_, refl, sym, ap, _∙_, subst}
+use mathlib.Core.Bool.{Bool, true, false}
+use mathlib.Core.List.{List, [], _∷_, _++_}
+use Prim.Native.Nat.{ℕ, _+_, _-_, _*_, _≤_, _<_}
+use native.Mathlib.Omega.{arith}
+use lib.IntN.{ℤ, pos}
+use lib.ListN.{length, getD, drop}
+use Rattle.lmcp.specs.Limits.{deepest}
+use Rattle.lmcp.specs.Table.{pitsurv}
+use Rattle.lmcp.specs.Value.{below}
+use Rattle.lmcp.specs.Write.{writing}
+use Rattle.lmcp.specs.Ends.{Few15}
+use Rattle.lmcp.proofs.Goes.{same-run, root-stops, root-null, root-object, empty}
+use Rattle.lmcp_writer.proofs.Cases.{through, here, head-end, head-null, root-some}
+use borrow.Author.Needs.{needs}
+use Rattle.lmcp_writer.proofs.put_root.Statement.{statement}
+use Rattle.lmcp_writer.proofs.put_root.Tie as tie
+
+returns : tie.Need-returns
+returns c =
+    let a = c .before .before .args in
+    let T = pitsurv (a .version) in
+    root-stops (writing T) T (a .list .now) 25 (head-end T deepest 0 (a .list .now) (empty (a .list .now) (c .if1 .taken)))
+
+shared-slice-copy-out-z : tie.Need-shared-slice-copy-out-z
+shared-slice-copy-out-z c = search needs
+
+below-of-requires : tie.Need-below-of-requires
+below-of-requires c κs = search needs
+
+returns-2 : tie.Need-returns-2
+returns-2 c =
+    let a = c .before .before .before .before .before .args in
+    let T = pitsurv (a .version) in
+    let z : ℤ = getD (a .list .now) 0 (pos 0) in
+    let same = through z (record { sfits = c .before .before .z .given }) in
+    let e = here (a .list .now) 0 (omega (arith, c .before .before .before .if1 .left)) in
+    let f : below 1 z ≡ true = sym (c .before .below-of .ensures ∙ ap (below 1) same) ∙ c .if2 .taken in
+    root-null (writing T) T (a .list .now) (head-null T deepest 0 (a .list .now) (drop (0 + 1) (a .list .now)) z e f)
+
+put-object-requires : tie.Need-put-object-requires
+put-object-requires c κs = search needs
+
+same-length : tie.Need-same-length
+same-length c = search needs
+
+returns-3 : tie.Need-returns-3
+returns-3 c =
+    let a = c .before .before .before .before .before .before .before .before .before .args in
+    let T = pitsurv (a .version) in
+    let z : ℤ = getD (a .list .now) 0 (pos 0) in
+    let same = through z (record { sfits = c .before .before .before .before .before .before .z .given }) in
+    let e = here (a .list .now) 0 (omega (arith, c .before .before .before .before .before .before .before .if1 .left)) in
+    let f : below 1 z ≡ false = sym (c .before .before .before .before .before .below-of .ensures ∙ ap (below 1) same) ∙ c .before .before .before .before .if2 .left in
+    same-run Few15 (a .list .now) (a .out .now) 8 (c .before .before .put-object .result) (c .before .before .put-object .last .1 .1 .1 .1 .1 .0)
+    (root-object (writing T) T (a .list .now) (root-some T deepest 0 (a .list .now) (drop (0 + 1) (a .list .now)) z e f)) (c .before .before .put-object .ensures)
+
+pub put-root-spec : {M : Type 1} → statement M
+put-root-spec =
+    tie.close
+    (tie.spec
+    returns
+    shared-slice-copy-out-z
+    below-of-requires
+    returns-2
+    put-object-requires
+    same-length
+    returns-3)
