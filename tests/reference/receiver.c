@@ -158,6 +158,16 @@ struct ref_answer ref_receive(struct ref_receiver *r, u64 sender, const u8 *d, u
     return keep_or_deliver(r, s, d, &h, answer);
 }
 
+/* Frees the sender's slots and drops its remembered keys; the rest keep their order. */
+void ref_forget(struct ref_receiver *r, u64 sender) {
+    int kept = 0;
+    for (int s = 0; s < SLOTS; s++)
+        if (r->slots[s].busy && r->slots[s].key.sender == sender) r->slots[s].busy = 0;
+    for (int i = 0; i < r->remembered; i++)
+        if (r->memory[i].sender != sender) r->memory[kept++] = r->memory[i];
+    r->remembered = kept;
+}
+
 /* ---- the watch */
 
 enum ref_seen ref_watch(struct ref_watch *w, u32 sequence, u64 *by) {

@@ -94,6 +94,7 @@ struct ref_answer {
 
 void ref_open(struct ref_receiver *r, u8 *store, u64 store_length);
 struct ref_answer ref_receive(struct ref_receiver *r, u64 sender, const u8 *d, u64 length);
+void ref_forget(struct ref_receiver *r, u64 sender);
 
 /* ---- the watch of one sender */
 
