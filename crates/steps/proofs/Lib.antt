@@ -1,3 +1,4 @@
+pub mod Answered
 pub mod Tables
 pub mod Helds
 pub mod Memories
@@ -6,5 +7,4 @@ pub mod Seats
 pub mod Branches
 pub mod Never9
 pub mod Reaches
-pub mod Marks
 pub mod Forgets

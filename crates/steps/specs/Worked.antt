@@ -1,11 +1,13 @@
 -- Worked cases beside the marked ones: what is answered, with the emptied key. Definitions only.
+use mathlib.Core.Bool.{Bool}
 use mathlib.Core.Option.{Option, none, some}
-use mathlib.Core.List.{List, [], _∷_}
+use mathlib.Core.List.{List, [], _∷_, map}
 use Prim.Native.Nat.{ℕ, zero, suc}
 use lib.ListN.{replicate}
 use Rattle.steps.specs.Limits.{ledgerLength}
-use Rattle.steps.specs.Memory.{Key, keyOf}
-use Rattle.steps.specs.Receive.{Machine, After, opened, step}
+use Rattle.steps.specs.Memory.{Key, keyOf, isRemembered, rememberAll, forgetKeys}
+use Rattle.steps.specs.Slots.{busy, slotAt}
+use Rattle.steps.specs.Receive.{Machine, After, opened, step, forget}
 use Rattle.steps.specs.Answers.{Reply, refusedBy, kept, repeat, delivered, reply, emptiedKey}
 use Rattle.steps.specs.Marked.{A, B}
 
@@ -81,3 +83,26 @@ cases =
     -- a datagram that is refused empties nothing
     ∷ case (eightBegun (headOf 8 5 0 0 1 (0x50 ∷ 0 ∷ 0x41 ∷ []) ∷ beginning 7 ∷ [])) (eightKept (only (refusedBy 6) ∷ only repeat ∷ []))
     ∷ []
+
+-- ---- 65 deliveries, and forget
+
+-- the keys of sender 0 with sequences below n, the latest first
+abbrev pub keysBelow : ℕ → List Key
+keysBelow zero = []
+keysBelow (suc n) = keyOf 0 n ∷ keysBelow n
+
+-- after 65 deliveries the first is not remembered any more; the second and the last are
+unfoldable pub pastMemory : List Bool
+pastMemory = map (isRemembered (rememberAll (keysBelow 65))) (keyOf 0 0 ∷ keyOf 0 1 ∷ keyOf 0 64 ∷ [])
+
+-- a sender is forgotten, another is not
+unfoldable pub forgottenKeys : List Bool
+forgottenKeys = map (isRemembered (forgetKeys (rememberAll (keyOf 1 5 ∷ keyOf 2 6 ∷ keyOf 1 7 ∷ [])) 1)) (keyOf 1 5 ∷ keyOf 2 6 ∷ keyOf 1 7 ∷ [])
+
+-- slot 0 is open for sender 0: is it still, once a sender is forgotten?
+unfoldable pub openAfter : ℕ → Bool
+openAfter sender =
+    busy (slotAt (forget (step (opened 32) (replicate 32 9) (replicate ledgerLength 7) 0 B .machine) sender .machine .slots) 0)
+
+abbrev pub memoryTold : List (List Bool)
+memoryTold = pastMemory ∷ forgottenKeys ∷ (openAfter 0 ∷ openAfter 1 ∷ []) ∷ []
