@@ -11,3 +11,4 @@ pub mod Ours
 pub mod Tests
 pub mod Works
 pub mod Needed
+pub mod Computed
