@@ -9,7 +9,8 @@ use native.Mathlib.Omega.{arith}
 use borrow.Author.Tests.{eq-eqb, ne-eqb}
 use lib.ListN.{length, getD, set, take, drop, replicate, length-append, length-set}
 use lib.Seq.{drop-cons, take-at, set-append-seam, append-snoc}
-use Rattle.memory.specs.Words.{memorySize, someBelow, shiftedIn, senders, othersIn, front, sievedIn}
+use Rattle.steps.specs.Limits.{memorySize}
+use Rattle.memory.specs.Words.{someBelow, shiftedIn, senders, othersIn, front, sievedIn}
 use Rattle.memory.specs.declared.Sieved.{Sieved}
 
 or-true : (b : Bool) → (b || true) ≡ true

@@ -7,7 +7,7 @@ use lib.ListN.{length, getD, set, drop, replicate}
 use lib.Dec.{eqb, ltb}
 use Rattle.wire.specs.Choice.{pick}
 use Rattle.wire.specs.Overlay.{overlay}
-pub use Rattle.steps.specs.Limits.{memorySize}
+use Rattle.steps.specs.Limits.{memorySize}
 use Rattle.memory.specs.declared.Sieved.{Sieved}
 
 -- where the senders begin

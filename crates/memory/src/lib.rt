@@ -2,7 +2,8 @@
 ghost use mathlib.Core.Path.{_≡_};
 ghost use Prim.Native.Nat.{_-_, _≤_, _<_, min};
 ghost use lib.ListN.{getD};
-ghost use Rattle.memory.specs.Words.{memorySize, senders, sequences, someBelow, keyAt, shiftedIn, rememberedIn, sievedIn, forgottenIn};
+ghost use Rattle.steps.specs.Limits.{memorySize};
+ghost use Rattle.memory.specs.Words.{senders, sequences, someBelow, keyAt, shiftedIn, rememberedIn, sievedIn, forgottenIn};
 
 // How many keys are remembered.
 pub const MEMORY_SIZE: usize = 64;

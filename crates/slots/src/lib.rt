@@ -16,17 +16,19 @@ pub const HEAD: usize = 2;
 // The words of a slot: sender, sequence, size, count, turn, and the held fragments, a bit for each.
 pub const BLOCK: usize = 9;
 
-const SENDER: usize = 0;
+pub const SENDER: usize = 0;
 
-const SEQUENCE: usize = 1;
+pub const SEQUENCE: usize = 1;
 
-const SIZE: usize = 2;
+pub const SIZE: usize = 2;
 
-const COUNT: usize = 3;
+pub const COUNT: usize = 3;
 
-const TURN: usize = 4;
+pub const TURN: usize = 4;
 
 pub const HELD: usize = 5;
+
+pub const HELD_WORDS: usize = 4;
 
 pub enum Found {
     At(usize),

@@ -4,7 +4,8 @@ use mathlib.Core.Bool.{false}
 use Prim.Native.Nat.{_-_, _≤_}
 use native.Mathlib.Omega.{arith}
 use borrow.Author.Needs.{needs}
-use Rattle.memory.specs.Words.{memorySize, someBelow, keyAt}
+use Rattle.steps.specs.Limits.{memorySize}
+use Rattle.memory.specs.Words.{someBelow, keyAt}
 use Rattle.memory.proofs.Loops.{some-more, some-hit}
 use Rattle.memory.proofs.is_remembered.Statement.{statement}
 use Rattle.memory.proofs.is_remembered.Tie as tie

@@ -4,7 +4,8 @@ use Prim.Native.Nat.{_≤_, _<_}
 use lib.ListN.{getD}
 use borrow.Author.Tests.{lt-ltb, le-ltb}
 use borrow.Author.Needs.{needs}
-use Rattle.memory.specs.Words.{memorySize, rememberedIn}
+use Rattle.steps.specs.Limits.{memorySize}
+use Rattle.memory.specs.Words.{rememberedIn}
 use Rattle.memory.proofs.remember.Statement.{statement}
 use Rattle.memory.proofs.remember.Tie as tie
 

@@ -4,7 +4,8 @@ use Prim.Native.Nat.{_-_, _≤_}
 use native.Mathlib.Omega.{arith}
 use lib.ListN.{length}
 use borrow.Author.Needs.{needs}
-use Rattle.memory.specs.Words.{memorySize, sequences, shiftedIn}
+use Rattle.steps.specs.Limits.{memorySize}
+use Rattle.memory.specs.Words.{sequences, shiftedIn}
 use Rattle.memory.proofs.Loops.{shifted-none, shifted-more, shifted-length}
 use Rattle.memory.proofs.shift.Statement.{statement}
 use Rattle.memory.proofs.shift.Tie as tie

@@ -5,7 +5,8 @@ use Prim.Native.Nat.{_+_, _-_, _≤_}
 use native.Mathlib.Omega.{arith}
 use lib.ListN.{length, getD, replicate}
 use borrow.Author.Needs.{needs}
-use Rattle.memory.specs.Words.{memorySize, senders, sequences, othersIn, front, sievedIn}
+use Rattle.steps.specs.Limits.{memorySize}
+use Rattle.memory.specs.Words.{senders, sequences, othersIn, front, sievedIn}
 use Rattle.memory.proofs.Loops.{others-same, others-length, others-front}
 use Rattle.memory.proofs.sieve.Statement.{statement}
 use Rattle.memory.proofs.sieve.Tie as tie

@@ -1,0 +1,9 @@
+pub mod Windows
+pub mod Firsts
+pub mod Bridge
+pub mod Moves
+pub mod Cases
+pub mod Ends
+pub mod Unique
+pub mod Gates
+pub mod Others

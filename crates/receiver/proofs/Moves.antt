@@ -1,0 +1,195 @@
+-- One lemma for each change of the state: what the words and names hold then shows the machine that the step list gives.
+use mathlib.Core.Path.{_≡_, refl, sym, _∙_, ap}
+use mathlib.Core.Logic.{inl, inr}
+use mathlib.Core.Bool.{Bool, true, false}
+use mathlib.Core.List.{List, [], _∷_, _++_, map, append-assoc}
+use Prim.Native.Nat.{ℕ, zero, suc, _+_, _-_, _*_, _≤_, _<_}
+use native.Mathlib.Numerals.{unary-clauses}
+use native.Mathlib.Nat.{mul-le-mul-right}
+use native.Mathlib.Omega.{arith}
+use lib.Dec.{eqb}
+use lib.ListN.{length, getD, set, take, drop, replicate, length-drop, length-append, length-replicate}
+use lib.Seq.{take-all}
+use Rattle.wire.specs.Choice.{pick}
+use Rattle.wire.specs.Overlay.{overlay}
+use Rattle.wire.proofs.Choices.{either}
+use Rattle.wire.proofs.Overlays.{overlay-at, overlay-eq, length-overlay}
+use Rattle.datagram.specs.Limits.{maxName, maxPayload}
+use Rattle.datagram.specs.Read.{partOf}
+use Rattle.datagram.specs.Said.{Fragment, fragmentIn}
+use Rattle.datagram.specs.declared.Header.{Header}
+use Rattle.steps.specs.Limits.{slotCount, memorySize}
+use Rattle.steps.specs.Search.{count}
+use Rattle.steps.specs.Held.{heldWords, noneHeld, hold}
+use Rattle.steps.specs.declared.Key.{Key}
+use Rattle.steps.specs.Memory.{keyOf, remember, forgetKeys}
+use Rattle.steps.specs.Slots.{Slot, noName, padded, noSlot, slotAt, openCount, lower, release, filled}
+use Rattle.steps.specs.Receive.{Machine, withSlots}
+use Rattle.steps.proofs.Helds.{hold-length}
+use Rattle.steps.proofs.Stores.{write-out}
+use Rattle.memory.specs.Words.{memoryWords, rememberedIn, forgottenIn}
+use Rattle.memory.specs.Keys.{memoryIn}
+use Rattle.memory.proofs.Keys.{used-is, remembered-memory, remembered-length, forgotten-memory, forgotten-length}
+use Rattle.slots.specs.Words.{blockWords, blockAt, at, turnWord, heldWord, busyIn, lowered}
+use Rattle.slots.proofs.Loops.{lowered-length}
+use Rattle.receiver.specs.View.{memoryAt, stateWords, nameBytes, block, nameIn, slotIn, slotOf, slotsOf, memoryOf, view}
+use Rattle.receiver.specs.Parts.{Shaped, Known, Shows, openedSlot, namedIn, Recalls}
+use Rattle.receiver.proofs.Windows.{window-length, window-inner, overlay-whole, part-back}
+use Rattle.receiver.proofs.Bridge.{word, slot-at, open-many, block-view, both-view, lowered-view, memory-view}
+
+-- ---- names
+
+drop-replicate : (n m x : ℕ) → drop n (replicate m x) ≡ replicate (m - n) x
+drop-replicate zero m x = simp unary-clauses
+drop-replicate (suc n) zero x = let e : 0 - suc n ≡ 0 = omega arith in rw e
+drop-replicate (suc n) (suc m) x = simp unary-clauses (drop-replicate n m x)
+
+-- a name with zeros after it
+pub padded-is : (nm : List ℕ) → length nm ≤ maxName → overlay (replicate maxName 0) 0 nm ≡ padded nm
+padded-is nm h =
+    let e : 0 + length nm ≡ length nm = omega arith in
+    overlay-eq (replicate maxName 0) 0 nm (omega arith) ∙ ap (λ (k : ℕ). nm ++ drop k (replicate maxName 0)) e ∙ ap (λ (l : List ℕ). nm ++ l) (drop-replicate (length nm) maxName 0)
+
+pub padded-length : (nm : List ℕ) → length nm ≤ maxName → length (padded nm) ≡ maxName
+padded-length nm h = omega (arith, length-append nm (replicate (maxName - length nm) 0), length-replicate {A = ℕ} (maxName - length nm) 0)
+
+-- ---- a slot is freed, or taken
+
+module _ (w n : List ℕ) (sh : Shaped w n) (s : ℕ) (h : s < slotCount) where
+  -- a whole block and name
+  whole-view : (x y : List ℕ) → length x ≡ blockWords → length y ≡ maxName
+      → view (overlay w (blockAt s) x) (overlay n (maxName * s) y) ≡ withSlots (view w n) (set (slotsOf w n) s (slotIn x y)) (memoryOf w)
+  whole-view x y l k =
+      let e : blockAt s ≡ blockAt s + 0 = omega arith in
+      ap (λ (a : ℕ). view (overlay w a x) (overlay n (maxName * s) y)) e
+      ∙ both-view w n sh s h 0 x (omega arith) y k
+      ∙ ap (λ (b : List ℕ). withSlots (view w n) (set (slotsOf w n) s (slotIn b y)) (memoryOf w)) (overlay-whole (block w s) x (l ∙ sym (window-length blockWords (blockAt s) w (omega (arith, sh .words)))))
+
+  turn-is : at w s turnWord ≡ slotAt (slotsOf w n) s .turn
+  turn-is = sym (ap (λ (x : Slot). x .turn) (slot-at w n s h) ∙ word w s turnWord (omega arith))
+
+  zero-slot : slotIn (replicate blockWords 0) noName ≡ noSlot
+  unfolding noneHeld
+  zero-slot = refl
+
+  pub released : (t : ℕ) (w1 w2 n1 : List ℕ) → t ≡ at w s turnWord → w1 ≡ overlay w (blockAt s) (replicate blockWords 0) → w2 ≡ lowered w1 t slotCount
+      → n1 ≡ overlay n (maxName * s) noName → Shows (withSlots (view w n) (release (slotsOf w n) s) (memoryOf w)) w2 n1
+  unfolding release
+  released t w1 w2 n1 et e1 e2 e3 =
+      let l1 : length w1 ≡ stateWords = ap length e1 ∙ length-overlay w (blockAt s) (replicate blockWords 0) ∙ sh .words in
+      let one : view w1 n1 ≡ withSlots (view w n) (set (slotsOf w n) s noSlot) (memoryOf w) =
+      (λ i. view (e1 i) (e3 i)) ∙ whole-view (replicate blockWords 0) noName refl refl
+      ∙ ap (λ (x : Slot). withSlots (view w n) (set (slotsOf w n) s x) (memoryOf w)) zero-slot in
+      record {
+        machine = ap (λ (x : List ℕ). view x n1) e2 ∙ lowered-view w1 n1 t l1
+            ∙ ap (λ (m : Machine). withSlots m (map (lower t) (m .slots)) (m .memory)) one
+            ∙ ap (λ (x : ℕ). withSlots (view w n) (map (lower x) (set (slotsOf w n) s noSlot)) (memoryOf w)) (et ∙ turn-is);
+        shape = record { words = ap length e2 ∙ lowered-length w1 t slotCount ∙ l1; bytes = ap length e3 ∙ length-overlay n (maxName * s) noName ∙ sh .bytes };
+      }
+
+  pub occupied : (a q z c t : ℕ) (w1 n1 : List ℕ) → t ≡ count (busyIn w) slotCount → w1 ≡ overlay w (blockAt s) (a ∷ q ∷ z ∷ c ∷ t ∷ 0 ∷ 0 ∷ 0 ∷ 0 ∷ [])
+      → n1 ≡ overlay n (maxName * s) noName
+      → Shows (withSlots (view w n) (set (slotsOf w n) s (openedSlot (slotsOf w n) (keyOf a q) z c)) (memoryOf w)) w1 n1
+  unfolding noneHeld
+  occupied a q z c t w1 n1 et e1 e3 = record {
+    machine = (λ i. view (e1 i) (e3 i)) ∙ whole-view (a ∷ q ∷ z ∷ c ∷ t ∷ 0 ∷ 0 ∷ 0 ∷ 0 ∷ []) noName refl refl
+        ∙ ap (λ (x : ℕ). withSlots (view w n) (set (slotsOf w n) s (record { key = keyOf a q; size = z; count = c; turn = x; name = noName; held = noneHeld })) (memoryOf w)) (et ∙ sym (open-many w n));
+    shape = record { words = ap length e1 ∙ length-overlay w (blockAt s) _ ∙ sh .words; bytes = ap length e3 ∙ length-overlay n (maxName * s) noName ∙ sh .bytes };
+  }
+
+  -- ---- a fragment is held
+
+  -- a block with other held words
+  held-slot : (x y : List ℕ) → length x ≡ heldWords → slotIn (overlay (block w s) heldWord x) y ≡ record { key = slotOf w n s .key; size = slotOf w n s .size; count = slotOf w n s .count; turn = slotOf w n s .turn; name = y; held = x }
+  held-slot x y l =
+      let b = block w s in
+      let lb : length b ≡ blockWords = window-length blockWords (blockAt s) w (omega (arith, sh .words)) in
+      let o : (k : ℕ) → k < heldWord → getD (overlay b heldWord x) k 0 ≡ getD b k 0 = λ k g. write-out b heldWord x k (λ p q. omega arith) in
+      let t : take heldWords (drop heldWord (overlay b heldWord x)) ≡ x = ap (λ (k : ℕ). take k (drop heldWord (overlay b heldWord x))) (sym l) ∙ overlay-at b heldWord x (omega arith) in
+      rw (o 0 (omega arith), o 1 (omega arith), o 2 (omega arith), o 3 (omega arith), o 4 (omega arith), t)
+
+  held-part : take heldWords (drop (blockAt s + heldWord) w) ≡ slotOf w n s .held
+  held-part = sym (window-inner blockWords (blockAt s) heldWord heldWords w (omega arith))
+
+  module _ (d : List ℕ) (hd : Header) (short : length (partOf d (hd .name)) ≤ maxName) where
+    abbrev x : List ℕ
+    x = hold (slotOf w n s .held) (hd .number)
+
+    x-length : length x ≡ heldWords
+    x-length = hold-length (slotOf w n s .held) (hd .number) ∙ ap length (sym held-part) ∙ window-length heldWords (blockAt s + heldWord) w (omega (arith, sh .words))
+
+    abbrev v : List ℕ
+    v = overlay w (blockAt s + heldWord) x
+
+    filled-is : (y : List ℕ) → y ≡ pick (eqb (hd .number) 0) (padded (partOf d (hd .name))) (nameIn n s)
+        → slotIn (overlay (block w s) heldWord x) y ≡ filled (slotAt (slotsOf w n) s) (fragmentIn d hd)
+    unfolding filled
+    filled-is y e = held-slot x y x-length ∙ rw (slot-at w n s h, e)
+
+    kept-view : (b : Bool) → eqb (hd .number) 0 ≡ b
+        → view v (pick b (overlay n (maxName * s) (padded (partOf d (hd .name)))) n)
+        ≡ withSlots (view w n) (set (slotsOf w n) s (filled (slotAt (slotsOf w n) s) (fragmentIn d hd))) (memoryOf w)
+    kept-view true e =
+        both-view w n sh s h heldWord x (omega (arith, x-length)) (padded (partOf d (hd .name))) (padded-length (partOf d (hd .name)) short)
+        ∙ ap (λ (z : Slot). withSlots (view w n) (set (slotsOf w n) s z) (memoryOf w)) (filled-is (padded (partOf d (hd .name))) (rw e))
+    kept-view false e =
+        block-view w n sh s h heldWord x (omega (arith, x-length))
+        ∙ ap (λ (z : Slot). withSlots (view w n) (set (slotsOf w n) s z) (memoryOf w)) (filled-is (nameIn n s) (rw e))
+
+    named-length : length (namedIn n s hd d) ≡ nameBytes
+    named-length = go (eqb (hd .number) 0)
+      where
+        go : (b : Bool) → length (pick b (overlay n (maxName * s) (padded (partOf d (hd .name)))) n) ≡ nameBytes
+        go true = length-overlay n (maxName * s) (padded (partOf d (hd .name))) ∙ sh .bytes
+        go false = sh .bytes
+
+    -- the held words lent as a part and given back
+    pub kept : (y w1 n1 : List ℕ) (k e a : ℕ) → a ≡ blockAt s + heldWord → e ≡ a + heldWords → k ≡ hd .number
+        → y ≡ hold (take (e - a) (drop a w)) k → w1 ≡ take a w ++ (y ++ drop (e - a) (drop a w)) → n1 ≡ namedIn n s hd d
+        → Shows (withSlots (view w n) (set (slotsOf w n) s (filled (slotAt (slotsOf w n) s) (fragmentIn d hd))) (memoryOf w)) w1 n1
+    kept y w1 n1 k e a ea ee ek ey ew en =
+        let p : e - a ≡ heldWords = omega arith in
+        let r : y ≡ x = ey ∙ (rw (p, ea, ek, held-part)) in
+        let l : length y ≡ e - a = ap length r ∙ x-length ∙ sym p in
+        let q : w1 ≡ v = ew ∙ part-back a e w y (omega arith) (omega (arith, sh .words)) l ∙ (λ i. overlay w (ea i) (r i)) in
+        record {
+          machine = (λ i. view (q i) (en i)) ∙ kept-view (eqb (hd .number) 0) refl;
+          shape = record { words = ap length q ∙ length-overlay w (blockAt s + heldWord) x ∙ sh .words; bytes = ap length en ∙ named-length };
+        }
+
+-- ---- the memory lent as a part and given back
+
+module _ (w : List ℕ) (e : length w ≡ stateWords) where
+  pub memory-part : take (length w - memoryAt) (drop memoryAt w) ≡ drop memoryAt w
+  memory-part = take-all (length w - memoryAt) (drop memoryAt w) (omega (arith, length-drop memoryAt w))
+
+  pub memory-long : length (drop memoryAt w) ≡ memoryWords
+  memory-long = omega (arith, length-drop memoryAt w)
+
+  module _ (m w1 : List ℕ) (l : length m ≡ memoryWords) (ew : w1 ≡ take memoryAt w ++ (m ++ drop (length w - memoryAt) (drop memoryAt w))) where
+    back : w1 ≡ overlay w memoryAt m
+    back = ew ∙ part-back memoryAt (length w) w m (omega arith) (omega arith) (omega arith)
+
+    pub given-back : (n : List ℕ) → view w1 n ≡ withSlots (view w n) (slotsOf w n) (memoryIn m)
+    given-back n = ap (λ (x : List ℕ). view x n) back ∙ memory-view w m e l n
+
+    pub back-length : length w1 ≡ stateWords
+    back-length = ap length back ∙ length-overlay w memoryAt m ∙ e
+
+  pub recalled : (a q : ℕ) (m w1 : List ℕ) → m ≡ rememberedIn (take (length w - memoryAt) (drop memoryAt w)) a q
+      → w1 ≡ take memoryAt w ++ (m ++ drop (length w - memoryAt) (drop memoryAt w)) → Recalls w (keyOf a q) w1
+  recalled a q m w1 em ew =
+      let r : m ≡ rememberedIn (drop memoryAt w) a q = em ∙ ap (λ (x : List ℕ). rememberedIn x a q) memory-part in
+      let l : length m ≡ memoryWords = ap length r ∙ remembered-length (drop memoryAt w) a q ∙ memory-long in
+      record {
+        machine = λ n. given-back m w1 l ew n ∙ ap (withSlots (view w n) (slotsOf w n)) (ap memoryIn r ∙ remembered-memory (drop memoryAt w) a q memory-long);
+        words = back-length m w1 l ew;
+      }
+
+-- ---- where a slot's part of the store begins
+
+pub place-small : (s room : ℕ) → s < slotCount → room ≤ maxPayload → s * room ≤ slotCount * maxPayload
+place-small s room h g =
+    let le : s ≤ slotCount = omega arith in
+    let z : s * room ≤ slotCount * room = mul-le-mul-right room le in
+    omega arith

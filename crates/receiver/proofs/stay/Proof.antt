@@ -1,0 +1,13 @@
+-- `receiver::stay` meets its contract. Assumes nothing.
+use borrow.Author.Needs.{needs}
+use Rattle.receiver.proofs.stay.Statement.{statement}
+use Rattle.receiver.proofs.stay.Tie as tie
+
+no-name-requires : tie.Need-no-name-requires
+no-name-requires c κs = search needs
+
+returns : tie.Need-returns
+returns c = rw (c .no-name .ensures)
+
+pub stay-spec : {M : Type 1} → statement M
+stay-spec = tie.close (tie.spec no-name-requires returns)

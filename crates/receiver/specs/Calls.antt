@@ -1,0 +1,61 @@
+-- WHAT THE CALLS PROMISE, for every state, names, store, ledger, sender and datagram. Definitions only.
+use mathlib.Core.Path.{_≡_}
+use mathlib.Core.Option.{Option, none, some}
+use mathlib.Core.List.{List}
+use Prim.Native.Nat.{ℕ}
+use lib.ListN.{length}
+use Rattle.wire.specs.Choice.{pick}
+use Rattle.steps.specs.declared.Answer.the-variants.{Refused}
+use Rattle.steps.specs.Receive.{Machine, After, opened, stay, step, forget, Forgot}
+use Rattle.receiver.specs.View.{view, shaped}
+use Rattle.receiver.specs.declared.Outcome.{Outcome}
+use Rattle.receiver.specs.declared.Call.{Call}
+use Rattle.receiver.specs.declared.Call.the-variants as call
+
+-- the number of a refusal, or none
+abbrev pub refusalOf : Call → Option ℕ
+refusalOf call.Done = none
+refusalOf (call.Refused n) = some n
+
+-- a call of receive: the step list's; a state or names of another length is refused by 9
+unfoldable pub received : List ℕ → List ℕ → List ℕ → List ℕ → ℕ → List ℕ → After
+received w n store ledger sender d =
+    pick (shaped w n) (step (view w n) store ledger sender d) (stay (view w n) store ledger (Refused 9))
+
+-- the answer is that of a, and the lent memory shows what a leaves
+pub record Leaves (a : After) (r : Outcome) (w n sto led : List ℕ) : Type 0 where
+  pub answer : r .answer ≡ a .answer
+  pub emptied : r .emptied ≡ a .emptied
+  pub name : r .name ≡ a .name
+  pub machine : view w n ≡ a .machine
+  pub store : sto ≡ a .store
+  pub ledger : led ≡ a .ledger
+
+-- w, n, store and ledger are lent; w′, n′, store′ and ledger′ are what they hold afterwards
+pub record Receives (w n store ledger : List ℕ) (sender : ℕ) (d : List ℕ) (r : Outcome) (w′ n′ store′ ledger′ : List ℕ) : Type 0 where
+  pub leaves : Leaves (received w n store ledger sender d) r w′ n′ store′ ledger′
+  pub words : length w′ ≡ length w
+  pub bytes : length n′ ≡ length n
+  -- a refusal writes nothing
+  pub still : (k : ℕ) → r .answer ≡ Refused k → (w′ ≡ w) × (n′ ≡ n) × (store′ ≡ store) × (ledger′ ≡ ledger)
+
+-- the other calls: what machine is shown then, and whether it is refused
+pub record Changes (m : Machine) (refusal : Option ℕ) (w n : List ℕ) (r : Call) (w′ n′ : List ℕ) : Type 0 where
+  pub gave : refusalOf r ≡ refusal
+  pub machine : view w′ n′ ≡ m
+  pub words : length w′ ≡ length w
+  pub bytes : length n′ ≡ length n
+  -- a refusal writes nothing
+  pub still : (k : ℕ) → refusalOf r ≡ some k → (w′ ≡ w) × (n′ ≡ n)
+
+-- open: a fresh receiver over a store of that many bytes, or refused by 9
+abbrev pub Opens : List ℕ → List ℕ → ℕ → Call → List ℕ → List ℕ → Type 0
+Opens w n storeLength r w′ n′ =
+    Changes (pick (shaped w n) (opened storeLength) (view w n)) (pick (shaped w n) none (some 9)) w n r w′ n′
+
+-- forget: the step list's; a state or names of another length is refused by 9
+unfoldable pub forgotten : List ℕ → List ℕ → ℕ → Forgot
+forgotten w n sender = pick (shaped w n) (forget (view w n) sender) (record { machine = view w n; refusal = some 9 })
+
+abbrev pub Forgets : List ℕ → List ℕ → ℕ → Call → List ℕ → List ℕ → Type 0
+Forgets w n sender r w′ n′ = Changes (forgotten w n sender .machine) (forgotten w n sender .refusal) w n r w′ n′
