@@ -12,3 +12,4 @@ pub mod Tests
 pub mod Works
 pub mod Needed
 pub mod Computed
+pub mod Runs

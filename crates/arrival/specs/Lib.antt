@@ -1,3 +1,4 @@
 pub mod Demand
 pub mod Ours
 pub mod Worked
+pub mod Runs

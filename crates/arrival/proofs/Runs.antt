@@ -1,0 +1,100 @@
+-- A run of calls of `receive` is a run of `step`: demand 3 for the code.
+use mathlib.Core.Path.{_≡_, refl, sym, ap, _∙_, subst}
+use mathlib.Core.Bool.{Bool, true, false, _&&_}
+use mathlib.Core.Option.{Option, none, some, Option·some-ne-none}
+use mathlib.Core.List.{List, [], _∷_, map}
+use Prim.Native.Nat.{ℕ}
+use lib.Dec.{eqb}
+use lib.ListN.{length}
+use Rattle.wire.specs.Choice.{pick}
+use Rattle.datagram.specs.Limits.{maxFragments}
+use Rattle.datagram.specs.Said.{said}
+use Rattle.steps.specs.declared.Key.{Key}
+use Rattle.steps.specs.Memory.{keyOf}
+use Rattle.steps.specs.Receive.{Machine, After, opened, step, sequenceOf}
+use Rattle.steps.specs.Answers.{Reply, reply}
+use Rattle.receiver.specs.declared.Outcome.{Outcome}
+use Rattle.receiver.specs.declared.Call.{Call}
+use Rattle.receiver.specs.View.{view, shaped}
+use Rattle.receiver.specs.Calls.{refusalOf, Opens, Receives, received}
+use Rattle.arrival.specs.Demand.{Scene, slotBytes, Event, Feed, start, _▹_, senderOf, bytesOf, Delivery, nameIn, handedBy, handed, push, call, after, own, completed, delivery, deliveries, Supposed, Promised}
+use Rattle.arrival.specs.Runs.{Lent, Calls, opens, calls, handedOver, CodePromised}
+use Rattle.arrival.proofs.Track.{Lawful, fair-of}
+use Rattle.arrival.proofs.Demand3.{delivered-own, demand3}
+
+-- what is lent shows the world of the step list
+record Shows (σ : Scene) (f : Feed) (l : Lent) : Type 0 where
+  shape : shaped (l .state) (l .names) ≡ true
+  machine : view (l .state) (l .names) ≡ after σ f .machine
+  store : l .store ≡ after σ f .store
+  ledger : l .ledger ≡ after σ f .ledger
+
+shaped-on : (w n w′ n′ : List ℕ) → length w′ ≡ length w → length n′ ≡ length n → shaped w n ≡ true → shaped w′ n′ ≡ true
+shaped-on w n w′ n′ a b e = rw (a, b) e
+
+-- an opening that is not refused was of a state and names of their lengths
+was-shaped : (b : Bool) → pick {X = Option ℕ} b none (some 9) ≡ none → b ≡ true
+was-shaped true e = refl
+was-shaped false e = absurd (Option·some-ne-none 9 e)
+
+module _ (σ : Scene) where
+  opening-shows : (w n : List ℕ) (r : Call) (w′ n′ : List ℕ) → Opens w n (length (σ .store)) r w′ n′ → refusalOf r ≡ none
+      → Shows σ start (record { state = w′; names = n′; store = σ .store; ledger = σ .ledger })
+  unfolding after
+  opening-shows w n r w′ n′ o q =
+      let s : shaped w n ≡ true = was-shaped (shaped w n) (sym (o .gave) ∙ q) in
+      record {
+        shape = shaped-on w n w′ n′ (o .words) (o .bytes) s;
+        machine = o .machine ∙ ap (λ (b : Bool). pick b (opened (length (σ .store))) (view w n)) s;
+        store = refl;
+        ledger = refl;
+      }
+
+  module _ (f : Feed) (l : Lent) (h : Shows σ f l) (e : Event) where
+    -- the call is the step list's
+    received-is : received (l .state) (l .names) (l .store) (l .ledger) (senderOf σ e) (bytesOf σ e) ≡ call σ (after σ f) e
+    unfolding received
+    received-is = rw (h .shape) (λ i. step (h .machine i) (h .store i) (h .ledger i) (senderOf σ e) (bytesOf σ e))
+
+    module _ (r : Outcome) (l′ : Lent)
+        (k : Receives (l .state) (l .names) (l .store) (l .ledger) (senderOf σ e) (bytesOf σ e) r (l′ .state) (l′ .names) (l′ .store) (l′ .ledger)) where
+      call-shows : Shows σ (f ▹ e) l′
+      unfolding after
+      call-shows = record {
+        shape = shaped-on (l .state) (l .names) (l′ .state) (l′ .names) (k .words) (k .bytes) (h .shape);
+        machine = k .leaves .machine ∙ ap (λ (a : After). a .machine) received-is;
+        store = k .leaves .store ∙ ap (λ (a : After). a .store) received-is;
+        ledger = k .leaves .ledger ∙ ap (λ (a : After). a .ledger) received-is;
+      }
+
+      -- and hands over the same
+      call-hands : handedBy (keyOf (senderOf σ e) (sequenceOf (said (slotBytes σ) maxFragments (bytesOf σ e)))) (nameIn (r .name)) (reply (bytesOf σ e) (l′ .store) (r .answer))
+          ≡ delivery σ f e
+      unfolding delivery
+      call-hands = λ i.
+          handedBy (keyOf (senderOf σ e) (sequenceOf (said (slotBytes σ) maxFragments (bytesOf σ e))))
+          (nameIn ((k .leaves .name ∙ ap (λ (a : After). a .name) received-is) i))
+          (reply (bytesOf σ e) ((k .leaves .store ∙ ap (λ (a : After). a .store) received-is) i) ((k .leaves .answer ∙ ap (λ (a : After). a .answer) received-is) i))
+
+  shows : {f : Feed} {l : Lent} → Calls σ f l → Shows σ f l
+  shows (opens w n r w′ n′ o q) = opening-shows w n r w′ n′ o q
+  shows (calls {f = f} {l = l} c e r l′ k) = call-shows f l (shows c) e r l′ k
+
+  hands : {f : Feed} {l : Lent} → (c : Calls σ f l) → handedOver c ≡ deliveries σ f
+  unfolding deliveries
+  hands (opens w n r w′ n′ o q) = refl
+  hands (calls {f = f} {l = l} c e r l′ k) = λ i. push (call-hands f l (shows c) e r l′ k i) (hands c i)
+
+-- DEMAND 3 FOR THE CODE
+pub code-demand3 : (σ : Scene) (f : Feed) → Supposed σ f → (l : Lent) (c : Calls σ f l) → CodePromised σ f l c
+code-demand3 σ f s l c =
+    let h : Shows σ f l = shows σ c in
+    let law : Lawful σ = record { distinct = s .distinct; sent = s .sent; ledger-fits = s .ledger-fits } in
+    record {
+      machine = h .machine;
+      store = h .store;
+      ledger = h .ledger;
+      delivered = hands σ c;
+      their-own = hands σ c ∙ delivered-own σ law f (fair-of σ f (s .mixture) (s .never-over-eight) (s .never-too-late));
+      promised = demand3 σ f s;
+    }

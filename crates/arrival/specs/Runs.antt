@@ -1,0 +1,49 @@
+-- What demand 3 gives for the code: calls of `open` and `receive`, one after another, over lent memory that nobody else changes. Definitions only.
+use mathlib.Core.Path.{_≡_}
+use mathlib.Core.Option.{none}
+use mathlib.Core.List.{List, [], _∷_, map}
+use Prim.Native.Nat.{ℕ, _<_}
+use lib.ListN.{length}
+use Rattle.datagram.specs.Limits.{maxFragments}
+use Rattle.datagram.specs.Said.{said}
+use Rattle.steps.specs.Memory.{keyOf}
+use Rattle.steps.specs.Receive.{sequenceOf}
+use Rattle.steps.specs.Answers.{reply}
+use Rattle.receiver.specs.declared.Outcome.{Outcome}
+use Rattle.receiver.specs.declared.Call.{Call}
+use Rattle.receiver.specs.View.{view}
+use Rattle.receiver.specs.Calls.{refusalOf, Opens, Receives}
+use Rattle.arrival.specs.Demand.{Scene, slotBytes, Event, Feed, start, _▹_, senderOf, bytesOf, Delivery, nameIn, handedBy, push, after, own, completed, deliveries, Promised}
+
+-- what is lent
+pub record Lent : Type 0 where
+  pub state : List ℕ
+  pub names : List ℕ
+  pub store : List ℕ
+  pub ledger : List ℕ
+
+-- `open` was not refused, and since then each arrival of the feed was a call of `receive`, with what the call before left: this is lent now.
+-- Of each call only its contract is known.
+pub data Calls (σ : Scene) : Feed → Lent → Type 0 where
+  opens : (w n : List ℕ) (r : Call) (w′ n′ : List ℕ) → Opens w n (length (σ .store)) r w′ n′ → refusalOf r ≡ none
+      → Calls σ start (record { state = w′; names = n′; store = σ .store; ledger = σ .ledger })
+  calls : {f : Feed} {l : Lent} → Calls σ f l → (e : Event) (r : Outcome) (l′ : Lent)
+      → Receives (l .state) (l .names) (l .store) (l .ledger) (senderOf σ e) (bytesOf σ e) r (l′ .state) (l′ .names) (l′ .store) (l′ .ledger)
+      → Calls σ (f ▹ e) l′
+
+-- all that the calls handed over, the latest first
+abbrev pub handedOver : {σ : Scene} {f : Feed} {l : Lent} → Calls σ f l → List Delivery
+handedOver (opens w n r w′ n′ o q) = []
+handedOver {σ} (calls c e r l′ k) =
+    push (handedBy (keyOf (senderOf σ e) (sequenceOf (said (slotBytes σ) maxFragments (bytesOf σ e)))) (nameIn (r .name)) (reply (bytesOf σ e) (l′ .store) (r .answer)))
+    (handedOver c)
+
+-- a run of calls is a run of `step`, so that what is promised of the one is promised of the other
+pub record CodePromised (σ : Scene) (f : Feed) (l : Lent) (c : Calls σ f l) : Type 0 where
+  pub machine : view (l .state) (l .names) ≡ after σ f .machine
+  pub store : l .store ≡ after σ f .store
+  pub ledger : l .ledger ≡ after σ f .ledger
+  pub delivered : handedOver c ≡ deliveries σ f
+  -- the messages' own keys, names and bytes, in order of completion
+  pub their-own : handedOver c ≡ map (own σ) (completed σ f)
+  pub promised : Promised σ f
