@@ -1,2 +1,5 @@
 pub mod Puts
 pub mod Texts
+pub mod Slices
+pub mod Passing
+pub mod Taking

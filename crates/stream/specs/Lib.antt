@@ -1,2 +1,5 @@
 pub mod Text
 pub mod Put
+pub mod Drained
+pub mod Records
+pub mod Windows

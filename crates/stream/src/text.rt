@@ -1,7 +1,7 @@
 // Text in a lent buffer. Each function writes at a place and answers the place after it. What has no room is not written, and the place
 // is then the buffer's end.
 ghost use mathlib.Core.Bool.{true, false};
-ghost use mathlib.Core.List.{[], _∷_};
+ghost use mathlib.Core.List.{[], _∷_, _++_};
 ghost use mathlib.Core.Path.{_≡_};
 ghost use Prim.Native.Nat.{_+_, _<_, min};
 ghost use lib.IntN.{pos, natAbs};
@@ -104,4 +104,12 @@ pub fn put_hex(out: &mut [u8], at: usize, bytes: &[u8]) -> usize
         i += 1;
     }
     next
+}
+
+// A word and a number.
+pub fn put_counted(out: &mut [u8], at: usize, word: &[u8], n: u64) -> usize
+    ensures { λ r. ⌜ Put (now (out .entry)) at (now (word .entry) ++ decimal n) (now (out .exit)) r ⌝ }
+{
+    let next = put_text(out, at, word);
+    put_decimal(out, next, n)
 }

@@ -1,0 +1,238 @@
+-- How a record is taken from the unread bytes and from what comes. Assumes nothing.
+use mathlib.Core.Path.{_≡_, refl, ap, sym, _∙_, subst}
+use mathlib.Core.Bool.{Bool, true, false, _&&_}
+use mathlib.Core.List.{List, [], _∷_, _++_, append-nil, append-assoc}
+use Prim.Native.Nat.{ℕ, zero, suc, _+_, _-_, _*_, _≤_, _<_, min}
+use native.Mathlib.Omega.{arith}
+use lib.ListN.{length, take, drop, getD, length-append, length-drop, List·getD-append}
+use lib.Seq.{slice, length-slice, drop-append-le, drop-drop, slice-empty}
+use lib.Dec.{leb, ltb}
+use borrow.Author.Tests.{le-leb, lt-leb, le-ltb, lt-ltb}
+use Rattle.wire.specs.Bytes.{be}
+use Rattle.wire.proofs.Choices.{and-of, and-false}
+use Rattle.stream.specs.declared.input.Kind.{Kind}
+use Rattle.stream.specs.declared.input.Kind.the-variants.{Bytes2, Bytes4, Numbers}
+use Rattle.stream.specs.declared.input.Input.{Input}
+use Rattle.stream.specs.declared.input.Skip.{Skip}
+use Rattle.stream.specs.declared.input.Skip.the-variants.{Done, Ended}
+use Rattle.stream.specs.declared.input.Next.{Next}
+use Rattle.stream.specs.declared.input.Next.the-variants.{Record, End, Cut}
+use Rattle.stream.specs.Records.{headOf, widthOf, unitOf, bodyLength, isWhole, unread, holds, Took, Lacks, Gives}
+use Rattle.stream.specs.Windows.{Within, Headed, Fronted, Grown, Ready, Gone, Lacking, Dropped, afterSkip}
+use Rattle.stream.proofs.Slices.{slice-rest, slice-slice, slice-within, slice-append}
+use Rattle.stream.proofs.Passing.{grown-joined}
+
+-- ---- bytes made ready
+
+pub ready-fill : (b : List ℕ) (i : Input) (want : ℕ) (c : List ℕ) (e : ℕ) → i .at ≤ i .end → want < length b - i .at → Grown b (i .end) c e
+    → Ready b i want c (record { at = i .at; end = e })
+ready-fill b i want c e h k g =
+    record {
+      order = omega (arith, g .from);
+      within = g .within;
+      room = omega (arith, g .same-length);
+      same-length = g .same-length;
+      came = slice (i .end) e c;
+      joined = grown-joined (i .at) h g;
+    }
+
+pub ready-front : (b : List ℕ) (i : Input) (want : ℕ) (m : List ℕ) (n : ℕ) (c : List ℕ) (e : ℕ) → want < length b → Fronted b (i .at) (i .end) m n → Grown m n c e
+    → Ready b i want c (record { at = 0; end = e })
+ready-front b i want m n c e h f g =
+    record {
+      order = omega arith;
+      within = g .within;
+      room = omega (arith, g .same-length, f .same-length);
+      same-length = g .same-length ∙ f .same-length;
+      came = slice n e c;
+      joined = grown-joined 0 (omega arith) g ∙ ap (λ (x : List ℕ). x ++ slice n e c) (f .front);
+    }
+
+-- ---- whole records
+
+-- a number at the front stays when something follows
+be-front : (k : ℕ) (x y : List ℕ) → k ≤ length x → be k (x ++ y) ≡ be k x
+unfolding be
+be-front zero x y h = refl
+be-front (suc k) x y h =
+    let p : be k (x ++ y) ≡ be k x = be-front k x y (omega arith) in
+    let q : getD (x ++ y) k 0 ≡ getD x k 0 = List·getD-append x y 0 k (omega arith) in
+    λ i. p i * 256 + q i
+
+body-front : (kind : Kind) (x y : List ℕ) → headOf kind ≤ length x → bodyLength kind (x ++ y) ≡ bodyLength kind x
+unfolding bodyLength
+body-front kind x y h =
+    let m : ℕ = headOf kind - widthOf kind in
+    let w : widthOf kind ≤ headOf kind = narrow kind in
+    ap (λ (l : List ℕ). unitOf kind * be (widthOf kind) l) (drop-append-le m x y (omega arith))
+    ∙ ap (λ (n : ℕ). unitOf kind * n) (be-front (widthOf kind) (drop m x) y (omega (arith, length-drop m x)))
+  where
+    narrow : (k : Kind) → widthOf k ≤ headOf k
+    narrow Bytes2 = omega arith
+    narrow Bytes4 = omega arith
+    narrow Numbers = omega arith
+
+whole-true : (kind : Kind) (x : List ℕ) → headOf kind ≤ length x → headOf kind + bodyLength kind x ≤ length x → isWhole kind x ≡ true
+unfolding isWhole
+whole-true kind x h k = and-of _ _ (le-leb (headOf kind) (length x) h) (le-leb (headOf kind + bodyLength kind x) (length x) k)
+
+whole-false : (kind : Kind) (x : List ℕ) → length x < headOf kind + bodyLength kind x → isWhole kind x ≡ false
+unfolding isWhole
+whole-false kind x h = rw (lt-leb (headOf kind + bodyLength kind x) (length x) h) (and-false (leb (headOf kind) (length x)))
+
+cut-of : (kind : Kind) (b x : List ℕ) → isWhole kind x ≡ false → (ltb (headOf kind + 1) (length b) && isWhole kind x) ≡ false
+cut-of kind b x e = rw e (and-false (ltb (headOf kind + 1) (length b)))
+
+-- the buffer is too short, or there is no whole head
+pub lacks-room : (kind : Kind) (b : List ℕ) (i : Input) → length b ≤ headOf kind + 1 → Lacks kind b i
+lacks-room kind b i h = record { came = []; cut = rw (le-ltb (headOf kind + 1) (length b) h) refl }
+
+pub lacks-head : (kind : Kind) (b : List ℕ) (i : Input) (came : List ℕ) → length (unread b i ++ came) < headOf kind → Lacks kind b i
+lacks-head kind b i came h = record { came = came; cut = cut-of kind b (unread b i ++ came) (whole-false kind (unread b i ++ came) (omega arith)) }
+
+-- ---- the body
+
+module _ {kind : Kind} {b : List ℕ} {one : Input} {body : ℕ} (h : Headed kind b one body) (len : ℕ) (size : len ≡ min body (length b - (headOf kind + 1)))
+    {c : List ℕ} {two : Input} (r : Ready b one (headOf kind + len) c two) where
+  long : length (unread b one) ≡ one .end - one .at
+  long = length-slice (one .at) (one .end) b (h .within)
+
+  held : length (unread b one ++ r .came) ≡ two .end - two .at
+  held = sym (ap length (r .joined)) ∙ length-slice (two .at) (two .end) c (r .within)
+
+  body-is : (y : List ℕ) → bodyLength kind (unread b one ++ y) ≡ body
+  body-is y = body-front kind (unread b one) y (omega (arith, long, h .head)) ∙ sym (h .is)
+
+  pub lacks-body : two .end - two .at < headOf kind + len → Lacks kind b one
+  lacks-body s =
+      record {
+        came = r .came;
+        cut = cut-of kind b (unread b one ++ r .came) (whole-false kind (unread b one ++ r .came) (omega (arith, held, body-is (r .came), size)));
+      }
+
+  -- what is held after the body
+  tail : slice (two .at + headOf kind + len) (two .end) c ≡ drop (headOf kind + len) (unread b one ++ r .came)
+  tail =
+      ap (λ (k : ℕ). slice k (two .end) c) (let e : two .at + headOf kind + len ≡ two .at + (headOf kind + len) = omega arith in e)
+      ∙ slice-rest c (two .at) (headOf kind + len) (two .end)
+      ∙ ap (drop (headOf kind + len)) (r .joined)
+
+  module _ (enough : headOf kind + len ≤ two .end - two .at) where
+    -- and what comes after it
+    all-after : (y : List ℕ) → slice (two .at + headOf kind + len) (two .end) c ++ y ≡ drop (headOf kind + len) (unread b one ++ (r .came ++ y))
+    all-after y =
+        ap (λ (x : List ℕ). x ++ y) tail
+        ∙ sym (drop-append-le (headOf kind + len) (unread b one ++ r .came) y (omega (arith, held)))
+        ∙ ap (drop (headOf kind + len)) (append-assoc (unread b one) (r .came) y)
+
+    long-after : (y : List ℕ) → length (slice (two .at + headOf kind + len) (two .end) c ++ y) + (headOf kind + len) ≡ length (unread b one ++ (r .came ++ y))
+    long-after y =
+        omega (
+          arith,
+          ap length (all-after y),
+          length-drop (headOf kind + len) (unread b one ++ (r .came ++ y)),
+          ap length (append-assoc (unread b one) (r .came) y),
+          length-append (unread b one ++ r .came) y,
+          held,
+        )
+
+    pub lacks-rest : Lacking c (two .at + headOf kind + len) (two .end) (body - len) → Lacks kind b one
+    lacks-rest l =
+        record {
+          came = r .came ++ l .came;
+          cut =
+              cut-of kind b (unread b one ++ (r .came ++ l .came))
+              (whole-false kind (unread b one ++ (r .came ++ l .came)) (omega (arith, long-after (l .came), body-is (r .came ++ l .came), l .fewer)));
+        }
+
+    pub took : {d : List ℕ} {left : Input} → Gone c (two .at + headOf kind + len) (two .end) (body - len) d left → Took kind b one d (two .at + headOf kind) len left
+    took {d} {left} g =
+        let all : List ℕ = unread b one ++ (r .came ++ g .came) in
+        let n : bodyLength kind all ≡ body = body-is (r .came ++ g .came) in
+        let low : len ≤ body = omega (arith, size) in
+        let f : headOf kind + len ≤ length (unread b one ++ r .came) = omega (arith, held) in
+        record {
+          came = r .came ++ g .came;
+          whole = whole-true kind all (omega (arith, long-after (g .came))) (omega (arith, long-after (g .came), n, g .enough));
+          size = size ∙ ap (λ (k : ℕ). min k (length b - (headOf kind + 1))) (sym n);
+          body =
+              ap (drop (two .at + headOf kind)) (g .kept)
+              ∙ ap (λ (k : ℕ). slice (two .at + headOf kind) k c) (let e : two .at + headOf kind + len ≡ two .at + (headOf kind + len) = omega arith in e)
+              ∙ sym (slice-slice c (two .at) (headOf kind) (headOf kind + len) (two .end) (omega (arith, r .order)) (r .within))
+              ∙ ap (slice (headOf kind) (headOf kind + len)) (r .joined)
+              ∙ sym (slice-append (unread b one ++ r .came) (g .came) (headOf kind) (headOf kind + len) f)
+              ∙ ap (slice (headOf kind) (headOf kind + len)) (append-assoc (unread b one) (r .came) (g .came));
+          within = omega (arith, g .same-length, r .room);
+          rest =
+              g .now-unread
+              ∙ ap (drop (body - len)) (all-after (g .came))
+              ∙ drop-drop (body - len) (headOf kind + len) all
+              ∙ ap (λ (k : ℕ). drop k all) (let e : headOf kind + len + (body - len) ≡ headOf kind + bodyLength kind all = omega (arith, n) in e);
+        }
+
+-- the same, with the head's length by another name
+module _ {kind : Kind} {b : List ℕ} {one : Input} {body : ℕ} (h : Headed kind b one body) (head len : ℕ) (e : headOf kind ≡ head) (c : List ℕ) (two : Input) where
+  pub body-lacks : len ≡ min body (length b - (head + 1)) → Ready b one (head + len) c two → two .end - two .at < head + len → Lacks kind b one
+  body-lacks =
+      subst (λ (k : ℕ). len ≡ min body (length b - (k + 1)) → Ready b one (k + len) c two → two .end - two .at < k + len → Lacks kind b one) e
+      (λ size r s. lacks-body h len size r s)
+
+  pub body-dropped : (skip : Skip) (d : List ℕ) → len ≡ min body (length b - (head + 1)) → Ready b one (head + len) c two → head + len ≤ two .end - two .at
+      → Dropped c (two .at + head + len) (two .end) (body - len) d skip → Gives kind b one d (afterSkip (two .at + head) len skip)
+  body-dropped skip d =
+      subst
+      (λ (k : ℕ). len ≡ min body (length b - (k + 1)) → Ready b one (k + len) c two → k + len ≤ two .end - two .at
+      → Dropped c (two .at + k + len) (two .end) (body - len) d skip → Gives kind b one d (afterSkip (two .at + k) len skip)) e
+      (by-skip skip)
+    where
+      by-skip : (s : Skip) → len ≡ min body (length b - (headOf kind + 1)) → Ready b one (headOf kind + len) c two → headOf kind + len ≤ two .end - two .at
+          → Dropped c (two .at + headOf kind + len) (two .end) (body - len) d s → Gives kind b one d (afterSkip (two .at + headOf kind) len s)
+      by-skip (Done left) size r k g = took h len size r k g
+      by-skip Ended size r k l = lacks-rest h len size r k l
+
+-- ---- from the input as it was
+
+nil-left : (x y : List ℕ) → x ++ y ≡ [] → x ≡ []
+nil-left [] y e = refl
+nil-left (a ∷ x) y e = absurd (let z : _≡_ {A = ℕ} 0 1 = cc in omega arith)
+
+-- the input within the buffer
+within-unread : (b : List ℕ) (i r : Input) → Within i (length b) r → unread b r ≡ unread b i
+within-unread b i r w = slice-within b (i .at) (i .end) (r .at) (r .end) (w .end) (w .at)
+
+module _ (kind : Kind) {b c : List ℕ} {i inside one : Input} {want : ℕ} (w : Within i (length b) inside) (ready : Ready b inside want c one) where
+  joined : unread c one ≡ unread b i ++ ready .came
+  joined = ready .joined ∙ ap (λ (x : List ℕ). x ++ ready .came) (within-unread b i inside w)
+
+  all : (y : List ℕ) → unread c one ++ y ≡ unread b i ++ (ready .came ++ y)
+  all y = ap (λ (x : List ℕ). x ++ y) joined ∙ append-assoc (unread b i) (ready .came) y
+
+  -- nothing is unread, or less than a head
+  pub ends : one .at ≡ one .end → unread b i ≡ []
+  ends e =
+      nil-left (unread b i) (ready .came)
+      (sym joined ∙ ap (λ (k : ℕ). slice k (one .end) c) e ∙ slice-empty (one .end) c)
+
+  pub lacks-a-head : one .end - one .at < headOf kind → Lacks kind b i
+  lacks-a-head h =
+      lacks-head kind b i (ready .came)
+      (omega (arith, ap length joined, length-slice (one .at) (one .end) c (ready .within)))
+
+  pub gives-before : (d : List ℕ) (r : Next) → Gives kind c one d r → Gives kind b i d r
+  gives-before d (Record at len left) t =
+      let e = all (t .came) in
+      record {
+        came = ready .came ++ t .came;
+        whole = subst (λ (x : List ℕ). isWhole kind x ≡ true) e (t .whole);
+        size = t .size ∙ (λ j. min (bodyLength kind (e j)) (holds kind (ready .same-length j)));
+        body = t .body ∙ ap (slice (headOf kind) (headOf kind + len)) e;
+        within = t .within;
+        rest = t .rest ∙ ap (λ (x : List ℕ). drop (headOf kind + bodyLength kind x) x) e;
+      }
+  gives-before d End t = nil-left (unread b i) (ready .came) (sym joined ∙ t)
+  gives-before d Cut t =
+      record {
+        came = ready .came ++ t .came;
+        cut = subst (λ (x : List ℕ). (ltb (headOf kind + 1) (length b) && isWhole kind x) ≡ false) (all (t .came))
+            (subst (λ (n : ℕ). (ltb (headOf kind + 1) n && isWhole kind (unread c one ++ t .came)) ≡ false) (ready .same-length) (t .cut));
+      }
