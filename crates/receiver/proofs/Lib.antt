@@ -7,3 +7,4 @@ pub mod Ends
 pub mod Unique
 pub mod Gates
 pub mod Others
+pub mod Once
