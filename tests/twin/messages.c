@@ -2,7 +2,8 @@
 
 #include "twin.h"
 
-enum { GOOD = FIRST_KIND, LIST_ROOM = 500000, MESSAGE_ROOM = 15 * LIST_ROOM + 64 };
+/* HELD: how many numbers of a list lmcp_bytes holds; docs/DECISIONS.md says what it answers to a longer one. */
+enum { GOOD = FIRST_KIND, LIST_ROOM = 500000, MESSAGE_ROOM = 15 * LIST_ROOM + 64, HELD = 262144 };
 
 static i64 list[LIST_ROOM];
 static u64 numbers;
@@ -121,14 +122,26 @@ static void large_list(int turn) {
     if (turn < 6) sized(wholes[turn]);
     else if (turn < 9) marks(between(5000, 14000));
     else if (turn < 11) marks(65535);
-    else {
+    else if (turn == 12) {
+        /* whole within what lmcp_bytes holds, and numbers after it that it does not hold */
+        sized(262200);
+        while (numbers < HELD + 20) tell(0);
+    } else if (turn > 12) {
+        /* not whole within it; in the last with a fault in the front */
+        for (int i = 0; i < 5; i++) {
+            tell(6);
+            text(65535);
+        }
+        tell(0);
+        if (turn == 14) list[below(HELD)] = 128;
+    } else {
         tell(6);
         text(65535);
         chain((int) between(1, 14));
     }
 }
 
-enum { LARGE = 12 };
+enum { LARGE = 15 };
 
 /* ---- messages, good and damaged */
 
@@ -363,7 +376,15 @@ static void damage_list(void) {
     }
 }
 
-/* The list in `list`, as a program's input and what it must write. */
+/* What is answered to the list in `list`. One that is longer than the program holds goes by its front: a walk that goes on past
+   it is 21, since each number makes a byte at least, and a root that is whole within it is 28. */
+static u32 made_of_list(int calculate, u64 *length) {
+    if (numbers <= HELD) return ref_write_message(list, numbers, calculate, message, length);
+    u32 refusal = ref_write_root(list, HELD, message, length);
+    return refusal == 25 ? 21 : refusal == 0 ? 28 : refusal;
+}
+
+/* The list in `list`, as a program's input and what it must write. A checksum byte other than 0 calculates. */
 static void expect_bytes_of(struct stream *s, int calculate) {
     u8 bytes[8];
     u64 length = 0;
@@ -375,7 +396,7 @@ static void expect_bytes_of(struct stream *s, int calculate) {
         fwrite(bytes, 1, 8, s->in);
     }
     s->number++;
-    u32 refusal = ref_write_message(list, numbers, calculate, message, &length);
+    u32 refusal = made_of_list(calculate, &length);
     if (refusal != 0) {
         fprintf(s->expected, "%llu refused %u\n", s->number, refusal);
         met[refusal]++;
@@ -387,7 +408,7 @@ static void expect_bytes_of(struct stream *s, int calculate) {
     fprintf(s->expected, "\n");
 }
 
-static void expect_bytes(struct stream *s) { expect_bytes_of(s, chance(50)); }
+static void expect_bytes(struct stream *s) { expect_bytes_of(s, (int) ONE_OF(0, 0, 1, 1, 1, 2, 255)); }
 
 void give_list(struct stream *s, const u8 *bytes, u64 length) {
     numbers = 0;
