@@ -1,5 +1,6 @@
 pub mod Goes
 pub mod Heads
+pub mod Lent
 pub mod Makes
 pub mod Never
 pub mod Once

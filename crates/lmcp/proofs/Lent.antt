@@ -1,0 +1,103 @@
+-- The round trips of the lent memory, from the contracts of the reader and the writer alone: what was written to the output reads back into
+-- the list, and what was read into the list is written back to the output. Assumes nothing.
+use mathlib.Core.Path.{_≡_, refl, ap, sym, _∙_, subst}
+use mathlib.Core.Bool.{Bool, true, false}
+use mathlib.Core.List.{List, [], _∷_, _++_}
+use Prim.Native.Nat.{ℕ, _+_, _≤_, _<_}
+use native.Mathlib.Omega.{arith}
+use lib.Dec.{leb}
+use lib.IntN.{ℤ}
+use lib.ListN.{length, take, drop}
+use lib.Seq.{sets, sets-eq, take-at}
+use borrow.Author.Tests.{le-leb, leb-true}
+use Rattle.wire.specs.Choice.{pick}
+use Rattle.wire.specs.Bytes.{Bytes}
+use Rattle.wire.specs.Overlay.{overlay}
+use Rattle.wire.proofs.Overlays.{overlay-at}
+use Rattle.lmcp.specs.declared.Found.{Found}
+use Rattle.lmcp.specs.declared.Found.the-variants.{Numbers, Unread}
+use Rattle.lmcp.specs.declared.Made.{Made}
+use Rattle.lmcp.specs.declared.Made.the-variants.{Bytes as Wrote, Unwritten}
+use Rattle.lmcp.specs.Run.{got, refused}
+use Rattle.lmcp.specs.Table.{Table}
+use Rattle.lmcp.specs.Read.{Read}
+use Rattle.lmcp.specs.Write.{Write}
+use Rattle.lmcp.specs.Message.{readMessage, found, listed, ReadTo, writeMessage, made, written, WrittenTo}
+use Rattle.lmcp.proofs.Heads.{Sound}
+use Rattle.lmcp.proofs.Trips.{choice, write-read, read-write}
+
+-- ---- what an answer with a length says
+
+record Written (X : Write) (out : List ℕ) (n : ℕ) (after : List ℕ) : Type 0 where
+  message : List ℕ
+  rest : List ℤ
+  is : X ≡ got message rest
+  size : n ≡ length message
+  front : take n after ≡ message
+
+wrote : (X : Write) (out : List ℕ) (n : ℕ) (after : List ℕ) → WrittenTo X out (Wrote n) after → Written X out n after
+unfolding made written
+wrote (got m r) out n after w = by (leb (length m) (length out)) refl (w .gave) (w .left)
+  where
+    by : (t : Bool) → leb (length m) (length out) ≡ t → Wrote n ≡ pick t (Wrote (length m)) (Unwritten 13) → after ≡ pick t (overlay out 0 m) out → Written (got m r) out n after
+    by true l e f =
+        let s : n ≡ length m = cc in
+        let h : 0 + length m ≤ length out = omega (arith, leb-true (length m) (length out) l) in
+        record { message = m; rest = r; is = refl; size = s; front = ap (λ (k : ℕ). take k after) s ∙ ap (take (length m)) f ∙ overlay-at out 0 m h }
+    by false l e f = absurd (let z : _≡_ {A = ℕ} 0 1 = cc in let q : ⊥ = omega arith in q)
+wrote (refused k) out n after w = absurd (let e = w .gave in let z : _≡_ {A = ℕ} 0 1 = cc in let q : ⊥ = omega arith in q)
+
+record Listed (X : Read) (list : List ℤ) (n : ℕ) (after : List ℤ) : Type 0 where
+  numbers : List ℤ
+  rest : List ℕ
+  is : X ≡ got numbers rest
+  size : n ≡ length numbers
+  front : take n after ≡ numbers
+
+front-of : (list zs : List ℤ) → length zs ≤ length list → take (length zs) (sets list 0 zs) ≡ zs
+front-of list zs h =
+    let k : 0 + length zs ≤ length list = omega arith in
+    ap (take (length zs)) (sets-eq zs list 0 k) ∙ take-at zs (drop (0 + length zs) list) (length zs) refl
+
+read : (X : Read) (list : List ℤ) (n : ℕ) (after : List ℤ) → ReadTo X list (Numbers n) after → Listed X list n after
+unfolding found listed
+read (got zs r) list n after w = by (leb (length zs) (length list)) refl (w .gave) (w .left)
+  where
+    by : (t : Bool) → leb (length zs) (length list) ≡ t → Numbers n ≡ pick t (Numbers (length zs)) (Unread 13) → after ≡ pick t (sets list 0 zs) list → Listed (got zs r) list n after
+    by true l e f =
+        let s : n ≡ length zs = cc in
+        record { numbers = zs; rest = r; is = refl; size = s; front = ap (λ (k : ℕ). take k after) s ∙ ap (take (length zs)) f ∙ front-of list zs (leb-true (length zs) (length list) l) }
+    by false l e f = absurd (let z : _≡_ {A = ℕ} 0 1 = cc in let q : ⊥ = omega arith in q)
+read (refused k) list n after w = absurd (let e = w .gave in let z : _≡_ {A = ℕ} 0 1 = cc in let q : ⊥ = omega arith in q)
+
+-- ---- there and back, for any sound table
+
+module _ (T : Table) (sound : Sound T) where
+  -- The writer answered a length for the list l. Then the reader, given those bytes and a list with room, answers the length of l, and its
+  -- list begins with l.
+  pub written-reads : (calculate : Bool) (l : List ℤ) (out : List ℕ) (n : ℕ) (after : List ℕ) → WrittenTo (writeMessage T calculate l) out (Wrote n) after
+      → (list : List ℤ) (a : Found) (left : List ℤ) → ReadTo (readMessage T (take n after)) list a left → length l ≤ length list
+      → (a ≡ Numbers (length l)) × (take (length l) left ≡ l)
+  unfolding found listed
+  written-reads calculate l out n after w list a left r h =
+      let x = wrote (writeMessage T calculate l) out n after w in
+      let e : readMessage T (take n after) ≡ got l [] = ap (readMessage T) (x .front) ∙ write-read T sound calculate l (x .is) in
+      let g : a ≡ found (got l []) (length list) = r .gave ∙ ap (λ (X : Read). found X (length list)) e in
+      let f : left ≡ listed (got l []) list = r .left ∙ ap (λ (X : Read). listed X list) e in
+      let k : leb (length l) (length list) ≡ true = le-leb (length l) (length list) h in
+      (g ∙ rw k refl, ap (take (length l)) (f ∙ rw k refl) ∙ front-of list l h)
+
+  -- The reader answered a count for the message m. Then the writer, given those numbers, the same choice of a checksum and an output with room,
+  -- answers the length of m, and its output begins with m.
+  pub read-writes : (m : List ℕ) → Bytes m → (list : List ℤ) (n : ℕ) (after : List ℤ) → ReadTo (readMessage T m) list (Numbers n) after
+      → (out : List ℕ) (a : Made) (left : List ℕ) → WrittenTo (writeMessage T (choice m) (take n after)) out a left → length m ≤ length out
+      → (a ≡ Wrote (length m)) × (take (length m) left ≡ m)
+  unfolding made written
+  read-writes m b list n after r out a left w h =
+      let x = read (readMessage T m) list n after r in
+      let e : writeMessage T (choice m) (take n after) ≡ got m [] = ap (writeMessage T (choice m)) (x .front) ∙ read-write T sound m b (x .is) in
+      let g : a ≡ made (got m []) (length out) = w .gave ∙ ap (λ (X : Write). made X (length out)) e in
+      let f : left ≡ written (got m []) out = w .left ∙ ap (λ (X : Write). written X out) e in
+      let k : leb (length m) (length out) ≡ true = le-leb (length m) (length out) h in
+      let j : 0 + length m ≤ length out = omega arith in
+      (g ∙ rw k refl, ap (take (length m)) (f ∙ rw k refl) ∙ overlay-at out 0 m j)
