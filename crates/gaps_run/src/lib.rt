@@ -1,6 +1,8 @@
 // What the program `gaps` does: which numbers of a flight were missed. Standard input holds datagrams, each after a 2-byte big-endian
 // length, from one sender; of each that has good form the sequence watch is asked, and a line says what it answers.
 ghost use mathlib.Core.List.{[], _∷_, _++_};
+ghost use mathlib.Core.Path.{_≡_};
+ghost use lib.ListN.{length};
 ghost use Rattle.stream.specs.Text.{decimal};
 ghost use Rattle.stream.specs.Put.{Put};
 ghost use Rattle.watch.specs.Said.{says};
@@ -70,8 +72,11 @@ fn finish(out: &mut [u8], at: usize, word: &[u8], n: u64) {
     stream::write_out(out, end);
 }
 
-// One line a datagram. A proved loop has to end, so it counts the datagrams, up to a number that no input reaches.
-pub fn run(buf: &mut [u8], out: &mut [u8]) {
+// One line a datagram. No contract can say what is read and written: what is lent keeps its length. A proved loop has to end, so it counts
+// the datagrams, up to a number that no input reaches.
+pub fn run(buf: &mut [u8], out: &mut [u8])
+    ensures { λ _. ⌜ (length (now (buf .exit)) ≡ length (now (buf .entry))) × (length (now (out .exit)) ≡ length (now (out .entry))) ⌝ }
+{
     let mut w = watch::new();
     let mut input = Input { at: 0, end: 0 };
     let mut at: usize = 0;
