@@ -3,7 +3,6 @@ use mathlib.Core.Path.{_≡_, sym}
 use Prim.Native.Nat.{ℕ}
 use lib.IntN.{ℤ, pos}
 use lib.ListN.{length, replicate, length-replicate}
-use borrow.Author.Needs.{needs}
 use Rattle.lmcp_bytes.proofs.main.Statement.{statement}
 use Rattle.lmcp_bytes.proofs.main.Tie as tie
 
@@ -26,10 +25,10 @@ slice-aggregate-run-4 : tie.Need-slice-aggregate-run-4
 slice-aggregate-run-4 c = zeros _
 
 run-requires : tie.Need-run-requires
-run-requires c κs = search needs
+run-requires c κs = tt
 
 returns : tie.Need-returns
-returns c = search needs
+returns c = tt
 
 pub main-spec : {M : Type 1} → statement M
 main-spec =
