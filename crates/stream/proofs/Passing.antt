@@ -1,11 +1,10 @@
 -- Bytes that come after a place: what stays, what is unread then, and what is dropped. Assumes nothing.
 use mathlib.Core.Path.{_≡_, refl, ap, sym, _∙_, subst}
-use mathlib.Core.List.{List, [], _∷_, _++_, append-nil, append-assoc}
+use mathlib.Core.List.{List, [], _++_, append-nil, append-assoc}
 use Prim.Native.Nat.{ℕ, _+_, _-_, _≤_, _<_}
 use native.Mathlib.Omega.{arith}
 use lib.ListN.{length, take, drop, length-append}
 use lib.Seq.{slice, length-slice, drop-append-add, take-take}
-use Rattle.stream.specs.declared.input.Input.{Input}
 use Rattle.stream.specs.Windows.{Grown, Gone, Lacking}
 use Rattle.stream.proofs.Slices.{slice-split, slice-rest}
 

@@ -1,13 +1,13 @@
 -- Laws of the part of a list from one place up to another. Assumes nothing.
 use mathlib.Core.Path.{_≡_, refl, ap, sym, _∙_}
-use mathlib.Core.List.{List, [], _∷_, _++_, append-nil}
+use mathlib.Core.List.{List, [], _∷_, _++_}
 use Prim.Native.Nat.{ℕ, zero, suc, _+_, _-_, _≤_, _<_, min}
 use native.Mathlib.Nat.{zero-add, suc-add}
 use native.Mathlib.Numerals.{add-one}
 use native.Mathlib.Decide.{decLe}
 use native.Mathlib.Omega.{arith}
 use lib.ListN.{length, take, drop, set, getD, length-drop, take-append-drop, drop-of-length-le, length-set}
-use lib.Seq.{slice, take-nil, take-take, take-all, drop-drop, drop-append-le, drop-append-add, take-append-le, length-take-le, length-slice, take-suc-set, take-suc, drop-set-lt, getD-drop, slice-empty}
+use lib.Seq.{slice, take-nil, take-take, take-all, drop-drop, drop-append-le, take-append-le, length-take-le, take-suc-set, take-suc, drop-set-lt, getD-drop}
 
 pub take-drop : (m n : ℕ) (x : List ℕ) → take n (drop m x) ≡ drop m (take (m + n) x)
 take-drop zero n x = ap (λ (k : ℕ). take k x) (sym (zero-add n))

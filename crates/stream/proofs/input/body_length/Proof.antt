@@ -1,5 +1,5 @@
 -- How many bytes follow a head. Assumes nothing.
-use mathlib.Core.Path.{_≡_, ap, _∙_, sym}
+use mathlib.Core.Path.{_∙_}
 use native.Mathlib.Omega.{arith}
 use Rattle.stream.specs.Records.{bodyLength}
 use borrow.Author.Needs.{needs}

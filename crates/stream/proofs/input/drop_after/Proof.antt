@@ -1,7 +1,5 @@
 -- Bytes dropped after a place. The loop's invariant: all that was held or came is dropped, and more is to be. Assumes nothing.
-use mathlib.Core.Path.{_≡_}
 use Prim.Native.Nat.{_-_}
-use native.Mathlib.Omega.{arith}
 use borrow.Author.Needs.{needs}
 use Rattle.stream.proofs.Passing.{Passing, passing-held, passing-more, passing-done, passing-lacks, gone-held}
 use Rattle.stream.proofs.input.drop_after.Statement.{statement}

@@ -1,7 +1,5 @@
 -- Reading on until enough is unread. The loop's invariant: bytes came after the end, up to e. Assumes nothing.
-use mathlib.Core.Path.{_≡_, sym}
 use Prim.Native.Nat.{_-_, _≤_}
-use native.Mathlib.Omega.{arith}
 use borrow.Author.Needs.{needs}
 use Rattle.stream.specs.Windows.{Grown}
 use Rattle.stream.proofs.Passing.{grown-none, grown-more, grown-is}

@@ -1,5 +1,4 @@
 -- One read into the buffer from a place on. Assumes nothing.
-use mathlib.Core.Path.{_≡_, sym, ap, _∙_}
 use Prim.Native.Nat.{_-_}
 use native.Mathlib.Omega.{arith}
 use lib.ListN.{length, length-take, length-drop}

@@ -1,5 +1,4 @@
 -- Bytes made ready, where they stand or at the front. Assumes nothing.
-use native.Mathlib.Omega.{arith}
 use Rattle.stream.proofs.Taking.{ready-fill, ready-front}
 use borrow.Author.Needs.{needs}
 use Rattle.stream.proofs.input.ready.Statement.{statement}

@@ -1,9 +1,9 @@
 -- The unread bytes at the front. The loop's invariant: the first i are moved, and those to come are as they were. Assumes nothing.
 use mathlib.Core.Path.{_≡_, refl, subst}
-use Prim.Native.Nat.{ℕ, _+_, _-_, _≤_, _<_}
+use Prim.Native.Nat.{ℕ, _-_, _≤_}
 use native.Mathlib.Omega.{arith}
 use borrow.Author.Needs.{needs}
-use lib.ListN.{length, length-set}
+use lib.ListN.{length}
 use Rattle.stream.proofs.Slices.{Moving, moving-none, moving-one, moving-all}
 use Rattle.stream.proofs.input.to_front.Statement.{statement}
 use Rattle.stream.proofs.input.to_front.Tie as tie

@@ -1,5 +1,4 @@
 -- The place to go on from. Assumes nothing.
-use mathlib.Core.Path.{sym, ap}
 use Prim.Native.Nat.{_-_}
 use lib.ListN.{length}
 use borrow.Author.Tests.{le-leb, lt-leb}

@@ -1,7 +1,6 @@
 -- A number in decimal: the text of n / 10, then the last digit. The measure is n. Assumes nothing.
 use mathlib.Core.Path.{sym, ap, _∙_}
 use mathlib.Core.List.{[], _∷_, _++_}
-use native.Mathlib.Omega.{arith}
 use borrow.Author.Needs.{needs}
 use Rattle.stream.specs.Text.{decimal}
 use Rattle.stream.proofs.Puts.{put-then, put-is}
