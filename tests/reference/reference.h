@@ -1,5 +1,5 @@
-/* A second implementation, in plain C, written from the paper (document 01) alone and not from the proved code, so that a
-   misreading would have to be made twice. The tests hold the proved code to it. Plain and slow is right here. */
+/* A second implementation, in plain C, written from the paper (document 01) and the open points decided, not from the proved
+   code, so that a misreading of the paper would have to be made twice. The tests hold the proved code to it. Plain and slow is right here. */
 
 #ifndef REFERENCE_H
 #define REFERENCE_H
