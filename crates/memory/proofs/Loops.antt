@@ -1,16 +1,18 @@
 -- Laws of the definitions of specs/Words.antt, one turn at a time, as the loops use them.
 use mathlib.Core.Path.{_≡_, refl, sym, _∙_, ap}
-use mathlib.Core.Bool.{Bool, true, false, _||_}
+use mathlib.Core.Bool.{Bool, true, false, _&&_, _||_}
 use mathlib.Core.List.{List, [], _∷_, _++_}
 use Prim.Native.Nat.{ℕ, zero, suc, _+_, _≤_, _<_}
 use native.Mathlib.Numerals.{add-one}
 use native.Mathlib.Decide.{ℕ-discrete}
 use native.Mathlib.Omega.{arith}
 use borrow.Author.Tests.{eq-eqb, ne-eqb}
+use lib.Dec.{eqb}
 use lib.ListN.{length, getD, set, take, drop, replicate, length-append, length-set}
 use lib.Seq.{drop-cons, take-at, set-append-seam, append-snoc}
+use Rattle.wire.proofs.Choices.{and-false}
 use Rattle.steps.specs.Limits.{memorySize}
-use Rattle.memory.specs.Words.{someBelow, shiftedIn, senders, othersIn, front, sievedIn}
+use Rattle.memory.specs.Words.{senders, sequences, someBelow, keyAt, shiftedIn, othersIn, front, sievedIn}
 use Rattle.memory.specs.declared.Sieved.{Sieved}
 
 or-true : (b : Bool) → (b || true) ≡ true
@@ -27,6 +29,19 @@ module _ (p : ℕ → Bool) where
     | yes q ↦ rw (sym (ap p q) ∙ e) (or-true (someBelow p n))
     | no q ↦ rw (some-hit i n (omega arith) e)
   ]
+
+-- ---- a key
+
+module _ (m : List ℕ) (s q i : ℕ) where
+  pub key-other : (getD m (sequences + i) 0 ≡ q → ⊥) → keyAt m s q i ≡ false
+  key-other d = rw (ne-eqb _ _ d) (and-false (eqb (getD m (senders + i) 0) s))
+
+  pub key-by : getD m (sequences + i) 0 ≡ q → keyAt m s q i ≡ eqb (getD m (senders + i) 0) s
+  key-by e = rw (eq-eqb _ _ e) (go (eqb (getD m (senders + i) 0) s))
+    where
+      go : (b : Bool) → (b && true) ≡ b
+      go true = refl
+      go false = refl
 
 -- ---- numbers that take the next one's place
 

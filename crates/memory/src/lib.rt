@@ -25,10 +25,11 @@ fn is_key(memory: &[u64], i: usize, sender: u64, sequence: u64) -> bool
     requires { ⌜ i < memorySize ⌝ }
     ensures { λ r. ⌜ r ≡ keyAt (now (memory .entry)) sender sequence i ⌝ }
 {
-    if words::word(memory, SENDERS + i) == sender {
-        return words::word(memory, SEQUENCES + i) == sequence;
+    // Keys differ in their sequence more often than in their sender.
+    if words::word(memory, SEQUENCES + i) != sequence {
+        return false;
     }
-    false
+    words::word(memory, SENDERS + i) == sender
 }
 
 // The key is remembered.

@@ -2,7 +2,7 @@
 use mathlib.Core.Path.{_≡_, refl, sym, _∙_, ap}
 use mathlib.Core.Bool.{Bool, true, false}
 use mathlib.Core.List.{List}
-use Prim.Native.Nat.{ℕ, zero, suc, _+_, _≤_, _<_, min}
+use Prim.Native.Nat.{ℕ, zero, suc, _+_, _-_, _<_, min}
 use native.Mathlib.Numerals.{add-one}
 use native.Mathlib.Decide.{ℕ-discrete}
 use native.Mathlib.Omega.{arith}
@@ -17,6 +17,21 @@ use Rattle.slots.specs.Words.{at, blockAt, countWord, turnWord, firstBel
 module _ (p : ℕ → Bool) where
   pub all-more : (i : ℕ) → allBelow i p ≡ true → p i ≡ true → allBelow (i + 1) p ≡ true
   all-more i a e = rw add-one (rw (a, e))
+
+  -- those from k on pass
+  pub all-down : (n k : ℕ) → 0 < k → allBelow n p ≡ allBelow k p → p (k - 1) ≡ true → allBelow n p ≡ allBelow (k - 1) p
+  all-down n zero h a e = absurd (omega arith)
+  all-down n (suc k) h a e =
+      let q : suc k - 1 ≡ k = omega arith in
+      let t : p k ≡ true = sym (ap p q) ∙ e in
+      rw q (a ∙ rw t)
+
+  pub all-missed : (n k : ℕ) → 0 < k → allBelow n p ≡ allBelow k p → p (k - 1) ≡ false → allBelow n p ≡ false
+  all-missed n zero h a e = absurd (omega arith)
+  all-missed n (suc k) h a e =
+      let q : suc k - 1 ≡ k = omega arith in
+      let t : p k ≡ false = sym (ap p q) ∙ e in
+      a ∙ rw t
 
   pub first-none : (i : ℕ) → firstBelow p i ≡ Nothing → p i ≡ false → firstBelow p (i + 1) ≡ Nothing
   first-none i a e = rw add-one (rw (a, e))

@@ -206,12 +206,13 @@ pub fn hold_fragment(held: &mut [u64], k: usize)
 pub fn all_held(held: &[u64], n: usize) -> bool
     ensures { λ r. ⌜ r ≡ allBelow n (isHeld (now (held .entry))) ⌝ }
 {
-    let mut k: usize = 0;
-    while k < n {
+    // The last fragment is the last to come, so it is asked first.
+    let mut k = n;
+    while 0 < k {
+        k -= 1;
         if !is_held(held, k) {
             return false;
         }
-        k += 1;
     }
     true
 }
