@@ -53,8 +53,7 @@ loop-again c =
     let a = c .before .before .before .before .before .args in
     ⊎-elim
     (λ w.
-    let d : getD (a .memory .now) (senders + l .i) 0 ≡ a .sender → ⊥ = λ q. w .0 .taken (c .before .word .ensures ∙ q) in
-    (
+    let d : getD (a .memory .now) (senders + l .i) 0 ≡ a .sender → ⊥ = λ q. w .0 .taken (c .before .word .ensures ∙ q) in (
       omega arith,
       l .inv .1,
       l .inv .2,

@@ -70,8 +70,7 @@ loop-less c = search needs
 
 loop-again : tie.Need-loop-again Inv-loop μ-loop
 loop-again c =
-    let a = c .before .before .before .before .before .before .before .before .before .before .args in
-    (
+    let a = c .before .before .before .before .before .before .before .before .before .before .args in (
       omega arith,
       c .before .before .before .loop .inv .1,
       all-more (fitsIn (a .held .now) (a .ledger .now) (a .k) (a .offset) (a .len)) (c .before .before .before .loop .j) (c .before .before .before .loop .inv .2) (⊎-elim

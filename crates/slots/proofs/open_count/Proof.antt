@@ -36,8 +36,7 @@ loop-less c = search needs
 
 loop-again : tie.Need-loop-again Inv-loop μ-loop
 loop-again c =
-    let p = busyIn (c .before .before .before .before .before .args .state .now) in
-    (
+    let p = busyIn (c .before .before .before .before .before .args .state .now) in (
       omega arith,
       ⊎-elim (λ w. omega arith) (λ w. omega arith) (c .if1 .came),
       ⊎-elim
