@@ -1,7 +1,9 @@
 // Both sides of every limit of document 01, over the proved crates: a line a case. What it must write was written from the paper.
 mod cuts;
 mod datagrams;
+mod messages;
 mod page;
+mod receiving;
 mod watching;
 
 fn main() {
@@ -10,6 +12,9 @@ fn main() {
     at = datagram_limits(&mut out, at);
     at = cutter_limits(&mut out, at);
     at = watching::senders(&mut out, at);
+    at = receiver_limits(&mut out, at);
+    at = lent_limits(&mut out, at);
+    at = message_limits(&mut out, at);
     io::write_all(1, wire::part(&out, 0, at));
 }
 
@@ -26,4 +31,28 @@ fn cutter_limits(out: &mut [u8], at: usize) -> usize {
     a = cuts::tile(&mut *out, a);
     a = cuts::most(&mut *out, a);
     cuts::outputs(&mut *out, a)
+}
+
+fn receiver_limits(out: &mut [u8], at: usize) -> usize {
+    let mut a = receiving::stores(&mut *out, at);
+    a = receiving::sizes(&mut *out, a);
+    a = receiving::counts(&mut *out, a);
+    a = receiving::slots(&mut *out, a);
+    receiving::memory(&mut *out, a)
+}
+
+fn lent_limits(out: &mut [u8], at: usize) -> usize {
+    let mut a = receiving::lent_states(&mut *out, at);
+    a = receiving::lent_stores(&mut *out, a);
+    a = receiving::states(&mut *out, a);
+    receiving::more_states(&mut *out, a)
+}
+
+fn message_limits(out: &mut [u8], at: usize) -> usize {
+    let mut a = messages::ranges(&mut *out, at);
+    a = messages::wider_ranges(&mut *out, a);
+    a = messages::values(&mut *out, a);
+    a = messages::types(&mut *out, a);
+    a = messages::chains(&mut *out, a);
+    messages::depths(&mut *out, a)
 }
