@@ -76,8 +76,9 @@ static void send_message(u64 sender, u32 sequence) {
     const char *channel = channels[below(4)];
     u64 p = ONE_OF(0, 1, 60, 84, 200, 500, 700, 701), c = 0;
     u32 count = 1, length = 0;
+    int even = chance(20);   /* the same byte throughout, so that a copy from elsewhere has the same data */
     while (channel[c]) c++;
-    for (u64 i = 0; i < p; i++) payload[i] = (u8) random_64();
+    for (u64 i = 0; i < p; i++) payload[i] = even ? 7 : (u8) random_64();
     for (u32 k = 0; k < count; k++) {
         if (ref_cut((const u8 *) channel, c, payload, p, sequence, ONE_OF(96, 120, 300), k, d, ROOM, &count, &length) != 0) return;
         memcpy(kept[keeping % KEEP], d, length);
@@ -105,6 +106,7 @@ static void run(u64 senders, u64 window) {
         memcpy(d, kept[i], kept_length[i]);
         u64 length = kept_length[i];
         if (chance(5)) d[below(length)] ^= (u8) (1 << below(8));
+        if (chance(5) && length > 20 && d[3] == '3') d[15] ^= 1; /* another offset */
         if (chance(2)) length = below(length);
         give(kept_sender[i], d, length, chance(2) ? (int) between(1, 4) : 0, call);
         if (!chance(1)) continue;
