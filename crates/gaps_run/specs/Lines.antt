@@ -10,7 +10,7 @@ use Rattle.watch.specs.declared.Watch.{Watch}
 use Rattle.watch.specs.declared.Seen.{Seen}
 use Rattle.watch.specs.Said.{Said, first, forward, same, late, refused, says}
 use Rattle.watch.specs.Watching.{asked, after}
-use Rattle.stream.specs.Text.{decimal}
+use Rattle.text.specs.Text.{decimal}
 
 -- what is said of a datagram of sender 0, by what the reader made of it, and the watch afterwards
 abbrev pub saidOf : Watch → Read → Said

@@ -3,8 +3,8 @@
 ghost use mathlib.Core.List.{[], _∷_, _++_};
 ghost use mathlib.Core.Path.{_≡_};
 ghost use lib.ListN.{length};
-ghost use Rattle.stream.specs.Text.{decimal};
-ghost use Rattle.stream.specs.Put.{Put};
+ghost use Rattle.text.specs.Text.{decimal};
+ghost use Rattle.text.specs.Put.{Put};
 ghost use Rattle.watch.specs.Said.{says};
 ghost use Rattle.gaps_run.specs.Lines.{answerText, line, Judged};
 use datagram::Read;
@@ -41,9 +41,9 @@ fn put_answer(out: &mut [u8], at: usize, answer: Answer) -> usize
     ensures { λ r. ⌜ Put (now (out .entry)) at (answerText (says answer)) (now (out .exit)) r ⌝ }
 {
     match answer {
-        Answer::First => stream::put_text(out, at, b" first\n"),
+        Answer::First => text::put_text(out, at, b" first\n"),
         Answer::Forward(missing) => put_number(out, at, b" forward ", missing),
-        Answer::Same => stream::put_text(out, at, b" same\n"),
+        Answer::Same => text::put_text(out, at, b" same\n"),
         Answer::Late(by) => put_number(out, at, b" late ", by),
         Answer::Refused(number) => put_number(out, at, b" refused ", number),
     }
@@ -52,24 +52,24 @@ fn put_answer(out: &mut [u8], at: usize, answer: Answer) -> usize
 fn put_number(out: &mut [u8], at: usize, word: &[u8], n: u32) -> usize
     ensures { λ r. ⌜ Put (now (out .entry)) at (now (word .entry) ++ decimal n ++ 10 ∷ []) (now (out .exit)) r ⌝ }
 {
-    let next = stream::put_counted(out, at, word, n as u64);
-    stream::put_text(out, next, b"\n")
+    let next = text::put_counted(out, at, word, n as u64);
+    text::put_text(out, next, b"\n")
 }
 
 // Line n.
 fn put_line(out: &mut [u8], at: usize, n: u64, answer: Answer) -> usize
     ensures { λ r. ⌜ Put (now (out .entry)) at (line n (says answer)) (now (out .exit)) r ⌝ }
 {
-    let next = stream::put_decimal(out, at, n);
+    let next = text::put_decimal(out, at, n);
     put_answer(out, next, answer)
 }
 
 // The last line, and all that is not written yet.
 fn finish(out: &mut [u8], at: usize, word: &[u8], n: u64) {
-    let from = stream::drain(out, at, LINE);
-    let next = stream::put_counted(out, from, word, n);
-    let end = stream::put_text(out, next, b"\n");
-    stream::write_out(out, end);
+    let from = output::drain(out, at, LINE);
+    let next = text::put_counted(out, from, word, n);
+    let end = text::put_text(out, next, b"\n");
+    output::write_out(out, end);
 }
 
 // One line a datagram. No contract can say what is read and written: what is lent keeps its length. A proved loop has to end, so it counts
@@ -91,7 +91,7 @@ pub fn run(buf: &mut [u8], out: &mut [u8])
                 n += 1;
                 w = watch;
                 input = left;
-                let room = stream::drain(out, at, LINE);
+                let room = output::drain(out, at, LINE);
                 at = put_line(out, room, n, answer);
             }
             Next::End => {

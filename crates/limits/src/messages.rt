@@ -19,7 +19,7 @@ fn read(out: &mut [u8], at: usize, f: Found) -> usize {
 // A list is written, with its checksum left zero.
 fn list(out: &mut [u8], at: usize, label: &[u8], numbers: &[i64]) -> usize {
     let mut message = [0u8; 512];
-    let a = stream::put_text(&mut *out, at, label);
+    let a = text::put_text(&mut *out, at, label);
     written(
         out,
         a,

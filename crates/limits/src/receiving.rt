@@ -7,7 +7,7 @@ use steps::Emptied;
 // The key of the slot that was emptied, at the end of a line.
 fn emptied(out: &mut [u8], at: usize, e: Emptied) -> usize {
     match e {
-        Emptied::Nobody => stream::put_text(&mut *out, at, b"\n"),
+        Emptied::Nobody => text::put_text(&mut *out, at, b"\n"),
         Emptied::Was(k) => {
             let a = crate::page::label(&mut *out, at, b" emptied ", k.sender, b"");
             crate::page::line(out, a, b"", b" ", k.sequence)
@@ -18,8 +18,8 @@ fn emptied(out: &mut [u8], at: usize, e: Emptied) -> usize {
 fn said(out: &mut [u8], at: usize, a: Answer) -> usize {
     match a {
         Answer::Refused(n) => crate::page::label(out, at, b"refused ", n as u64, b""),
-        Answer::Kept => stream::put_text(out, at, b"kept"),
-        Answer::Repeat => stream::put_text(out, at, b"repeat"),
+        Answer::Kept => text::put_text(out, at, b"kept"),
+        Answer::Repeat => text::put_text(out, at, b"repeat"),
         Answer::Delivered(_, n) => crate::page::label(out, at, b"delivered ", n as u64, b""),
     }
 }
@@ -242,7 +242,7 @@ fn lent(
 ) -> usize {
     let mut d = [0u8; 11];
     small(&mut d, 7);
-    let a = stream::put_text(&mut *out, at, label);
+    let a = text::put_text(&mut *out, at, label);
     received(out, a, state, names, store, ledger, &d)
 }
 

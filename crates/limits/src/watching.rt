@@ -4,9 +4,9 @@ use watch::Watch;
 
 fn answer(out: &mut [u8], at: usize, a: Answer) -> usize {
     match a {
-        Answer::First => stream::put_text(&mut *out, at, b"first\n"),
+        Answer::First => text::put_text(&mut *out, at, b"first\n"),
         Answer::Forward(n) => crate::page::line(out, at, b"", b"forward ", n as u64),
-        Answer::Same => stream::put_text(&mut *out, at, b"same\n"),
+        Answer::Same => text::put_text(&mut *out, at, b"same\n"),
         Answer::Late(n) => crate::page::line(out, at, b"", b"late ", n as u64),
         Answer::Refused(n) => crate::page::line(out, at, b"", b"refused ", n as u64),
     }

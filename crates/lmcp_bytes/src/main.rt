@@ -83,9 +83,9 @@ fn put_message(out: &mut [u8], at: usize, bytes: &[u8], n: usize) -> usize {
     let mut next = at;
     let mut i: usize = 0;
     while i < most {
-        let from = stream::drain(out, next, 2 * PIECE);
+        let from = output::drain(out, next, 2 * PIECE);
         let k = wire::least(PIECE, most - i);
-        next = stream::put_hex(out, from, wire::part(bytes, i, k));
+        next = text::put_hex(out, from, wire::part(bytes, i, k));
         i += PIECE;
     }
     next
@@ -94,27 +94,27 @@ fn put_message(out: &mut [u8], at: usize, bytes: &[u8], n: usize) -> usize {
 fn put_answer(out: &mut [u8], at: usize, bytes: &[u8], made: Made) -> usize {
     match made {
         Made::Bytes(n) => {
-            let next = stream::put_text(out, at, b" bytes ");
+            let next = text::put_text(out, at, b" bytes ");
             put_message(out, next, bytes, n)
         }
-        Made::Unwritten(e) => stream::put_counted(out, at, b" refused ", e as u64),
+        Made::Unwritten(e) => text::put_counted(out, at, b" refused ", e as u64),
     }
 }
 
 fn put_line(out: &mut [u8], at: usize, n: u64, bytes: &[u8], made: Made) -> usize {
-    let from = stream::drain(out, at, LINE);
-    let next = stream::put_decimal(out, from, n);
+    let from = output::drain(out, at, LINE);
+    let next = text::put_decimal(out, from, n);
     let end = put_answer(out, next, bytes, made);
-    let last = stream::drain(out, end, LINE);
-    stream::put_text(out, last, b"\n")
+    let last = output::drain(out, end, LINE);
+    text::put_text(out, last, b"\n")
 }
 
 // The last line, and all that is not written yet.
 fn finish(out: &mut [u8], at: usize, word: &[u8], n: u64) {
-    let from = stream::drain(out, at, LINE);
-    let next = stream::put_counted(out, from, word, n);
-    let end = stream::put_text(out, next, b"\n");
-    stream::write_out(out, end);
+    let from = output::drain(out, at, LINE);
+    let next = text::put_counted(out, from, word, n);
+    let end = text::put_text(out, next, b"\n");
+    output::write_out(out, end);
 }
 
 // One line a list. A proved loop has to end, so it counts the lists, up to a number that no input reaches.

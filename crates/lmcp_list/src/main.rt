@@ -16,9 +16,9 @@ fn put_numbers(out: &mut [u8], at: usize, list: &[i64], n: usize) -> usize {
     let mut next = at;
     let mut i: usize = 0;
     while i < most {
-        let from = stream::drain(out, next, NUMBER);
-        let after = stream::put_text(out, from, b" ");
-        next = stream::put_signed(out, after, list[i]);
+        let from = output::drain(out, next, NUMBER);
+        let after = text::put_text(out, from, b" ");
+        next = text::put_signed(out, after, list[i]);
         i += 1;
     }
     next
@@ -27,27 +27,27 @@ fn put_numbers(out: &mut [u8], at: usize, list: &[i64], n: usize) -> usize {
 fn put_answer(out: &mut [u8], at: usize, list: &[i64], found: Found) -> usize {
     match found {
         Found::Numbers(n) => {
-            let next = stream::put_text(out, at, b" list");
+            let next = text::put_text(out, at, b" list");
             put_numbers(out, next, list, n)
         }
-        Found::Unread(e) => stream::put_counted(out, at, b" refused ", e as u64),
+        Found::Unread(e) => text::put_counted(out, at, b" refused ", e as u64),
     }
 }
 
 fn put_line(out: &mut [u8], at: usize, n: u64, list: &[i64], found: Found) -> usize {
-    let from = stream::drain(out, at, LINE);
-    let next = stream::put_decimal(out, from, n);
+    let from = output::drain(out, at, LINE);
+    let next = text::put_decimal(out, from, n);
     let end = put_answer(out, next, list, found);
-    let last = stream::drain(out, end, LINE);
-    stream::put_text(out, last, b"\n")
+    let last = output::drain(out, end, LINE);
+    text::put_text(out, last, b"\n")
 }
 
 // The last line, and all that is not written yet.
 fn finish(out: &mut [u8], at: usize, word: &[u8], n: u64) {
-    let from = stream::drain(out, at, LINE);
-    let next = stream::put_counted(out, from, word, n);
-    let end = stream::put_text(out, next, b"\n");
-    stream::write_out(out, end);
+    let from = output::drain(out, at, LINE);
+    let next = text::put_counted(out, from, word, n);
+    let end = text::put_text(out, next, b"\n");
+    output::write_out(out, end);
 }
 
 // One line a message. A proved loop has to end, so it counts the messages, up to a number that no input reaches.

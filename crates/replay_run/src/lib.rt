@@ -16,21 +16,21 @@ const LINE: usize = 128;
 
 fn put_answer(out: &mut [u8], at: usize, answer: Answer) -> usize {
     match answer {
-        Answer::Refused(number) => stream::put_counted(out, at, b" refused ", number as u64),
-        Answer::Kept => stream::put_text(out, at, b" kept"),
-        Answer::Repeat => stream::put_text(out, at, b" repeat"),
-        Answer::Delivered(_, len) => stream::put_counted(out, at, b" delivered ", len as u64),
+        Answer::Refused(number) => text::put_counted(out, at, b" refused ", number as u64),
+        Answer::Kept => text::put_text(out, at, b" kept"),
+        Answer::Repeat => text::put_text(out, at, b" repeat"),
+        Answer::Delivered(_, len) => text::put_counted(out, at, b" delivered ", len as u64),
     }
 }
 
 // An emptied key ends its line, sender and sequence in decimal.
 fn put_emptied(out: &mut [u8], at: usize, emptied: Emptied) -> usize {
     match emptied {
-        Emptied::Nobody => stream::put_text(out, at, b"\n"),
+        Emptied::Nobody => text::put_text(out, at, b"\n"),
         Emptied::Was(key) => {
-            let a = stream::put_counted(&mut *out, at, b" emptied ", key.sender);
-            let b = stream::put_counted(&mut *out, a, b" ", key.sequence);
-            stream::put_text(&mut *out, b, b"\n")
+            let a = text::put_counted(&mut *out, at, b" emptied ", key.sender);
+            let b = text::put_counted(&mut *out, a, b" ", key.sequence);
+            text::put_text(&mut *out, b, b"\n")
         }
     }
 }
@@ -39,25 +39,25 @@ fn put_emptied(out: &mut [u8], at: usize, emptied: Emptied) -> usize {
 fn put_line(out: &mut [u8], at: usize, n: u64, outcome: Outcome) -> usize {
     let answer = outcome.answer;
     let emptied = outcome.emptied;
-    let a = stream::put_decimal(&mut *out, at, n);
+    let a = text::put_decimal(&mut *out, at, n);
     let b = put_answer(&mut *out, a, answer);
     put_emptied(&mut *out, b, emptied)
 }
 
 // The last line, and all that is not written yet: the input ended, inside a length or a datagram or not.
 fn finish(out: &mut [u8], at: usize, next: Next, n: u64) {
-    let from = stream::drain(&*out, at, LINE);
+    let from = output::drain(&*out, at, LINE);
     let a = put_end(&mut *out, from, next);
-    let b = stream::put_decimal(&mut *out, a, n);
-    let c = stream::put_text(&mut *out, b, b"\n");
-    stream::write_out(&*out, c);
+    let b = text::put_decimal(&mut *out, a, n);
+    let c = text::put_text(&mut *out, b, b"\n");
+    output::write_out(&*out, c);
 }
 
 fn put_end(out: &mut [u8], at: usize, next: Next) -> usize {
     if let Next::End = next {
-        return stream::put_text(out, at, b"end ");
+        return text::put_text(out, at, b"end ");
     }
-    stream::put_text(out, at, b"cut ")
+    text::put_text(out, at, b"cut ")
 }
 
 // Datagram n is received, and its line put where there is room. Answers the place after it.
@@ -72,7 +72,7 @@ fn one_more(
     d: &[u8],
 ) -> usize {
     let outcome = receiver::receive(state, names, store, ledger, 0, d);
-    let room = stream::drain(&*out, at, LINE);
+    let room = output::drain(&*out, at, LINE);
     put_line(out, room, n, outcome)
 }
 

@@ -2,7 +2,7 @@
 use mathlib.Core.Path.{sym, ap}
 use Rattle.watch.specs.declared.Answer.{Answer}
 use Rattle.watch.specs.Said.{says}
-use Rattle.stream.proofs.Puts.{put-is}
+use Rattle.text.proofs.Puts.{put-is}
 use Rattle.gaps_run.specs.Lines.{answerText}
 use borrow.Author.Needs.{needs}
 use Rattle.gaps_run.proofs.put_answer.Statement.{statement}

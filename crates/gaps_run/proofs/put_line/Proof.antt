@@ -1,5 +1,5 @@
 -- A line: its number, then the answer. Assumes nothing.
-use Rattle.stream.proofs.Puts.{put-then}
+use Rattle.text.proofs.Puts.{put-then}
 use borrow.Author.Needs.{needs}
 use Rattle.gaps_run.proofs.put_line.Statement.{statement}
 use Rattle.gaps_run.proofs.put_line.Tie as tie

@@ -1,5 +1,5 @@
 -- A word, a number and the end of the line. Assumes nothing.
-use Rattle.stream.proofs.Puts.{put-then}
+use Rattle.text.proofs.Puts.{put-then}
 use borrow.Author.Needs.{needs}
 use Rattle.gaps_run.proofs.put_number.Statement.{statement}
 use Rattle.gaps_run.proofs.put_number.Tie as tie
