@@ -81,6 +81,19 @@ sends-line {a} {b} {t} {at} {r} room k l h p =
 pub sends-past : (a t : List ℕ) (at : ℕ) → Sends a at t a 0
 sends-past a t at = record { gone = take at a ++ t; order = sym (append-nil (take at a ++ t)); within = omega arith; same-length = refl }
 
+-- ---- any text
+
+pub pours-then : {a b c s t : List ℕ} {at r q : ℕ} → Pours a at s b r → Pours b r t c q → Pours a at (s ++ t) c q
+pours-then {a} {b} {c} {s} {t} {at} {r} {q} x y = λ l h.
+    let v = x l h in sends-then v (y (subst (λ (n : ℕ). lineLimit ≤ n) (sym (v .same-length)) l) (v .within))
+
+pub pours-is : {a b s t : List ℕ} {at r : ℕ} → Pours a at s b r → s ≡ t → Pours a at t b r
+pours-is x e = λ l h. sends-is (x l h) e
+
+-- a short text that is put where room was made
+pub pours-put : {a b t : List ℕ} {at from r : ℕ} → length t ≤ lineLimit → from ≡ drained (length a) at lineLimit → Put a from t b r → Pours a at t b r
+pours-put {a} {b} {t} {at} {from} {r} k e p = λ l h. sends-line lineLimit k l h (subst (λ (n : ℕ). Put a n t b r) e p)
+
 -- ---- in hexadecimal
 
 pub length-hex : (l : List ℕ) → length (hex l) ≡ 2 * length l

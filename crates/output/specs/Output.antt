@@ -9,7 +9,7 @@ use Rattle.text.specs.Text.{decimal}
 use Rattle.stream.specs.declared.Next.{Next}
 use Rattle.stream.specs.declared.Next.the-variants.{Record, End, Cut}
 
--- no line is longer, but for a list or bytes that it carries
+-- room that any number needs, and the last line
 abbrev pub lineLimit : ℕ
 lineLimit = 128
 
@@ -25,7 +25,7 @@ pub record Sends (before : List ℕ) (at : ℕ) (text after : List ℕ) (r : ℕ
   pub within : r ≤ length after
   pub same-length : length after ≡ length before
 
--- so for any text, where a place within the buffer is given, and the buffer has room for a line
+-- so of any text, where the place lies within the buffer, and the buffer has that room
 abbrev pub Pours : List ℕ → ℕ → List ℕ → List ℕ → ℕ → Type 0
 Pours before at text after r = lineLimit ≤ length before → at ≤ length before → Sends before at text after r
 

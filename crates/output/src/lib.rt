@@ -1,18 +1,18 @@
 // An output buffer that is written in large pieces. What stands before a place is not written out yet. No contract can say what the system
 // took: they say that every byte of a text goes out once and in order, if all that is written out arrives.
 ghost use mathlib.Core.Path.{_≡_};
-ghost use Prim.Native.Nat.{_≤_};
+ghost use mathlib.Core.List.{[], _∷_, _++_};
 ghost use lib.ListN.{length};
 ghost use Rattle.wire.specs.Overlay.{overlay};
 ghost use Rattle.text.specs.Put.{Put};
-ghost use Rattle.text.specs.Text.{hex};
-ghost use Rattle.output.specs.Output.{lineLimit, drained, Sends, Pours, lastLine};
+ghost use Rattle.text.specs.Text.{decimal, signedDecimal, hex};
+ghost use Rattle.output.specs.Output.{lineLimit, drained, Pours, lastLine};
 use stream::Next;
 
-// No line is longer, but for a list or bytes that it carries.
+// Room that any number needs, and the last line. A program's buffer has as much or more.
 pub const LINE: usize = 128;
 
-// So many bytes fill a line in hexadecimal.
+// So many bytes fill it in hexadecimal.
 const PIECE: usize = LINE / 2;
 
 // Writes the bytes before a place to standard output.
@@ -33,7 +33,7 @@ pub fn drain(out: &[u8], at: usize, room: usize) -> usize
 
 // Bytes of any number, as they are. Answers the place after them; what the buffer cannot hold goes out at once.
 pub fn pour(out: &mut [u8], at: usize, bytes: &[u8]) -> usize
-    ensures { λ r. ⌜ (at ≤ length (now (out .entry)) → Sends (now (out .entry)) at (now (bytes .entry)) (now (out .exit)) r) ⌝ }
+    ensures { λ r. ⌜ Pours (now (out .entry)) at (now (bytes .entry)) (now (out .exit)) r ⌝ }
 {
     let from = drain(out, at, bytes.len());
     if bytes.len() <= out.len() {
@@ -41,6 +41,38 @@ pub fn pour(out: &mut [u8], at: usize, bytes: &[u8]) -> usize
     }
     write_out(bytes, bytes.len());
     0
+}
+
+// A number in decimal.
+pub fn pour_decimal(out: &mut [u8], at: usize, n: u64) -> usize
+    ensures { λ r. ⌜ Pours (now (out .entry)) at (decimal n) (now (out .exit)) r ⌝ }
+{
+    let from = drain(out, at, LINE);
+    text::put_decimal(out, from, n)
+}
+
+// A signed number in decimal.
+pub fn pour_signed(out: &mut [u8], at: usize, z: i64) -> usize
+    ensures { λ r. ⌜ Pours (now (out .entry)) at (signedDecimal z) (now (out .exit)) r ⌝ }
+{
+    let from = drain(out, at, LINE);
+    text::put_signed(out, from, z)
+}
+
+// A word and a number.
+pub fn pour_counted(out: &mut [u8], at: usize, word: &[u8], n: u64) -> usize
+    ensures { λ r. ⌜ Pours (now (out .entry)) at (now (word .entry) ++ decimal n) (now (out .exit)) r ⌝ }
+{
+    let next = pour(out, at, word);
+    pour_decimal(out, next, n)
+}
+
+// A word, a number and the end of the line.
+pub fn pour_counted_line(out: &mut [u8], at: usize, word: &[u8], n: u64) -> usize
+    ensures { λ r. ⌜ Pours (now (out .entry)) at (now (word .entry) ++ decimal n ++ 10 ∷ []) (now (out .exit)) r ⌝ }
+{
+    let next = pour_counted(out, at, word, n);
+    pour(out, next, b"\n")
 }
 
 // Bytes of any number, in hexadecimal.

@@ -3,10 +3,14 @@
 ghost use mathlib.Core.Path.{_≡_};
 ghost use Prim.Native.Nat.{_+_, _-_, _≤_, _<_};
 ghost use lib.ListN.{length, drop};
+ghost use lib.Seq.{slice};
 ghost use Rattle.wire.specs.Bytes.{be};
 ghost use Rattle.stream.specs.Records.{headOf, bodyLength, Gives};
 ghost use Rattle.stream.specs.Whole.{HoldsAll};
 ghost use Rattle.stream.specs.Windows.{Fronted, Grown, Ready, Dropped, Within, Headed, afterSkip};
+
+// More records than any input has: a proved loop has to end, so a program counts its records up to this.
+pub const MANY: u64 = 18446744073709551615;
 
 // How records stand in the input: after a 2-byte length, after a 4-byte length, as one byte and a 4-byte count of 8-byte numbers, or as an
 // entry of a flight: an 8-byte sender, an 8-byte tick and a 2-byte length.
@@ -217,6 +221,14 @@ pub fn next_record(buf: &mut [u8], input: Input, kind: Kind) -> Next
     }
     let body = body_length(&buf[at..end], kind);
     take_body(buf, one, kind, body)
+}
+
+// The head of a record whose body stands at a place.
+pub fn head(buf: &[u8], at: usize, kind: Kind) -> &[u8]
+    ensures { λ r. ⌜ now r ≡ slice (at - headOf kind) at (now (buf .entry)) ⌝ }
+{
+    let n = head_of(kind);
+    wire::part(buf, wire::room(at, n), wire::least(n, at))
 }
 
 // The whole input, read to its end or until it is seen to be longer than the buffer.

@@ -2,16 +2,19 @@
 use mathlib.Core.Path.{_≡_, refl, ap, sym, _∙_}
 use mathlib.Core.Bool.{Bool, true, false}
 use mathlib.Core.List.{List, [], _∷_, _++_}
-use Prim.Native.Nat.{ℕ, zero, suc, _+_, _-_, _*_, _/_, _%_, _≤_, _<_}
+use Prim.Native.Nat.{ℕ, zero, suc, _+_, _-_, _*_, _/_, _%_, _^_, _≤_, _<_}
+use native.Mathlib.Nat.{pow-suc}
 use native.Mathlib.Numerals.{add-one}
+use native.Mathlib.Decide.{decLe}
 use native.Mathlib.Omega.{arith}
-use lib.ListN.{length, getD, take}
+use lib.ListN.{length, getD, take, length-append}
 use lib.Seq.{take-suc}
 use lib.IntN.{ℤ, pos, negsuc, natAbs}
 use lib.Signed.{ltZ}
 use lib.Dec.{ltb}
 use borrow.Author.Tests.{lt-ltb, le-ltb, ltb-true, ltb-false}
 use Rattle.wire.specs.Choice.{pick}
+use Rattle.wire.specs.Signed.{Within}
 use Rattle.wire.proofs.Choices.{never}
 use Rattle.text.specs.Text.{digit, decimalBy, decimal, signedDecimal, hex}
 
@@ -37,6 +40,29 @@ pub decimal-high : (n : ℕ) → 10 ≤ n → decimal n ≡ decimal (n / 10) ++ 
 unfolding decimal decimalBy
 decimal-high n h =
     rw (add-one n, le-ltb n 10 h) (ap (λ (l : List ℕ). l ++ digit (n % 10) ∷ []) (enough (n / 10) n (n / 10 + 1) (omega arith) (omega arith)))
+
+-- ---- decimal is short
+
+-- a number below 10 ^ k has at most k digits
+pub length-decimal : (k n : ℕ) → n < 10 ^ suc k → length (decimal n) ≤ suc k
+length-decimal zero n h = let z : length (decimal n) ≡ 1 = ap length (decimal-low n h) in omega arith
+length-decimal (suc k) n h = elim (decLe 10 n) [
+  | no l ↦ let z : length (decimal n) ≡ 1 = ap length (decimal-low n (omega arith)) in omega arith
+  | yes l ↦
+      let p : n < 10 ^ suc k * 10 = rw (pow-suc 10 (suc k)) at h in
+      let z : length (decimal n) ≡ length (decimal (n / 10)) + 1 = ap length (decimal-high n l) ∙ length-append (decimal (n / 10)) (digit (n % 10) ∷ []) in
+      let i : length (decimal (n / 10)) ≤ suc k = length-decimal k (n / 10) (omega arith) in
+      omega arith
+]
+
+-- a number of 64 bits has at most 20
+pub length-word : (n : ℕ) → n < 18446744073709551616 → length (decimal n) ≤ 20
+length-word n h = length-decimal 19 n (omega arith)
+
+-- and a signed one a sign besides
+pub length-signed : (z : ℤ) → Within 64 z → length (signedDecimal z) ≤ 21
+length-signed (pos n) h = let i = length-word n (omega arith) in omega arith
+length-signed (negsuc n) h = let i = length-word (suc n) (omega arith) in omega arith
 
 -- ---- decimal determines the number
 

@@ -20,7 +20,7 @@ same-length : tie.Need-same-length
 same-length c = search needs
 
 returns : tie.Need-returns
-returns c h =
+returns c m h =
     let p = c .before .before in
     let d = p .before .before .before in
     let a = d .before .before .before .before .args in
@@ -35,7 +35,7 @@ same-length-2 : tie.Need-same-length-2
 same-length-2 c = search needs
 
 returns-2 : tie.Need-returns-2
-returns-2 c h =
+returns-2 c m h =
     let a = c .before .before .before .before .before .before .args in
     sends-past (a .out .now) (a .bytes .now) (a .at)
 

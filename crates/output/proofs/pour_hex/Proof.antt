@@ -9,8 +9,8 @@ use borrow.Author.Needs.{needs}
 use Rattle.text.specs.Text.{hex}
 use Rattle.text.specs.Put.{Put}
 use Rattle.text.proofs.Puts.{put-length}
-use Rattle.output.specs.Output.{lineLimit, drained, Sends, Pours}
-use Rattle.output.proofs.Sending.{sends-none, sends-then, sends-is, sends-line, length-hex, hex-more}
+use Rattle.output.specs.Output.{lineLimit, Pours}
+use Rattle.output.proofs.Sending.{sends-none, pours-then, pours-is, pours-put, length-hex, hex-more}
 use Rattle.output.proofs.pour_hex.Statement.{statement}
 use Rattle.output.proofs.pour_hex.Tie as tie
 
@@ -56,14 +56,10 @@ loop-again c =
     let n = k .least .result in
     let t = take n (drop i s) in
     let w : length (hex t) ≤ lineLimit = omega (arith, length-hex t, length-take n (drop i s), k .least .ensures) in
-    let put : Put (l .loop .out) (drained (length (l .loop .out)) (l .loop .next) lineLimit) (hex t) (p .put-hex .last .0) (p .put-hex .result) =
-    subst (λ (x : List ℕ). Put (l .loop .out) (drained (length (l .loop .out)) (l .loop .next) lineLimit) (hex x) (p .put-hex .last .0) (p .put-hex .result)) (q .part .ensures)
-    (subst (λ (j : ℕ). Put (l .loop .out) j (hex (q .part .result .now)) (p .put-hex .last .0) (p .put-hex .result)) (d .drain .ensures) (p .put-hex .ensures)) in (
+    let put = subst (λ (x : List ℕ). Put (l .loop .out) (d .drain .result) (hex x) (p .put-hex .last .0) (p .put-hex .result)) (q .part .ensures) (p .put-hex .ensures) in (
       omega (arith, k .least .ensures),
       put-length put ∙ l .loop .inv .1,
-      λ m h.
-          let v = l .loop .inv .2 m h in
-          sends-is (sends-then v (sends-line lineLimit w (omega (arith, l .loop .inv .1)) (v .within) put)) (sym (hex-more s i n)),
+      pours-is (pours-then (l .loop .inv .2) (pours-put w (d .drain .ensures) put)) (sym (hex-more s i n)),
     )
 
 same-length : tie.Need-same-length Inv-loop μ-loop
@@ -74,7 +70,7 @@ returns c =
     let l = c .before in
     let s = l .before .before .before .args .bytes .now in
     let e : l .loop .i ≡ length s = omega arith in
-    λ m h. sends-is (l .loop .inv .2 m h) (ap (λ (k : ℕ). hex (take k s)) e ∙ ap hex (take-length s))
+    pours-is (l .loop .inv .2) (ap (λ (k : ℕ). hex (take k s)) e ∙ ap hex (take-length s))
 
 pub pour-hex-spec : {M : Type 1} → statement M
 pour-hex-spec =
