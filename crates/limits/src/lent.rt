@@ -1,6 +1,7 @@
 // What is lent to the receiver, and states that no calls make. A case is: the words of the state and the bytes of the names that are lent, 0 for
 // one too few, 1 for as many as must be, 2 for one more; of opening then the store's length; of a datagram the lengths of store and ledger;
 // and two words of a state, each as what it holds and a value.
+ghost use Prim.Native.Nat.{_≤_};
 use receiver::Call;
 use steps::Answer;
 
@@ -28,7 +29,9 @@ fn spot(which: usize) -> usize {
 }
 
 // A fresh state, and two words of it as the case has them from a place on.
-fn prepare(case: &[u8], place: usize, state: &mut [u64], names: &mut [u8]) {
+fn prepare(case: &[u8], place: usize, state: &mut [u64], names: &mut [u8])
+    requires { ⌜ place ≤ 64 ⌝ }
+{
     let w = wire::least(receiver::STATE_WORDS, state.len());
     let b = wire::least(receiver::NAME_BYTES, names.len());
     let _ = receiver::open(&mut state[..w], &mut names[..b], STORE);
@@ -60,17 +63,14 @@ pub(crate) fn opened(
     pour_call(out, at, call, b"")
 }
 
-// What is answered to a small message.
-pub(crate) fn received(
-    out: &mut [u8],
-    at: usize,
+// What is answered to a small message over what is lent.
+fn answered(
     case: &[u8],
     state: &mut [u64],
     names: &mut [u8],
     store: &mut [u8],
     ledger: &mut [u32],
-) -> usize {
-    prepare(case, 32, state, names);
+) -> Answer {
     let w = wire::least(state_words(case), state.len());
     let b = wire::least(name_bytes(case), names.len());
     let s = wire::least(crate::number(case, 16), store.len());
@@ -83,13 +83,30 @@ pub(crate) fn received(
         0,
         b"LC02\x00\x00\x00\x07P\x00A",
     );
-    let answer = outcome.answer;
+    outcome.answer
+}
+
+fn pour_answer(out: &mut [u8], at: usize, answer: Answer) -> usize {
     match answer {
         Answer::Refused(n) => output::pour_counted(out, at, b"refused ", n as u64),
         Answer::Kept => output::pour(out, at, b"kept"),
         Answer::Repeat => output::pour(out, at, b"repeat"),
         Answer::Delivered(_, n) => output::pour_counted(out, at, b"delivered ", n as u64),
     }
+}
+
+pub(crate) fn received(
+    out: &mut [u8],
+    at: usize,
+    case: &[u8],
+    state: &mut [u64],
+    names: &mut [u8],
+    store: &mut [u8],
+    ledger: &mut [u32],
+) -> usize {
+    prepare(case, 32, state, names);
+    let answer = answered(case, state, names, store, ledger);
+    pour_answer(out, at, answer)
 }
 
 // What is answered to forgetting sender 0.
