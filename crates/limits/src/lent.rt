@@ -35,8 +35,16 @@ fn prepare(case: &[u8], place: usize, state: &mut [u64], names: &mut [u8])
     let w = wire::least(receiver::STATE_WORDS, state.len());
     let b = wire::least(receiver::NAME_BYTES, names.len());
     let _ = receiver::open(&mut state[..w], &mut names[..b], STORE);
-    words::put_word(state, spot(crate::number(case, place)), wire::number(case, place + 8, 8));
-    words::put_word(state, spot(crate::number(case, place + 16)), wire::number(case, place + 24, 8));
+    words::put_word(
+        state,
+        spot(crate::number(case, place)),
+        wire::number(case, place + 8, 8),
+    );
+    words::put_word(
+        state,
+        spot(crate::number(case, place + 16)),
+        wire::number(case, place + 24, 8),
+    );
 }
 
 fn pour_call(out: &mut [u8], at: usize, call: Call, done: &[u8]) -> usize {
@@ -47,13 +55,7 @@ fn pour_call(out: &mut [u8], at: usize, call: Call, done: &[u8]) -> usize {
 }
 
 // The slot size of a store of so many bytes.
-pub(crate) fn opened(
-    out: &mut [u8],
-    at: usize,
-    case: &[u8],
-    state: &mut [u64],
-    names: &mut [u8],
-) -> usize {
+fn opened_in(out: &mut [u8], at: usize, case: &[u8], state: &mut [u64], names: &mut [u8]) -> usize {
     let w = wire::least(state_words(case), state.len());
     let b = wire::least(name_bytes(case), names.len());
     let call = receiver::open(&mut state[..w], &mut names[..b], crate::number(case, 16));
@@ -95,7 +97,7 @@ fn pour_answer(out: &mut [u8], at: usize, answer: Answer) -> usize {
     }
 }
 
-pub(crate) fn received(
+fn received_in(
     out: &mut [u8],
     at: usize,
     case: &[u8],
@@ -110,7 +112,7 @@ pub(crate) fn received(
 }
 
 // What is answered to forgetting sender 0.
-pub(crate) fn forgotten(
+fn forgotten_in(
     out: &mut [u8],
     at: usize,
     case: &[u8],
@@ -122,4 +124,33 @@ pub(crate) fn forgotten(
     let b = wire::least(name_bytes(case), names.len());
     let call = receiver::forget(&mut state[..w], &mut names[..b], 0);
     pour_call(out, at, call, b"done")
+}
+
+// The same over arrays that are one longer than must be.
+pub(crate) fn opened(out: &mut [u8], at: usize, case: &[u8]) -> usize {
+    let mut state = [0u64; receiver::STATE_WORDS + 1];
+    let mut names = [0u8; receiver::NAME_BYTES + 1];
+    opened_in(out, at, case, &mut state, &mut names)
+}
+
+pub(crate) fn received(out: &mut [u8], at: usize, case: &[u8]) -> usize {
+    let mut state = [0u64; receiver::STATE_WORDS + 1];
+    let mut names = [0u8; receiver::NAME_BYTES + 1];
+    let mut store = [0u8; 2 * STORE];
+    let mut ledger = [0u32; receiver::LEDGER + 1];
+    received_in(
+        out,
+        at,
+        case,
+        &mut state,
+        &mut names,
+        &mut store,
+        &mut ledger,
+    )
+}
+
+pub(crate) fn forgotten(out: &mut [u8], at: usize, case: &[u8]) -> usize {
+    let mut state = [0u64; receiver::STATE_WORDS + 1];
+    let mut names = [0u8; receiver::NAME_BYTES + 1];
+    forgotten_in(out, at, case, &mut state, &mut names)
 }

@@ -36,7 +36,7 @@ numbers-more (suc i) b =
     ap (λ (l : List ℤ). signed 64 (be 8 b) ∷ l)
     (numbers-more i (drop 8 b)
     ∙ ap (λ (x : List ℕ). numbersOf i (drop 8 b) ++ signed 64 (be 8 x) ∷ [])
-        (drop-drop (8 * i) 8 b ∙ ap (λ (k : ℕ). drop k b) (let e : 8 + 8 * i ≡ 8 * suc i = omega arith in e)))
+    (drop-drop (8 * i) 8 b ∙ ap (λ (k : ℕ). drop k b) (let e : 8 + 8 * i ≡ 8 * suc i = omega arith in e)))
 
 -- number i is stored after those before it
 pub taken-one : (l : List ℤ) (i : ℕ) (b : List ℕ) (z : ℤ) → z ≡ signed 64 (be 8 (drop (8 * i) b)) → set (sets l 0 (numbersOf i b)) i z ≡ sets l 0 (numbersOf (i + 1) b)

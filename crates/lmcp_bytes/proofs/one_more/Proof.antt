@@ -69,9 +69,9 @@ returns-2 c =
     let a = d .before .before .before .before .before .args in
     let vs = numbersOf (length (a .body .now) / 8) (a .body .now) in
     let e : take (l .take-list .result) (l .take-list .last .1 .0) ≡ vs =
-        (λ i. take (l .take-list .ensures .0 i) (l .take-list .ensures .1 i))
-        ∙ ap (λ (k : ℕ). take k (sets (a .list .now) 0 vs)) (sym (length-numbers (length (a .body .now) / 8) (a .body .now)))
-        ∙ taken-front (a .list .now) vs (omega (arith, length-numbers (length (a .body .now) / 8) (a .body .now), t .if1 .left)) in
+    (λ i. take (l .take-list .ensures .0 i) (l .take-list .ensures .1 i))
+    ∙ ap (λ (k : ℕ). take k (sets (a .list .now) 0 vs)) (sym (length-numbers (length (a .body .now) / 8) (a .body .now)))
+    ∙ taken-front (a .list .now) vs (omega (arith, length-numbers (length (a .body .now) / 8) (a .body .now), t .if1 .left)) in
     subst
     (λ (b : Bool). byLength b (a .calculate) (a .body .now) (a .n) (a .list .now) (a .bytes .now) (a .out .now) (a .at) (l .take-list .last .1 .0) (w .write-message .last .1 .1 .0) (p .pour-made .last .0) (p .pour-made .result))
     (sym (le-ltb (length (a .list .now)) (length (a .body .now) / 8) (t .if1 .left)))

@@ -1,11 +1,14 @@
 -- The numbers of a body. The loop's invariant: the i numbers passed are stored. Assumes nothing.
 use mathlib.Core.Path.{_≡_, refl, sym, ap, _∙_}
 use mathlib.Core.List.{List}
-use Prim.Native.Nat.{ℕ, _-_, _*_, _/_, _≤_}
+use Prim.Native.Nat.{ℕ, _+_, _-_, _*_, _/_, _≤_}
 use lib.IntN.{ℤ}
 use lib.ListN.{length, drop, set, length-set}
 use lib.Seq.{sets, length-sets}
 use native.Mathlib.Omega.{arith}
+use mir.Syntax.{w64}
+use mir.Val.{toZ, ofZ}
+use mir.ValLaws.{toZ-ofZ}
 use Rattle.wire.specs.Signed.{signed}
 use Rattle.lmcp_bytes.specs.Lines.{numbersOf}
 use Rattle.lmcp_bytes.proofs.Taken.{taken-one}
@@ -49,8 +52,10 @@ loop-again c =
     let k = c .before in
     let l = k .before .before in
     let b = l .before .before .args .body .now in
-    let q = ap (λ (x : List ℤ). set x (l .loop .i) (s .signed-of .result)) (l .loop .inv .2) ∙ taken-one (l .before .before .args .list .now) (l .loop .i) b (s .signed-of .result) (s .signed-of .ensures ∙ ap (signed 64) (k .number .ensures .value)) in
-    (omega arith, ap length q ∙ length-sets (l .before .before .args .list .now) 0 _, q)
+    let z : ℤ = toZ w64 (ofZ w64 (s .signed-of .result)) in
+    let e = toZ-ofZ w64 (s .signed-of .result) (record { sfits = s .signed-of .ok }) ∙ s .signed-of .ensures ∙ ap (signed 64) (k .number .ensures .value) in
+    let q = ap (λ (x : List ℤ). set x (l .loop .i) z) (l .loop .inv .2) ∙ taken-one (l .before .before .args .list .now) (l .loop .i) b z e in
+    (omega arith, ap length q ∙ length-sets (l .before .before .args .list .now) 0 (numbersOf (l .loop .i + 1) b), q)
 
 same-length : tie.Need-same-length Inv-loop μ-loop
 same-length c = search needs

@@ -5,6 +5,7 @@ use Prim.Native.Nat.{ℕ, _+_, _-_, _≤_, min}
 use lib.IntN.{ℤ, pos}
 use lib.ListN.{length, take, getD}
 use mir.Syntax.{w64}
+use mir.ValLaws.{toZ-ofZ}
 use Rattle.text.specs.Text.{signedDecimal}
 use Rattle.output.specs.Output.{Pours}
 use Rattle.output.proofs.Sending.{sends-none, pours-then, pours-is}
@@ -58,7 +59,9 @@ loop-again c =
     let s = l .before .before .before .args .list .now in (
       omega arith,
       omega (arith, p .pour-signed .kept .0, q .pour .kept .0, l .loop .inv .1),
-      pours-is (pours-then (pours-then (l .loop .inv .2) (q .pour .ensures)) (p .pour-signed .ensures)) (spaced-turn s (l .loop .i) (omega (arith, l .before .least .ensures))),
+      pours-is (pours-then (pours-then (l .loop .inv .2) (q .pour .ensures)) (p .pour-signed .ensures))
+          (ap (λ (z : ℤ). spaced (take (l .loop .i) s) ++ 32 ∷ [] ++ signedDecimal z) (toZ-ofZ w64 (getD s (l .loop .i) (pos 0)) (record { sfits = p .before .pour-signed-arg2 .given }))
+          ∙ spaced-turn s (l .loop .i) (omega (arith, l .before .least .ensures))),
     )
 
 same-length : tie.Need-same-length Inv-loop μ-loop
