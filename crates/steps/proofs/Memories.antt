@@ -136,11 +136,15 @@ first-only p l j h e u = go (first p l) refl
         let r : First p l i noPlace = first-some p noPlace l i q in
         q ∙ ap some (u i (r .inside) (r .passes))
 
-furthest-inside : (m : Memory) (n : ℕ) → furthestBack m n ≤ n
-furthest-inside m zero = le-refl 0
-furthest-inside m (suc n) = go (ltb (placeAt m (suc n) .turn) (placeAt m (furthestBack m n) .turn)) (furthest-inside m n)
+furthest-inside : (m : Memory) (n : ℕ) → furthestBack m (suc n) ≤ n
+furthest-inside m zero = go (ltb (placeAt m 0 .turn) (placeAt m 0 .turn))
   where
-    go : (b : Bool) → furthestBack m n ≤ n → pick b (suc n) (furthestBack m n) ≤ suc n
+    go : (b : Bool) → pick b 0 0 ≤ 0
+    go true = le-refl 0
+    go false = le-refl 0
+furthest-inside m (suc n) = go (ltb (placeAt m (suc n) .turn) (placeAt m (furthestBack m (suc n)) .turn)) (furthest-inside m n)
+  where
+    go : (b : Bool) → furthestBack m (suc n) ≤ n → pick b (suc n) (furthestBack m (suc n)) ≤ suc n
     go true h = le-refl (suc n)
     go false h = omega arith
 
@@ -186,7 +190,7 @@ module _ (m : Memory) (l : length m ≡ sendersMost) (s : ℕ) where
   unfolding placeFor
   place-inside = go (first (isOf s) m) refl (first vacant m) refl
     where
-      go : (o : Option ℕ) → first (isOf s) m ≡ o → (v : Option ℕ) → first vacant m ≡ v → orElse o (orElse v (furthestBack m (sendersMost - 1))) < sendersMost
+      go : (o : Option ℕ) → first (isOf s) m ≡ o → (v : Option ℕ) → first vacant m ≡ v → orElse o (orElse v (furthestBack m sendersMost)) < sendersMost
       go (some i) e v f = omega (arith, first-some (isOf s) noPlace m i e .inside)
       go none e (some j) f = omega (arith, first-some vacant noPlace m j f .inside)
       go none e none f = omega (arith, furthest-inside m (sendersMost - 1))
@@ -651,6 +655,14 @@ forget-other m from k e = elim (ℕ-discrete (k .sender) from) [
   | yes q ↦ forget-own m from k q
   | no q ↦ forget-kept m from k q ∙ e
 ]
+
+pub forget-at : (m : Memory) (from i : ℕ) → i < length m → placeAt (forgetKeys m from) i ≡ freed from (placeAt m i)
+unfolding forgetKeys
+forget-at m from i h = getD-map (freed from) m i h
+
+pub forget-long : (m : Memory) (from : ℕ) → length (forgetKeys m from) ≡ length m
+unfolding forgetKeys
+forget-long m from = length-map m (freed from)
 
 pub forget-whole : (m : Memory) (from : ℕ) → Whole m → Whole (forgetKeys m from)
 unfolding forgetKeys

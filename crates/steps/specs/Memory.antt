@@ -73,10 +73,10 @@ isRemembered m k = has (keptAt m (first (isOf (k .sender)) m)) (k .sequence)
 
 -- ---- a key is remembered
 
--- of the first places up to place n the one with the lowest turn; of two the first
+-- of the first n places the one with the lowest turn; of two the first
 abbrev pub furthestBack : Memory → ℕ → ℕ
 furthestBack m zero = 0
-furthestBack m (suc n) = pick (ltb (placeAt m (suc n) .turn) (placeAt m (furthestBack m n) .turn)) (suc n) (furthestBack m n)
+furthestBack m (suc n) = pick (ltb (placeAt m n .turn) (placeAt m (furthestBack m n) .turn)) n (furthestBack m n)
 
 abbrev pub orElse : Option ℕ → ℕ → ℕ
 orElse none j = j
@@ -84,7 +84,7 @@ orElse (some i) j = i
 
 -- the place for a delivery of that sender: its own, else a free one, else that of the sender whose latest delivery lies furthest back
 unfoldable pub placeFor : Memory → ℕ → ℕ
-placeFor m from = orElse (first (isOf from) m) (orElse (first vacant m) (furthestBack m (sendersMost - 1)))
+placeFor m from = orElse (first (isOf from) m) (orElse (first vacant m) (furthestBack m sendersMost))
 
 -- how many keys of that sender count there: where it is another's, none
 abbrev pub countOf : ℕ → Place → ℕ
