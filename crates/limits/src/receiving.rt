@@ -104,7 +104,7 @@ fn deliver_some(state: &mut [u64], names: &mut [u8], store: &mut [u8], ledger: &
 
 // P at the slot size and over: 64 bytes of store make slots of 8.
 pub(crate) fn sizes(out: &mut [u8], at: usize) -> usize {
-    let mut state = [0u64; 203];
+    let mut state = [0u64; receiver::STATE_WORDS];
     let mut names = [0u8; 504];
     let mut store = [0u8; 64];
     let mut ledger = [0u32; 4096];
@@ -135,7 +135,7 @@ pub(crate) fn sizes(out: &mut [u8], at: usize) -> usize {
 
 // n at 256 and over.
 pub(crate) fn counts(out: &mut [u8], at: usize) -> usize {
-    let mut state = [0u64; 203];
+    let mut state = [0u64; receiver::STATE_WORDS];
     let mut names = [0u8; 504];
     let mut store = [0u8; 64];
     let mut ledger = [0u32; 4096];
@@ -166,7 +166,7 @@ pub(crate) fn counts(out: &mut [u8], at: usize) -> usize {
 
 // Eight and nine open, and n = 1 with eight open.
 pub(crate) fn slots(out: &mut [u8], at: usize) -> usize {
-    let mut state = [0u64; 203];
+    let mut state = [0u64; receiver::STATE_WORDS];
     let mut names = [0u8; 504];
     let mut store = [0u8; 64];
     let mut ledger = [0u32; 4096];
@@ -209,7 +209,7 @@ pub(crate) fn slots(out: &mut [u8], at: usize) -> usize {
 
 // A message delivered, then n others, then the first again.
 fn remembered(out: &mut [u8], at: usize, n: u64) -> usize {
-    let mut state = [0u64; 203];
+    let mut state = [0u64; receiver::STATE_WORDS];
     let mut names = [0u8; 504];
     let mut store = [0u8; 64];
     let mut ledger = [0u32; 4096];
@@ -222,12 +222,12 @@ fn remembered(out: &mut [u8], at: usize, n: u64) -> usize {
     received(out, a, &mut state, &mut names, &mut store, &mut ledger, &d)
 }
 
-// The memory at 63, 64 and 65 other deliveries.
+// The memory of a sender at 31, 32 and 33 other deliveries.
 pub(crate) fn memory(out: &mut [u8], at: usize) -> usize {
     let mut a = remembered(&mut *out, at, 0);
-    a = remembered(&mut *out, a, 63);
-    a = remembered(&mut *out, a, 64);
-    remembered(&mut *out, a, 65)
+    a = remembered(&mut *out, a, 31);
+    a = remembered(&mut *out, a, 32);
+    remembered(&mut *out, a, 33)
 }
 
 // A small message to a receiver that is lent these.
@@ -248,7 +248,7 @@ fn lent(
 
 // The lengths that are lent: state and names one off.
 pub(crate) fn lent_states(out: &mut [u8], at: usize) -> usize {
-    let mut state = [0u64; 203];
+    let mut state = [0u64; receiver::STATE_WORDS];
     let mut short_state = [0u64; 202];
     let mut names = [0u8; 504];
     let mut long_names = [0u8; 505];
@@ -277,7 +277,7 @@ pub(crate) fn lent_states(out: &mut [u8], at: usize) -> usize {
 
 // Store and ledger one off, and all as at opening.
 pub(crate) fn lent_stores(out: &mut [u8], at: usize) -> usize {
-    let mut state = [0u64; 203];
+    let mut state = [0u64; receiver::STATE_WORDS];
     let mut names = [0u8; 504];
     let mut store = [0u8; 64];
     let mut short_store = [0u8; 63];
@@ -315,7 +315,7 @@ pub(crate) fn lent_stores(out: &mut [u8], at: usize) -> usize {
 
 // A state with two of its words set.
 fn altered(out: &mut [u8], at: usize, label: &[u8], i: usize, v: u64, j: usize, w: u64) -> usize {
-    let mut state = [0u64; 203];
+    let mut state = [0u64; receiver::STATE_WORDS];
     let mut names = [0u8; 504];
     let mut store = [0u8; 64];
     let mut ledger = [0u32; 4096];
@@ -333,7 +333,7 @@ fn altered(out: &mut [u8], at: usize, label: &[u8], i: usize, v: u64, j: usize, 
     )
 }
 
-// States not made by calls: slot 0 has its size in word 4 and its count in word 5; word 74 counts the remembered keys.
+// States not made by calls: slot 0 has its size in word 4 and its count in word 5; word 90 counts the keys of the memory's first sender.
 pub(crate) fn states(out: &mut [u8], at: usize) -> usize {
     let mut a = altered(&mut *out, at, b"slot size 7: ", 1, 7, 1, 7);
     a = altered(&mut *out, a, b"open with P 8, n 256: ", 4, 8, 5, 256);
@@ -343,13 +343,13 @@ pub(crate) fn states(out: &mut [u8], at: usize) -> usize {
 
 pub(crate) fn more_states(out: &mut [u8], at: usize) -> usize {
     let mut a = altered(&mut *out, at, b"free with P 9: ", 4, 9, 5, 0);
-    a = altered(&mut *out, a, b"64 keys remembered: ", 74, 64, 74, 64);
-    altered(&mut *out, a, b"65 keys remembered: ", 74, 65, 74, 65)
+    a = altered(&mut *out, a, b"32 keys of a sender: ", 90, 32, 90, 32);
+    altered(&mut *out, a, b"33 keys of a sender: ", 90, 33, 90, 33)
 }
 
 // The slot size of a store of so many bytes.
 fn opened(out: &mut [u8], at: usize, store: usize) -> usize {
-    let mut state = [0u64; 203];
+    let mut state = [0u64; receiver::STATE_WORDS];
     let mut names = [0u8; 504];
     let a = crate::page::label(&mut *out, at, b"store of ", store as u64, b" bytes: ");
     match receiver::open(&mut state, &mut names, store) {

@@ -113,7 +113,7 @@ fn replayed(
 pub fn run(buf: &mut [u8], out: &mut [u8])
     ensures { λ _. ⌜ (length (now (buf .exit)) ≡ length (now (buf .entry))) × (length (now (out .exit)) ≡ length (now (out .entry))) ⌝ }
 {
-    let mut state = [0u64; 203];
+    let mut state = [0u64; receiver::STATE_WORDS];
     let mut names = [0u8; 504];
     let mut store = [0u8; 65536];
     let mut ledger = [0u32; 4096];
