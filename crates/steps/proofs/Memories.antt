@@ -16,7 +16,7 @@ use Rattle.wire.specs.Choice.{pick}
 use Rattle.wire.proofs.Choices.{either, never, and-l, and-r, and-of, or-l, or-r, pick-all}
 use Rattle.steps.specs.Limits.{sendersMost, keysEach}
 use Rattle.steps.specs.Search.{allBelow, one, first}
-use Rattle.steps.specs.Memory.{Key, keyOf, sameKey, among, Place, noPlace, vacant, isOf, remembered, has, Memory, emptyMemory, placeAt, keptAt, isRemembered, furthestBack, orElse, placeFor, countOf, pushed, withKey, sunk, remember, freed, forgetKeys, memoryOk, rememberAll, since, Lately, FewSenders, Recent}
+use Rattle.steps.specs.Memory.{Key, keyOf, sameKey, among, Place, noPlace, vacant, isOf, remembered, has, Memory, emptyMemory, placeAt, keptAt, isRemembered, furthestBack, orElse, placeFor, countOf, pushed, withKey, sunk, remember, freed, forgetKeys, memoryOk, rememberAll, without, since, Lately, FewSenders, Recent}
 use Rattle.steps.proofs.Tables.{or-not, or-yes, or-none, not-true, not-false, all-of, First, first-some, first-none}
 
 -- ---- keys
@@ -63,12 +63,7 @@ has-take (suc n) (x ∷ a) q e = go (eqb x q) e (has-take n a q)
 
 -- ---- at most as many different numbers as the list has that they stand in
 
--- the list without x
-abbrev without : List ℕ → ℕ → List ℕ
-without [] x = []
-without (y ∷ l) x = pick (eqb y x) (without l x) (y ∷ without l x)
-
-without-short : (l : List ℕ) (x : ℕ) → length (without l x) ≤ length l
+pub without-short : (l : List ℕ) (x : ℕ) → length (without l x) ≤ length l
 without-short [] x = le-refl 0
 without-short (y ∷ l) x = go (eqb y x) (without-short l x)
   where
@@ -76,7 +71,7 @@ without-short (y ∷ l) x = go (eqb y x) (without-short l x)
     go true h = omega arith
     go false h = omega arith
 
-without-less : (l : List ℕ) (x : ℕ) → has l x ≡ true → length (without l x) < length l
+pub without-less : (l : List ℕ) (x : ℕ) → has l x ≡ true → length (without l x) < length l
 without-less [] x e = never e refl
 without-less (y ∷ l) x e = go (eqb y x) e (without-short l x) (without-less l x)
   where
@@ -85,7 +80,7 @@ without-less (y ∷ l) x e = go (eqb y x) e (without-short l x) (without-less l 
     go true q h r = omega arith
     go false q h r = let z : length (without l x) < length l = r q in omega arith
 
-without-other : (l : List ℕ) (x z : ℕ) → z ≢ x → has l z ≡ true → has (without l x) z ≡ true
+pub without-other : (l : List ℕ) (x z : ℕ) → z ≢ x → has l z ≡ true → has (without l x) z ≡ true
 without-other [] x z n e = e
 without-other (y ∷ l) x z n e = elim (ℕ-discrete y x) [
   | yes q ↦
@@ -98,7 +93,7 @@ without-other (y ∷ l) x z n e = elim (ℕ-discrete y x) [
     go true u v = refl
     go false u v = v u
 
-at-most : (n : ℕ) (f : ℕ → ℕ) (l : List ℕ) → ((i : ℕ) → i < n → has l (f i) ≡ true) → ((i j : ℕ) → i < n → j < n → f i ≡ f j → i ≡ j) → n ≤ length l
+pub at-most : (n : ℕ) (f : ℕ → ℕ) (l : List ℕ) → ((i : ℕ) → i < n → has l (f i) ≡ true) → ((i j : ℕ) → i < n → j < n → f i ≡ f j → i ≡ j) → n ≤ length l
 at-most zero f l h d = zero-le
 at-most (suc n) f l h d =
     let r : n ≤ length (without l (f n)) = at-most n f (without l (f n))
@@ -111,13 +106,13 @@ at-most (suc n) f l h d =
 pub of-sender : (s : ℕ) (p : Place) → isOf s p ≡ true → p .sender ≡ s
 of-sender s p e = eqb-true (p .sender) s (and-r (not (vacant p)) (eqb (p .sender) s) e)
 
-vacant-of : (s : ℕ) (p : Place) → vacant p ≡ true → isOf s p ≡ false
+pub vacant-of : (s : ℕ) (p : Place) → vacant p ≡ true → isOf s p ≡ false
 vacant-of s p e = rw e
 
-taken-of : (s : ℕ) (p : Place) → vacant p ≡ false → p .sender ≡ s → isOf s p ≡ true
+pub taken-of : (s : ℕ) (p : Place) → vacant p ≡ false → p .sender ≡ s → isOf s p ≡ true
 taken-of s p e q = rw (e, eq-eqb (p .sender) s q)
 
-of-taken : (s : ℕ) (p : Place) → isOf s p ≡ true → vacant p ≡ false
+pub of-taken : (s : ℕ) (p : Place) → isOf s p ≡ true → vacant p ≡ false
 of-taken s p e = not-true (vacant p) (and-l (not (vacant p)) (eqb (p .sender) s) e)
 
 getD-map : (f : Place → Place) (l : List Place) (i : ℕ) → i < length l → placeAt (map f l) i ≡ f (placeAt l i)
@@ -255,14 +250,14 @@ module _ (k : Key) (p : Place) where
     | no b ↦ rw (le-ltb its keysEach (omega arith)) (omega (arith, length-append (drop 1 (p .sequences)) (k .sequence ∷ []), length-drop 1 (p .sequences)))
   ]
 
-  key-taken : vacant (withKey k p) ≡ false
+  pub key-taken : vacant (withKey k p) ≡ false
   unfolding withKey
   key-taken = elim (decLe (suc its) keysEach) [
     | yes b ↦ rw (lt-ltb its keysEach b) (ne-eqb (suc its) 0 (λ z. omega arith))
     | no b ↦ rw (le-ltb its keysEach (omega arith)) (ne-eqb its 0 (λ z. omega arith))
   ]
 
-  key-sender : withKey k p .sender ≡ k .sender
+  pub key-sender : withKey k p .sender ≡ k .sender
   unfolding withKey
   key-sender = refl
 

@@ -133,6 +133,15 @@ unfoldable pub rememberAll : List Key → Memory
 rememberAll [] = emptyMemory
 rememberAll (k ∷ ks) = remember (rememberAll ks) k
 
+-- the senders of these deliveries, each once, by their latest: at each delivery, where they are over 16, the one furthest back goes
+abbrev pub without : List ℕ → ℕ → List ℕ
+without [] x = []
+without (y ∷ l) x = pick (eqb y x) (without l x) (y ∷ without l x)
+
+unfoldable pub latest : List Key → List ℕ
+latest [] = []
+latest (k ∷ ks) = take sendersMost (k .sender ∷ without (latest ks) (k .sender))
+
 -- how many of these deliveries, the latest first, came of k's own sender since that of k
 unfoldable pub since : List Key → Key → ℕ
 since [] k = 0
@@ -141,6 +150,14 @@ since (x ∷ ks) k = pick (sameKey x k) 0 (one (eqb (x .sender) (k .sender)) + s
 -- 32 others of its own sender have not been delivered since k was
 abbrev pub Lately : List Key → Key → Type 0
 Lately ks k = since ks k < keysEach
+
+-- a sender has a place
+abbrev pub isThere : Option ℕ → Bool
+isThere none = false
+isThere (some i) = true
+
+unfoldable pub isKnown : Memory → ℕ → Bool
+isKnown m from = isThere (first (isOf from) m)
 
 -- these keys are of at most 16 senders
 pub record FewSenders (ks : List Key) : Type 0 where
