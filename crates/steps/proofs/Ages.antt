@@ -9,7 +9,7 @@ use native.Mathlib.Omega.{arith}
 use native.Mathlib.Decide.{ℕ-discrete}
 use lib.ListN.{length, set, getD-replicate}
 use lib.Seq.{getD-set-other}
-use Rattle.wire.proofs.Choices.{never, and-of}
+use Rattle.wire.proofs.Choices.{either, never, and-of}
 use Rattle.datagram.specs.Limits.{maxFragments}
 use Rattle.datagram.specs.Said.{Said, fragment, Fragment, said}
 use Rattle.steps.specs.Limits.{slotCount}
@@ -17,10 +17,10 @@ use Rattle.steps.specs.Memory.{Key, keyOf, sameKey, isRemembered}
 use Rattle.steps.specs.Slots.{Slot, busy, noSlot, slotAt, findOpen, openCount, oldest, release, releaseOf, opening, filled, Seat, seat, Emptied, Nobody, Was}
 use Rattle.steps.specs.Receive.{Machine, After, Answer, stay, step5, step, forget, opened, sequenceOf}
 use Rattle.steps.specs.Answers.{emptiedKey}
-use Rattle.steps.specs.Runs.{from, keyIn}
-use Rattle.steps.specs.Reach.{Reached, opens, receives, forgets, found, isOpen, isStored, opensFor, ago, FurthestBack, OldestFirst}
+use Rattle.steps.specs.Runs.{World, lending, Arrival, from, keyIn, call}
+use Rattle.steps.specs.Reach.{Reached, opens, receives, forgets, found, isOpen, isStored, opensSlot, opensFor, ago, FurthestBack, OldestFirst}
 use Rattle.steps.proofs.Tables.{and-no, count-all, clash-none}
-use Rattle.steps.proofs.Memories.{key-same, whole-ok}
+use Rattle.steps.proofs.Memories.{same-key, key-same, whole-ok}
 use Rattle.steps.proofs.Seats.{busyAt, keyAt, turnAt, same-its-key, Found, open-found, is-found, set-there, Seated, free, full, seated, oldest-low}
 use Rattle.steps.proofs.Branches.{Course, unmoved, given, joined, begun, course, step5-stores}
 use Rattle.steps.proofs.Ranks.{Ranks, Shrunk, was-open, order-back, ranks-open, last-turn, fill-alike, ranks-fill, Sat, oldest-inside, step5-shrunk, step5-gone}
@@ -96,21 +96,28 @@ aged-step5 : (m : Machine) (slots : List Slot) → length slots ≡ slotCount �
 aged-step5 m slots e o store ledger gone s b y f g k =
     aged-shrunk (ranks-fill slots e s b f o) (step5-shrunk m slots e o store ledger gone s b y f) g (aged-filled slots e s b f g k)
 
-module _ (m : Machine) (store ledger : List ℕ) (sender : ℕ) (d : List ℕ) where
+module _ (w : World) (x : Arrival) where
   -- an open key is not opened
-  not-opened : (k : Key) → isOpen m k ≡ true → opensFor m store ledger sender d k ≡ false
-  unfolding opensFor
-  not-opened k e = and-no (sameKey (keyIn (m .slotSize) (from sender d)) k) (rw e)
+  not-opened : (k : Key) → isOpen (w .machine) k ≡ true → opensFor w x k ≡ false
+  unfolding opensFor opensSlot
+  not-opened k e = elim (either (sameKey its k)) [
+    | inl q ↦ and-no (sameKey its k) (ap (λ (b : Bool). not b && isStored (call w x .answer)) (ap (isOpen (w .machine)) (same-key its k q) ∙ e))
+    | inr q ↦ rw q
+  ]
+    where
+      its : Key
+      its = keyIn (w .machine .slotSize) x
 
   -- the key of a fragment that opens a slot is
-  is-opened : (f : Fragment) → said (m .slotSize) maxFragments d ≡ fragment f → findOpen (m .slots) (keyOf sender (f .sequence)) ≡ none
-      → isStored (step m store ledger sender d .answer) ≡ true → opensFor m store ledger sender d (keyOf sender (f .sequence)) ≡ true
-  unfolding opensFor
+  is-opened : (f : Fragment) → said (w .machine .slotSize) maxFragments (x .datagram) ≡ fragment f → findOpen (w .machine .slots) (keyOf (x .sender) (f .sequence)) ≡ none
+      → isStored (call w x .answer) ≡ true → opensFor w x (keyOf (x .sender) (f .sequence)) ≡ true
+  unfolding opensFor opensSlot
   is-opened f t p e =
-      let k : Key = keyOf sender (f .sequence) in
-      and-of (sameKey (keyIn (m .slotSize) (from sender d)) k) (not (isOpen m k) && isStored (step m store ledger sender d .answer))
-      (subst (λ (r : Said). sameKey (keyOf sender (sequenceOf r)) k ≡ true) (sym t) (key-same k))
-      (and-of (not (isOpen m k)) (isStored (step m store ledger sender d .answer)) (ap (λ (o : Option ℕ). not (found o)) p) e)
+      let k : Key = keyOf (x .sender) (f .sequence) in
+      let its : keyIn (w .machine .slotSize) x ≡ k = ap (λ (r : Said). keyOf (x .sender) (sequenceOf r)) t in
+      subst (λ (y : Key). (sameKey y k && (not (isOpen (w .machine) y) && isStored (call w x .answer))) ≡ true) (sym its)
+      (and-of (sameKey k k) (not (isOpen (w .machine) k) && isStored (call w x .answer)) (key-same k)
+      (and-of (not (isOpen (w .machine) k)) (isStored (call w x .answer)) (ap (λ (o : Option ℕ). not (found o)) p) e))
 
 module _ {n : ℕ} {m : Machine} (r : Reached n m) (g : Good n m) (store ledger : List ℕ) (sender : ℕ) (d : List ℕ) where
   abbrev then′ : Key → ℕ
@@ -121,12 +128,12 @@ module _ {n : ℕ} {m : Machine} (r : Reached n m) (g : Good n m) (store ledger 
 
   one-older : (k : Key) → isOpen m k ≡ true → then′ k ≡ suc (ago r k)
   unfolding ago
-  one-older k e = rw (not-opened m store ledger sender d k e)
+  one-older k e = rw (not-opened (lending m store ledger) (from sender d) k e)
 
   all-older : (s : ℕ) → s < slotCount → busyAt (m .slots) s ≡ true → then′ (keyAt (m .slots) s) ≡ suc (ago r (keyAt (m .slots) s))
   all-older s b e = one-older (keyAt (m .slots) s) (is-found (m .slots) (g .tidy .eight) s b e)
 
-  zero-old : (k : Key) → opensFor m store ledger sender d k ≡ true → then′ k ≡ 0
+  zero-old : (k : Key) → opensFor (lending m store ledger) (from sender d) k ≡ true → then′ k ≡ 0
   unfolding ago
   zero-old k e = rw e
 
@@ -152,7 +159,7 @@ module _ {n : ℕ} {m : Machine} (r : Reached n m) (g : Good n m) (store ledger 
           (aged-step5 m (set rest (seat (m .slots) .at) (opening rest k f)) (tidy₁ .eight) (tidy₁ .ranks) store ledger (seat (m .slots) .emptied) (seat (m .slots) .at) (z .inside) busy₁ f then′
           (aged-opened rest (z .shrunk .eight) (z .shrunk .ranks) (seat (m .slots) .at) (z .inside) (z .is-free) (opening rest k f)
           (sym (ap busy (set-there rest (seat (m .slots) .at) (opening rest k f) (z .shrunk .eight) (z .inside))) ∙ busy₁) refl
-          (ago r) then′ (zero-old k (is-opened m store ledger sender d f t p stored))
+          (ago r) then′ (zero-old k (is-opened (lending m store ledger) (from sender d) f t p stored))
           (λ s b y.
           let same : keyAt rest s ≡ keyAt (m .slots) s = same-its-key (z .shrunk .as-before s y) in
           subst (λ (x : Key). then′ x ≡ suc (ago r x)) (sym same) (all-older s b (was-open (z .shrunk) s y)))

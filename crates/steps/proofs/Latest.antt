@@ -82,10 +82,10 @@ fits zero [] a h = zero-le
 fits zero (y ∷ l) a h = absurd (let z : y < 0 = h y (or-yes (eqb y y) (has l y) (eq-eqb y y refl)) in let w : ⊥ = omega arith in w)
 fits (suc n) l a h =
     let r : length (without l n) ≤ n = fits n (without l n) (without-apart l n a) (λ x e.
-        let p = without-has l n x e in
-        let b : x < suc n = h x (p .1) in
-        let d : x ≢ n = p .0 in
-        omega arith) in
+    let p = without-has l n x e in
+    let b : x < suc n = h x (p .1) in
+    let d : x ≢ n = p .0 in
+    omega arith) in
     omega (arith, without-one l n a)
 
 -- where a number stands; one that is not there, behind all

@@ -12,7 +12,7 @@ use Rattle.steps.specs.Memory.{Key, sameKey, isRemembered}
 use Rattle.steps.specs.Slots.{busy, slotAt, findOpen, openCount}
 use Rattle.steps.specs.Receive.{Machine, PayloadAt, InDatagram, InStore, Answer, Refused, Kept, Repeat, Delivered, opened, step, forget, sound}
 use Rattle.steps.specs.Answers.{emptiedKey}
-use Rattle.steps.specs.Runs.{from, keyIn}
+use Rattle.steps.specs.Runs.{World, lending, Arrival, from, keyIn, call}
 
 -- opened over a store of n bytes, then any calls, with whatever store and ledger is lent to each
 pub data Reached (n : ℕ) : Machine → Type 0 where
@@ -62,15 +62,18 @@ isStored Repeat = false
 isStored (Delivered (InDatagram at) n) = false
 isStored (Delivered (InStore at) n) = true
 
--- the call opens a slot for key k: the datagram has that key, the key is not open, and a fragment is stored
-unfoldable pub opensFor : Machine → List ℕ → List ℕ → ℕ → List ℕ → Key → Bool
-opensFor m store ledger sender d k =
-    sameKey (keyIn (m .slotSize) (from sender d)) k && (not (isOpen m k) && isStored (step m store ledger sender d .answer))
+-- the call opens a slot: the key of its datagram is not open, and a fragment is stored
+unfoldable pub opensSlot : World → Arrival → Bool
+opensSlot w x = not (isOpen (w .machine) (keyIn (w .machine .slotSize) x)) && isStored (call w x .answer)
+
+-- for key k
+unfoldable pub opensFor : World → Arrival → Key → Bool
+opensFor w x k = sameKey (keyIn (w .machine .slotSize) x) k && opensSlot w x
 
 -- how many calls ago a slot was last opened for key k
 unfoldable pub ago : {n : ℕ} {m : Machine} → Reached n m → Key → ℕ
 ago opens k = 0
-ago (receives {m = m} r store ledger sender d) k = pick (opensFor m store ledger sender d k) 0 (suc (ago r k))
+ago (receives {m = m} r store ledger sender d) k = pick (opensFor (lending m store ledger) (from sender d) k) 0 (suc (ago r k))
 ago (forgets r sender) k = suc (ago r k)
 
 -- all eight slots are open, and of the open keys k is the one whose opening lies furthest back

@@ -15,12 +15,16 @@ pub record World : Type 0 where
   pub store : List ℕ
   pub ledger : List ℕ
 
+abbrev pub lending : Machine → List ℕ → List ℕ → World
+lending m store ledger = record { machine = m; store = store; ledger = ledger }
+
+-- as a call leaves it
 abbrev pub worldOf : After → World
-worldOf a = record { machine = a .machine; store = a .store; ledger = a .ledger }
+worldOf a = lending (a .machine) (a .store) (a .ledger)
 
 -- a fresh receiver
 abbrev pub fresh : List ℕ → List ℕ → World
-fresh store ledger = record { machine = opened (length store); store = store; ledger = ledger }
+fresh store ledger = lending (opened (length store)) store ledger
 
 -- a datagram comes, of that sender
 pub record Arrival : Type 0 where
