@@ -58,7 +58,7 @@ u32 ref_cut(const u8 *name, u64 c, const u8 *payload, u64 p, u32 sequence, u64 m
 
 /* ---- the receiver */
 
-enum { SLOTS = 8, REMEMBERED = 64, LEDGER = SLOTS * MAX_FRAGMENTS * 2 };
+enum { SLOTS = 8, SENDERS_KNOWN = 16, KEYS_EACH = 32, LEDGER = SLOTS * MAX_FRAGMENTS * 2 };
 
 struct ref_key {
     u64 sender;
@@ -75,6 +75,13 @@ struct ref_slot {
     u32 name_length;
 };
 
+/* A sender of which something was delivered, and the last of its sequences in order of delivery. */
+struct ref_sender {
+    u64 sender;
+    u32 sequences[KEYS_EACH];
+    int keys;
+};
+
 struct ref_receiver {
     u8 *store;
     u64 store_length;   /* at opening */
@@ -82,8 +89,8 @@ struct ref_receiver {
     u32 ledger[LEDGER];
     struct ref_slot slots[SLOTS];
     u64 openings;
-    struct ref_key memory[REMEMBERED];   /* in order of delivery */
-    int remembered;
+    struct ref_sender memory[SENDERS_KNOWN];   /* in order of their latest delivery */
+    int senders;
 };
 
 enum ref_kind { REF_REFUSED, REF_KEPT, REF_REPEAT, REF_DELIVERED };

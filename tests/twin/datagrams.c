@@ -225,7 +225,7 @@ static u64 next_fragment(u64 active, u8 *d) {
 static void flood(struct stream *s) {
     static u8 d[ROOM];
     static u32 flooding = 0x40000000;
-    for (u64 n = between(60, 66); n > 0; n--) {
+    for (u64 n = between(28, 34); n > 0; n--) {
         u64 length = small(flooding++, below(3), d);
         give_datagram(s, d, length);
     }

@@ -54,7 +54,7 @@ def unsound(words, names, a, x, b, y):
     """Refusal 9 of what is lent and of a state that is fresh but for two words."""
     held = {SLOT_SIZE: STORE // 8, SIZE: 0, COUNT: 0, KEYS: 0}
     held.update({a: x, b: y})
-    return words != RIGHT or names != RIGHT, held[KEYS] > 64, held[SLOT_SIZE] != STORE // 8, held[COUNT] > 256 or (held[COUNT] > 0 and held[SIZE] > STORE // 8)
+    return words != RIGHT or names != RIGHT, held[KEYS] > 32, held[SLOT_SIZE] != STORE // 8, held[COUNT] > 256 or (held[COUNT] > 0 and held[SIZE] > STORE // 8)
 
 
 def receive_line(words, names, store, ledger, a, x, b, y):
@@ -62,7 +62,7 @@ def receive_line(words, names, store, ledger, a, x, b, y):
 
 
 def forget_line(words, names, a, x, b, y):
-    """It refuses only a state with over 64 remembered keys (and what is no state)."""
+    """It refuses only a state with over 32 keys for a sender (and what is no state)."""
     return "refused 9" if any(unsound(words, names, a, x, b, y)[:2]) else "done"
 
 
@@ -90,8 +90,8 @@ def cases():
     none = (NONE, 0, NONE, 0)
     d += [(RECEIVE, RIGHT, RIGHT, STORE, LEDGER) + none]
     d += [(RECEIVE, w, n, s, l) + none for w, n, s, l in [(FEW, RIGHT, 64, 4096), (MANY, RIGHT, 64, 4096), (RIGHT, FEW, 64, 4096), (RIGHT, MANY, 64, 4096), (RIGHT, RIGHT, 63, 4096), (RIGHT, RIGHT, 65, 4096), (RIGHT, RIGHT, 72, 4096), (RIGHT, RIGHT, 64, 4095), (RIGHT, RIGHT, 64, 4097)]]
-    # states: another slot size, an open slot's P at the slot size and over, its n at 256 and over, a free slot's P, 64 and 65 keys
-    words = [(SLOT_SIZE, 7, NONE, 0), (SLOT_SIZE, 9, NONE, 0), (SIZE, 8, COUNT, 1), (SIZE, 9, COUNT, 1), (SIZE, 8, COUNT, 256), (SIZE, 8, COUNT, 257), (SIZE, 9, COUNT, 0), (KEYS, 64, NONE, 0), (KEYS, 65, NONE, 0), (KEYS, 2**64 - 1, NONE, 0)]
+    # states: another slot size, an open slot's P at the slot size and over, its n at 256 and over, a free slot's P, 32 and 33 keys of a sender
+    words = [(SLOT_SIZE, 7, NONE, 0), (SLOT_SIZE, 9, NONE, 0), (SIZE, 8, COUNT, 1), (SIZE, 9, COUNT, 1), (SIZE, 8, COUNT, 256), (SIZE, 8, COUNT, 257), (SIZE, 9, COUNT, 0), (KEYS, 32, NONE, 0), (KEYS, 33, NONE, 0), (KEYS, 2**64 - 1, NONE, 0)]
     d += [(RECEIVE, RIGHT, RIGHT, STORE, LEDGER) + w for w in words] + [(FORGET, RIGHT, RIGHT) + w for w in [none] + words]
     return d + [(FORGET, w, n) + none for w, n in [(FEW, RIGHT), (MANY, RIGHT), (RIGHT, FEW), (RIGHT, MANY)]]
 

@@ -56,7 +56,7 @@ class Receiver:
         self.limit = min(store // 8, MAX_PAYLOAD)
         self.slots = [None] * 8
         self.opened = 0
-        self.memory = []
+        self.memory = {}  # the sequences of each sender, the sender of the latest delivery last
 
     def find(self, key):
         for s, slot in enumerate(self.slots):
@@ -65,7 +65,14 @@ class Receiver:
         return None
 
     def remember(self, key):
-        self.memory = (self.memory + [key])[-64:]
+        sender, sequence = key
+        self.memory[sender] = (self.memory.pop(sender, []) + [sequence])[-32:]
+        if len(self.memory) > 16:
+            del self.memory[next(iter(self.memory))]
+
+    def forget(self, sender):
+        self.memory.pop(sender, None)
+        self.slots = [None if slot and slot["key"][0] == sender else slot for slot in self.slots]
 
     def receive(self, sender, d):
         """The answer as the words of a line."""
@@ -73,7 +80,7 @@ class Receiver:
         if isinstance(r, int):
             return f"refused {r}"
         key = (sender, r["sequence"])
-        if key in self.memory:
+        if r["sequence"] in self.memory.get(sender, []):
             return "repeat"
         at = self.find(key)
         if r["small"]:

@@ -5,7 +5,7 @@ use Prim.Native.Nat.{ℕ, zero, suc, _<_}
 use native.Mathlib.Omega.{arith}
 use lib.ListN.{length, getD}
 use lib.Seq.{ext-getD}
-use Rattle.memory.specs.Keys.{build}
+use Rattle.words.specs.Builds.{build}
 
 module _ {A : Type 0} where
   pub length-build : (n : ℕ) (f : ℕ → A) → length (build n f) ≡ n
