@@ -1,7 +1,6 @@
 -- The premises of the promise with strangers about: met by worked feeds, and each needed. All by computation.
-use mathlib.Core.Path.{_≡_, refl}
-use mathlib.Core.Bool.{true, false}
-use mathlib.Core.Option.{none, some}
+use mathlib.Core.Path.{_≡_, refl, ap}
+use mathlib.Core.Option.{some}
 use mathlib.Core.List.{List, [], _∷_, map}
 use Prim.Native.Nat.{ℕ, _<_}
 use native.Mathlib.Omega.{arith}
@@ -19,11 +18,13 @@ use Rattle.steps.specs.Receive.{opened, stay, sameFragment, agrees, step3, deci
 use Rattle.steps.specs.Runs.{World, Arrival, from, call, run, leftBy}
 use Rattle.steps.specs.Reach.{Reached, opens, receives, opensSlot}
 use Rattle.steps.specs.Worked.{inFours, A-of, B-of, begunBelow}
+use borrow.Author.Tests.{ltb-true}
+use Rattle.steps.proofs.Tables.{not-true}
 use Rattle.steps.proofs.Reaches.{reached-in-order}
 use Rattle.arrival.specs.Demand.{InFragments, done, unfinished, completes, completed}
 use Rattle.arrival.specs.Worked.{small-of, A-gap, B-gap, paperScene, paperFeed}
-use Rattle.arrival.specs.Strangers.{Start, part, Begins, Feed, begun, after, noForeign, openings, complete, Supposed, its, handsOver, Promised}
-use Rattle.arrival.specs.StrangersWorked.{ours, startAfter, freshStart, fullStart, A, begins, sevenFeed, floodFeed, eightFeed, foreignFeed, forgottenFeed, rememberedStart, openStart, gapStart, oddStart, oddFeed, asked, gives, EachNeeded}
+use Rattle.arrival.specs.Strangers.{Start, Begins, Feed, after, noForeign, openings, complete, Supposed, its, handsOver}
+use Rattle.arrival.specs.StrangersWorked.{ours, startAfter, freshStart, fullStart, A, begins, sevenFeed, floodFeed, oddStart, Asked, asked, allMet, AllAsked, EachNeeded}
 use Rattle.arrival.proofs.Tests.{tests, allPass, tested}
 use Rattle.arrival.proofs.Works.{paper-meets}
 use Rattle.arrival.proofs.Strangers.{strangers}
@@ -41,71 +42,31 @@ fresh-reached = opens
 ours-lawful : InFragments ours
 ours-lawful = tested paperScene paperFeed paper-meets .sent 0 (lit< tt) .lawful
 
--- ---- met
+-- ---- what the definitions compute to
 
-begins-at : (xs : List Arrival) → Reached 32 (startAfter xs .world .machine)
-begins-at xs = run-reached inFours fresh-reached xs
+pub all-asked : AllAsked
+unfolding asked noForeign openings complete opensSlot after run inFours step sound receive decide act stay step3 step5 sameFragment agrees seat oldest
+    release releaseOf lower opening openCount filled opened emptyMemory isRemembered remember memoryOk others forgetKeys forget among isHeld hold
+    noneHeld said readDatagram readSmall readFragment formed goodForm nameLength goodName untilZero be overlay A-of B-of small-of A-gap B-gap begins
+all-asked = record {
+  seven = refl;
+  flood = refl;
+  seven-handed = refl;
+  flood-handed = refl;
+  eight = refl;
+  foreign = refl;
+  forgotten = refl;
+  remembered = refl;
+  key-open = refl;
+  gap = refl;
+  odd = refl;
+}
 
-full-begins : Begins fullStart
-unfolding after run inFours step sound receive decide act stay step3 step5 sameFragment agrees seat oldest release releaseOf lower opening openCount filled opened emptyMemory isRemembered remember memoryOk others forgetKeys forget among isHeld hold noneHeld said readDatagram readSmall readFragment formed goodForm nameLength goodName untilZero be overlay A-of B-of small-of A-gap B-gap begins
-full-begins = record { opened-over = 32; reached = begins-at (map (from 1) (begunBelow 8 [])); lawful = ours-lawful; its-own = lit< tt; not-open = refl; accepted = refl }
-
-fresh-begins : Begins freshStart
-unfolding after run inFours step sound receive decide act stay step3 step5 sameFragment agrees seat oldest release releaseOf lower opening openCount filled opened emptyMemory isRemembered remember memoryOk others forgetKeys forget among isHeld hold noneHeld said readDatagram readSmall readFragment formed goodForm nameLength goodName untilZero be overlay A-of B-of small-of A-gap B-gap begins
-fresh-begins = record { opened-over = 32; reached = begins-at []; lawful = ours-lawful; its-own = lit< tt; not-open = refl; accepted = refl }
-
-seven-meet : Supposed fullStart sevenFeed
-unfolding noForeign openings complete opensSlot after run inFours step sound receive decide act stay step3 step5 sameFragment agrees seat oldest release releaseOf lower opening openCount filled opened emptyMemory isRemembered remember memoryOk others forgetKeys forget among isHeld hold noneHeld said readDatagram readSmall readFragment formed goodForm nameLength goodName untilZero be overlay A-of B-of small-of A-gap B-gap begins
-seven-meet = record { no-foreign = refl; few-openings = lit< tt; not-forgotten = refl; missing = refl }
-
-flood-meets : Supposed freshStart floodFeed
-unfolding noForeign openings complete opensSlot after run inFours step sound receive decide act stay step3 step5 sameFragment agrees seat oldest release releaseOf lower opening openCount filled opened emptyMemory isRemembered remember memoryOk others forgetKeys forget among isHeld hold noneHeld said readDatagram readSmall readFragment formed goodForm nameLength goodName untilZero be overlay A-of B-of small-of A-gap B-gap begins
-flood-meets = record { no-foreign = refl; few-openings = lit< tt; not-forgotten = refl; missing = refl }
-
--- with seven openings by a stranger, from a state with all eight slots open; and in a flood
-pub seven-promised : handsOver (after fullStart sevenFeed) A ≡ some (its ours)
-unfolding complete begins A-of B-of
-seven-promised = strangers fullStart full-begins .at-last sevenFeed A seven-meet refl
-
-pub flood-promised : handsOver (after freshStart floodFeed) A ≡ some (its ours)
-unfolding complete begins A-of B-of small-of
-flood-promised = strangers freshStart fresh-begins .at-last floodFeed A flood-meets refl
-
--- the same, computed and without the theorem
-pub seven-computed : handsOver (after fullStart sevenFeed) A ≡ some (its ours)
-unfolding after run inFours step sound receive decide act stay step3 step5 sameFragment agrees seat oldest release releaseOf lower opening openCount filled opened emptyMemory isRemembered remember memoryOk others forgetKeys forget among isHeld hold noneHeld said readDatagram readSmall readFragment formed goodForm nameLength goodName untilZero be overlay A-of B-of small-of A-gap B-gap begins
-seven-computed = refl
-
--- ---- needed
-
--- of each feed every other test passes
-pub others-met :
-    asked freshStart eightFeed A
-    ∷ asked freshStart foreignFeed A
-    ∷ asked freshStart forgottenFeed A
-    ∷ asked rememberedStart begun A
-    ∷ asked openStart begun A
-    ∷ asked gapStart begun (part (gapStart .message) 0)
-    ∷ asked oddStart oddFeed A
-    ∷ []
-    ≡ gives true true true false true true true
-    ∷ gives true true false true true true true
-    ∷ gives true true true true false true true
-    ∷ gives true false true true true true true
-    ∷ gives false true true true true true true
-    ∷ gives true true true true true true true
-    ∷ gives true true true true true true true
-    ∷ []
-unfolding asked noForeign openings complete opensSlot after run inFours step sound receive decide act stay step3 step5 sameFragment agrees seat oldest release releaseOf lower opening openCount filled opened emptyMemory isRemembered remember memoryOk others forgetKeys forget among isHeld hold noneHeld said readDatagram readSmall readFragment formed goodForm nameLength goodName untilZero be overlay A-of B-of small-of A-gap B-gap begins
-others-met = refl
-
--- no calls reach the odd state: with seven slots open there is no turn 100
-pub odd-unreached : (n : ℕ) → Reached n (oddStart .world .machine) → ⊥
-unfolding openCount noneHeld
-odd-unreached n r = let z : 100 < 7 = reached-in-order n (oddStart .world .machine) r .turns-below 0 (lit< tt) refl in omega arith
-
+-- each premise is needed
 pub each-needed : EachNeeded
-unfolding after run inFours step sound receive decide act stay step3 step5 sameFragment agrees seat oldest release releaseOf lower opening openCount filled opened emptyMemory isRemembered remember memoryOk others forgetKeys forget among isHeld hold noneHeld said readDatagram readSmall readFragment formed goodForm nameLength goodName untilZero be overlay A-of B-of small-of A-gap B-gap begins
+unfolding after run inFours step sound receive decide act stay step3 step5 sameFragment agrees seat oldest release releaseOf lower opening openCount
+    filled opened emptyMemory isRemembered remember memoryOk others forgetKeys forget among isHeld hold noneHeld said readDatagram readSmall
+    readFragment formed goodForm nameLength goodName untilZero be overlay A-of B-of small-of A-gap B-gap begins
 each-needed = record {
   few-openings = refl;
   no-foreign = refl;
@@ -118,3 +79,45 @@ each-needed = record {
   same-store = refl;
   same-ledger = refl;
 }
+
+-- no calls reach the odd state: with seven slots open there is no turn 100
+pub odd-unreached : (n : ℕ) → Reached n (oddStart .world .machine) → ⊥
+unfolding openCount noneHeld
+odd-unreached n r = let z : 100 < 7 = reached-in-order n (oddStart .world .machine) r .turns-below 0 (lit< tt) refl in omega arith
+
+-- ---- what the theorem gives of the two feeds that meet its premises
+
+module _ (xs : List Arrival) (f : Feed) (x : Arrival) (e : asked (startAfter xs) f x ≡ allMet) where
+  abbrev σ : Start
+  σ = startAfter xs
+
+  begins-so : Begins σ
+  unfolding asked
+  begins-so = record {
+    opened-over = 32;
+    reached = run-reached inFours fresh-reached xs;
+    lawful = ours-lawful;
+    its-own = lit< tt;
+    not-open = not-true _ (ap (λ (t : Asked). t .not-open) e);
+    accepted = ap (λ (t : Asked). t .accepted) e;
+  }
+
+  supposed : Supposed σ f
+  unfolding asked
+  supposed = record {
+    no-foreign = ap (λ (t : Asked). t .no-foreign) e;
+    few-openings = ltb-true _ _ (ap (λ (t : Asked). t .few-openings) e);
+    not-forgotten = ap (λ (t : Asked). t .not-forgotten) e;
+    missing = not-true _ (ap (λ (t : Asked). t .missing) e);
+  }
+
+  promised : handsOver (after σ f) x ≡ some (its ours)
+  unfolding asked
+  promised = strangers σ begins-so .at-last f x supposed (ap (λ (t : Asked). t .whole) e)
+
+-- with seven openings by a stranger, from a state with all eight slots open; and in a flood
+pub seven-promised : handsOver (after fullStart sevenFeed) A ≡ some (its ours)
+seven-promised = promised (map (from 1) (begunBelow 8 [])) sevenFeed A (all-asked .seven)
+
+pub flood-promised : handsOver (after freshStart floodFeed) A ≡ some (its ours)
+flood-promised = promised [] floodFeed A (all-asked .flood)

@@ -1,6 +1,6 @@
 -- Worked feeds for the promise with strangers about: two that meet its premises, and for each premise one without it. Definitions only.
 use mathlib.Core.Path.{_≡_}
-use mathlib.Core.Bool.{Bool, true, not}
+use mathlib.Core.Bool.{Bool, true, false, not}
 use mathlib.Core.Option.{none, some}
 use mathlib.Core.List.{List, [], _∷_, _++_, map}
 use Prim.Native.Nat.{ℕ, zero, suc, _+_}
@@ -127,6 +127,23 @@ asked σ f x = record {
 -- what the seven give, in that order
 abbrev pub gives : Bool → Bool → Bool → Bool → Bool → Bool → Bool → Asked
 gives a b c d e f g = record { not-open = a; accepted = b; no-foreign = c; few-openings = d; not-forgotten = e; missing = f; whole = g }
+
+abbrev pub allMet : Asked
+allMet = gives true true true true true true true
+
+-- the two feeds meet the premises, and A is answered with the message; of each other feed all tests but one pass (what is lawful, and what is reached, is no test)
+pub record AllAsked : Type 0 where
+  pub seven : asked fullStart sevenFeed A ≡ allMet
+  pub flood : asked freshStart floodFeed A ≡ allMet
+  pub seven-handed : handsOver (after fullStart sevenFeed) A ≡ some (its ours)
+  pub flood-handed : handsOver (after freshStart floodFeed) A ≡ some (its ours)
+  pub eight : asked freshStart eightFeed A ≡ gives true true true false true true true
+  pub foreign : asked freshStart foreignFeed A ≡ gives true true false true true true true
+  pub forgotten : asked freshStart forgottenFeed A ≡ gives true true true true false true true
+  pub remembered : asked rememberedStart begun A ≡ gives true false true true true true true
+  pub key-open : asked openStart begun A ≡ gives false true true true true true true
+  pub gap : asked gapStart begun (part (gapStart .message) 0) ≡ allMet
+  pub odd : asked oddStart oddFeed A ≡ allMet
 
 -- what is handed over to A after the feed, when somebody changes the store or the ledger before it
 abbrev pub tampered : (List ℕ → List ℕ) → (List ℕ → List ℕ) → World
