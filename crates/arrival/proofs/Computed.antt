@@ -36,8 +36,8 @@ twins-shut-out p =
 pub large-shut-out : SentCut 2 (inTwo 7) → ⊥
 unfolding said readDatagram readFragment formed goodForm nameLength goodName untilZero be A-of
 large-shut-out s =
-    let three : 3 ≡ s .cut .size = ap (λ (r : Said). fragmentSaid r .size) (s .cut .good 0 (s .cut .at-least-one)) ∙ s .cut .sizes 0 (s .cut .at-least-one) in
-    let most : s .cut .size ≤ 2 = s .no-larger in
+    let three : 3 ≡ s .lawful .cut .size = ap (λ (r : Said). fragmentSaid r .size) (s .lawful .cut .good 0 (s .lawful .cut .at-least-one)) ∙ s .lawful .cut .sizes 0 (s .lawful .cut .at-least-one) in
+    let most : s .lawful .cut .size ≤ 2 = s .no-larger in
     omega arith
 
 -- nine begun before one is finished: at the ninth arrival of 18

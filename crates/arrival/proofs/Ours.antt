@@ -57,22 +57,24 @@ module _ (C sender q : ℕ) (name payload : List ℕ) (m : ℕ) (w : Cuttable ma
 
     in-fragments : length payload ≤ C → SentCut C ours
     in-fragments fits = record {
-      cut = record {
-        at-least-one = rw its-parts (count-some (length name) (length payload) m (w .sized) large);
-        sequence = q;
-        size = length payload;
-        piece = cutFragment q name payload m;
-        good = good′;
-        numbers = λ k h. refl;
-        sequences = λ k h. refl;
-        sizes = λ k h. refl;
-        counts = λ k h. sym its-parts;
-        follows = follows′;
+      lawful = record {
+        cut = record {
+          at-least-one = rw its-parts (count-some (length name) (length payload) m (w .sized) large);
+          sequence = q;
+          size = length payload;
+          piece = cutFragment q name payload m;
+          good = good′;
+          numbers = λ k h. refl;
+          sequences = λ k h. refl;
+          sizes = λ k h. refl;
+          counts = λ k h. sym its-parts;
+          follows = follows′;
+        };
+        its-sequence = refl;
+        its-name = refl;
+        its-payload = ap (joined (pieceOf name payload m)) its-parts ∙ joined-all name payload m (w .sized) large;
       };
       no-larger = fits;
-      its-sequence = refl;
-      its-name = refl;
-      its-payload = ap (joined (pieceOf name payload m)) its-parts ∙ joined-all name payload m (w .sized) large;
     }
 
   one-part : isSmall (length name) (length payload) m ≡ true → n ≡ 1

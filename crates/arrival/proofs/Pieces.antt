@@ -14,7 +14,7 @@ use Rattle.datagram.specs.Said.{Fragment, Said, refused, small, fragment, said}
 use Rattle.datagram.specs.Lawful.{LawfullyCut}
 use Rattle.datagram.proofs.Saids.{Formed, fragment-formed}
 use Rattle.cutter.specs.Trip.{joined}
-use Rattle.arrival.specs.Demand.{Message, parts, datagram, SentCut}
+use Rattle.arrival.specs.Demand.{Message, parts, datagram, InFragments, SentCut}
 use Rattle.arrival.proofs.Within.{fragment-within}
 
 abbrev noFragment : Fragment
@@ -65,12 +65,12 @@ module _ (n : ℕ) (fr : ℕ → Fragment) (at-start : fr 0 .offset ≡ 0)
 
 -- ---- lawful cutting gives it
 
-module _ (C : ℕ) (m : Message) (s : SentCut C m) where
+module _ (C : ℕ) (m : Message) (l : InFragments m) (no-larger : l .cut .size ≤ C) where
   abbrev cut : LawfullyCut maxPayload maxFragments (parts m) (datagram m)
-  cut = s .cut
+  cut = l .cut
 
   fr-size : (k : ℕ) → k < parts m → cut .piece k .size ≤ C
-  fr-size k h = subst (λ (x : ℕ). x ≤ C) (sym (cut .sizes k h)) (s .no-larger)
+  fr-size k h = subst (λ (x : ℕ). x ≤ C) (sym (cut .sizes k h)) no-larger
 
   said-here : (k : ℕ) → k < parts m → said C maxFragments (datagram m k) ≡ fragment (cut .piece k)
   said-here k h = fragment-within C maxPayload maxFragments (datagram m k) (cut .piece k) (cut .good k h) (fr-size k h)
@@ -82,14 +82,14 @@ module _ (C : ℕ) (m : Message) (s : SentCut C m) where
   fr-formed k h = fragment-formed C maxFragments (datagram m k) (cut .piece k) (said-here k h)
 
   fr-begins : (k : ℕ) → k < parts m → length (joined (λ j. cut .piece j .bytes) k) ≡ cut .piece k .offset
-  fr-begins = begin-at (parts m) (cut .piece) (fr-formed 0 (s .cut .at-least-one) .first (cut .numbers 0 (s .cut .at-least-one))) (cut .follows)
+  fr-begins = begin-at (parts m) (cut .piece) (fr-formed 0 (l .cut .at-least-one) .first (cut .numbers 0 (l .cut .at-least-one))) (cut .follows)
 
   -- P is the payload's length
   whole-size : cut .size ≡ length (m .payload)
   whole-size = go (parts m) refl
     where
       go : (n : ℕ) → n ≡ parts m → cut .size ≡ length (m .payload)
-      go zero e = absurd (let z : ⊥ = omega (arith, s .cut .at-least-one) in z)
+      go zero e = absurd (let z : ⊥ = omega (arith, l .cut .at-least-one) in z)
       go (suc k) e =
           let h : k < parts m = omega arith in
           sym (cut .sizes k h)
@@ -97,26 +97,29 @@ module _ (C : ℕ) (m : Message) (s : SentCut C m) where
           ∙ ap (λ (x : ℕ). x + length (cut .piece k .bytes)) (sym (fr-begins k h))
           ∙ sym (joined-length (λ j. cut .piece j .bytes) k)
           ∙ ap (λ (x : ℕ). length (joined (λ j. cut .piece j .bytes) x)) e
-          ∙ ap length (s .its-payload)
+          ∙ ap length (l .its-payload)
 
   bytes-are : (k : ℕ) → k < parts m → piece C m k .bytes ≡ cut .piece k .bytes
   bytes-are k h = ap (λ (f : Fragment). f .bytes) (piece-is k h)
 
-  pub cut-of : Cut C m
-  cut-of = record {
-    some-parts = s .cut .at-least-one;
+  pub cut-within : Cut C m
+  cut-within = record {
+    some-parts = l .cut .at-least-one;
     reads = λ k h. said-here k h ∙ ap fragment (sym (piece-is k h));
     formed = λ k h. subst (Formed C maxFragments) (sym (piece-is k h)) (fr-formed k h);
     its-number = λ k h. ap (λ (f : Fragment). f .number) (piece-is k h) ∙ cut .numbers k h;
-    its-sequence = λ k h. ap (λ (f : Fragment). f .sequence) (piece-is k h) ∙ cut .sequences k h ∙ s .its-sequence;
+    its-sequence = λ k h. ap (λ (f : Fragment). f .sequence) (piece-is k h) ∙ cut .sequences k h ∙ l .its-sequence;
     its-size = λ k h. ap (λ (f : Fragment). f .size) (piece-is k h) ∙ cut .sizes k h ∙ whole-size;
     its-count = λ k h. ap (λ (f : Fragment). f .count) (piece-is k h) ∙ cut .counts k h;
-    its-name = ap (λ (f : Fragment). f .name) (piece-is 0 (s .cut .at-least-one)) ∙ s .its-name;
+    its-name = ap (λ (f : Fragment). f .name) (piece-is 0 (l .cut .at-least-one)) ∙ l .its-name;
     begins = λ k h.
-        ap length (joined-same (λ j. piece C m j .bytes) (λ j. cut .piece j .bytes) k (λ j l. bytes-are j (omega arith)))
+        ap length (joined-same (λ j. piece C m j .bytes) (λ j. cut .piece j .bytes) k (λ j b. bytes-are j (omega arith)))
         ∙ fr-begins k h ∙ ap (λ (f : Fragment). f .offset) (sym (piece-is k h));
-    whole = joined-same (λ j. piece C m j .bytes) (λ j. cut .piece j .bytes) (parts m) bytes-are ∙ s .its-payload;
+    whole = joined-same (λ j. piece C m j .bytes) (λ j. cut .piece j .bytes) (parts m) bytes-are ∙ l .its-payload;
   }
+
+pub cut-of : (C : ℕ) (m : Message) → SentCut C m → Cut C m
+cut-of C m s = cut-within C m (s .lawful) (s .no-larger)
 
 -- ---- its laws
 

@@ -27,11 +27,11 @@ record Shows (σ : Scene) (f : Feed) (l : Lent) : Type 0 where
   store : l .store ≡ after σ f .store
   ledger : l .ledger ≡ after σ f .ledger
 
-shaped-on : (w n w′ n′ : List ℕ) → length w′ ≡ length w → length n′ ≡ length n → shaped w n ≡ true → shaped w′ n′ ≡ true
+pub shaped-on : (w n w′ n′ : List ℕ) → length w′ ≡ length w → length n′ ≡ length n → shaped w n ≡ true → shaped w′ n′ ≡ true
 shaped-on w n w′ n′ a b e = rw (a, b) e
 
 -- an opening that is not refused was of a state and names of their lengths
-was-shaped : (b : Bool) → pick {X = Option ℕ} b none (some 9) ≡ none → b ≡ true
+pub was-shaped : (b : Bool) → pick {X = Option ℕ} b none (some 9) ≡ none → b ≡ true
 was-shaped true e = refl
 was-shaped false e = absurd (Option·some-ne-none 9 e)
 

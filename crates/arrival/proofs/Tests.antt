@@ -204,22 +204,24 @@ module _ (C : ℕ) (m : Message) (e : sentCut C m ≡ true) where
 
   cut-sent : SentCut C m
   cut-sent = record {
-    cut = record {
-      at-least-one = ltb-true 0 n (and-l (ltb 0 n) _ e);
-      sequence = m .sequence;
-      size = length (m .payload);
-      piece = fr;
-      good = λ k h. is-fragment (said maxPayload maxFragments (datagram m k)) (and-l (isFragment (said maxPayload maxFragments (datagram m k))) _ (p₁ k h));
-      numbers = λ k h. eqb-true (fr k .number) k (and-l (eqb (fr k .number) k) _ (p₂ k h));
-      sequences = λ k h. eqb-true (fr k .sequence) (m .sequence) (and-l (eqb (fr k .sequence) (m .sequence)) _ (p₃ k h));
-      sizes = λ k h. eqb-true (fr k .size) (length (m .payload)) (and-l (eqb (fr k .size) (length (m .payload))) _ (p₄ k h));
-      counts = λ k h. eqb-true (fr k .count) n (and-l (eqb (fr k .count) n) _ (p₅ k h));
-      follows = λ k h. next-at k (omega arith) h;
+    lawful = record {
+      cut = record {
+        at-least-one = ltb-true 0 n (and-l (ltb 0 n) _ e);
+        sequence = m .sequence;
+        size = length (m .payload);
+        piece = fr;
+        good = λ k h. is-fragment (said maxPayload maxFragments (datagram m k)) (and-l (isFragment (said maxPayload maxFragments (datagram m k))) _ (p₁ k h));
+        numbers = λ k h. eqb-true (fr k .number) k (and-l (eqb (fr k .number) k) _ (p₂ k h));
+        sequences = λ k h. eqb-true (fr k .sequence) (m .sequence) (and-l (eqb (fr k .sequence) (m .sequence)) _ (p₃ k h));
+        sizes = λ k h. eqb-true (fr k .size) (length (m .payload)) (and-l (eqb (fr k .size) (length (m .payload))) _ (p₄ k h));
+        counts = λ k h. eqb-true (fr k .count) n (and-l (eqb (fr k .count) n) _ (p₅ k h));
+        follows = λ k h. next-at k (omega arith) h;
+      };
+      its-sequence = refl;
+      its-name = same-true (fr 0 .name) (m .name) (and-l (same (fr 0 .name) (m .name)) _ e₄);
+      its-payload = same-true (joined (λ k. fr k .bytes) n) (m .payload) (and-r (same (fr 0 .name) (m .name)) _ e₄);
     };
     no-larger = leb-true (length (m .payload)) C (and-l (leb (length (m .payload)) C) _ e₂);
-    its-sequence = refl;
-    its-name = same-true (fr 0 .name) (m .name) (and-l (same (fr 0 .name) (m .name)) _ e₄);
-    its-payload = same-true (joined (λ k. fr k .bytes) n) (m .payload) (and-r (same (fr 0 .name) (m .name)) _ e₄);
   }
 
 sent-of : (C : ℕ) (m : Message) → sentOk C m ≡ true → Sent C m

@@ -168,7 +168,7 @@ pub has-parts : (σ : Scene) → Lawful σ → (i : ℕ) → i < size σ → 0 <
 has-parts σ law i b = go (message σ i) (law .sent i b)
   where
     by : (m : Message) (c : Bool) → pick c (SentCut (slotBytes σ) m) (SentSmall m) → 0 < parts m
-    by m true s = s .cut .at-least-one
+    by m true s = s .lawful .cut .at-least-one
     by m false s = omega (arith, s .single)
 
     go : (m : Message) → Sent (slotBytes σ) m → 0 < parts m

@@ -13,7 +13,7 @@ use Rattle.arrival.specs.Worked.{small-of, paperScene, paperFeed, nineSc
 use Rattle.arrival.proofs.Tests.{tests, allPass, tested}
 use Rattle.arrival.proofs.Demand3.{demand3}
 
-paper-meets : tests paperScene paperFeed ≡ allPass
+pub paper-meets : tests paperScene paperFeed ≡ allPass
 unfolding tests done unfinished completes completed since joined said readDatagram readSmall readFragment formed goodForm nameLength goodName untilZero be A-of B-of small-of
 paper-meets = refl
 

@@ -48,13 +48,17 @@ pub record SentSmall (m : Message) : Type 0 where
   pub single : parts m ≡ 1
   pub reads : said maxPayload maxFragments (datagram m 0) ≡ small (m .sequence) (m .name) (m .payload)
 
--- fragments lawfully cut, in any lawful way, no larger than a slot of C bytes, with its sequence, name and payload
-pub record SentCut (C : ℕ) (m : Message) : Type 0 where
+-- fragments lawfully cut, in any lawful way, with its sequence, name and payload
+pub record InFragments (m : Message) : Type 0 where
   pub cut : LawfullyCut maxPayload maxFragments (parts m) (datagram m)
-  pub no-larger : cut .size ≤ C
   pub its-sequence : cut .sequence ≡ m .sequence
   pub its-name : cut .piece 0 .name ≡ m .name
   pub its-payload : joined (λ k. cut .piece k .bytes) (parts m) ≡ m .payload
+
+-- so cut, and no larger than a slot of C bytes
+pub record SentCut (C : ℕ) (m : Message) : Type 0 where
+  pub lawful : InFragments m
+  pub no-larger : lawful .cut .size ≤ C
 
 abbrev pub Sent : ℕ → Message → Type 0
 Sent C m = pick (m .fragmented) (SentCut C m) (SentSmall m)

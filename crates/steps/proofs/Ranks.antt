@@ -69,18 +69,10 @@ module _ (slots : List Slot) (s a : ℕ) (n : a ≢ s) where
 
   pub earlier-stays : turnAt slots a ≤ turnAt slots s → slotAt (release slots s) a ≡ slotAt slots a
   unfolding lower
-  earlier-stays h = left slots s a n ∙ go (busyAt slots a)
-    where
-      go : (b : Bool) → record {
-        key = slotAt slots a .key;
-        size = slotAt slots a .size;
-        count = slotAt slots a .count;
-        turn = pick (b && ltb (turnAt slots s) (turnAt slots a)) (turnAt slots a - 1) (turnAt slots a);
-        name = slotAt slots a .name;
-        held = slotAt slots a .held;
-      } ≡ slotAt slots a
-      go true = rw (le-ltb (turnAt slots s) (turnAt slots a) h)
-      go false = refl
+  earlier-stays h = left slots s a n ∙ elim (either (busyAt slots a)) [
+    | inl e ↦ rw (e, le-ltb (turnAt slots s) (turnAt slots a) h)
+    | inr e ↦ rw e
+  ]
 
   pub later-moves : busyAt slots a ≡ true → turnAt slots s < turnAt slots a → turnAt (release slots s) a ≡ turnAt slots a - 1
   unfolding lower

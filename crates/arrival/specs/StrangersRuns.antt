@@ -1,0 +1,64 @@
+-- What the promise with strangers about gives for the code: calls of `open`, `receive` and `forget`, of which only the contracts are known. Definitions only.
+use mathlib.Core.Path.{_≡_}
+use mathlib.Core.Bool.{true, false}
+use mathlib.Core.Option.{Option, none, some}
+use mathlib.Core.List.{List}
+use Prim.Native.Nat.{ℕ, _<_}
+use Rattle.steps.specs.Runs.{World, lending, Arrival}
+use Rattle.steps.specs.Reach.{isOpen}
+use Rattle.receiver.specs.declared.Outcome.{Outcome}
+use Rattle.receiver.specs.declared.Call.{Call}
+use Rattle.receiver.specs.View.{view}
+use Rattle.receiver.specs.Calls.{refusalOf, Opens, Receives, Forgets}
+use Rattle.arrival.specs.Demand.{Message, InFragments, key, parts, Delivery}
+use Rattle.arrival.specs.Runs.{Lent, handsOver}
+use Rattle.arrival.specs.Strangers.{Start, part, isAccepted, Feed, begun, _▹_, comes, forgets, complete, Supposed, its}
+
+-- the state and the names that calls lead to, with whatever store and ledger is lent to each: `open` was not refused, then any calls of `receive` and `forget`
+pub data Led (n : ℕ) : List ℕ → List ℕ → Type 0 where
+  by-open : (w nm : List ℕ) (r : Call) (w′ nm′ : List ℕ) → Opens w nm n r w′ nm′ → refusalOf r ≡ none → Led n w′ nm′
+  by-receive : {w nm : List ℕ} → Led n w nm → (store ledger : List ℕ) (sender : ℕ) (d : List ℕ) (r : Outcome) (w′ nm′ store′ ledger′ : List ℕ)
+      → Receives w nm store ledger sender d r w′ nm′ store′ ledger′ → Led n w′ nm′
+  by-forget : {w nm : List ℕ} → Led n w nm → (sender : ℕ) (r : Call) (w′ nm′ : List ℕ) → Forgets w nm sender r w′ nm′ → Led n w′ nm′
+
+-- a call of `receive` with what is lent, to that arrival
+abbrev pub Takes : Lent → Arrival → Outcome → Lent → Type 0
+Takes l x r l′ = Receives (l .state) (l .names) (l .store) (l .ledger) (x .sender) (x .datagram) r (l′ .state) (l′ .names) (l′ .store) (l′ .ledger)
+
+-- what is lent shows this world
+abbrev pub shown : Lent → World
+shown l = lending (view (l .state) (l .names)) (l .store) (l .ledger)
+
+-- the message, what is lent when its first fragment comes, and that fragment's number
+abbrev pub startOf : Message → Lent → ℕ → Start
+startOf m l k = record { message = m; world = shown l; first = k }
+
+-- Since its first fragment left l₁, each event of the feed was a call with what the call before left: this is lent now.
+pub data Calls (l₁ : Lent) : Feed → Lent → Type 0 where
+  begins : Calls l₁ begun l₁
+  takes : {f : Feed} {l : Lent} → Calls l₁ f l → (x : Arrival) (r : Outcome) (l′ : Lent) → Takes l x r l′ → Calls l₁ (f ▹ comes x) l′
+  drops : {f : Feed} {l : Lent} → Calls l₁ f l → (sender : ℕ) (r : Call) (w nm : List ℕ) → Forgets (l .state) (l .names) sender r w nm
+      → Calls l₁ (f ▹ forgets sender) (record { state = w; names = nm; store = l .store; ledger = l .ledger })
+
+-- what the call handed over, by its outcome and the store that it left
+abbrev pub hands : Lent → Arrival → Outcome → Lent → Option Delivery
+hands l x r l′ = handsOver (view (l .state) (l .names) .slotSize) x r (l′ .store)
+
+-- its first fragment finds l₀, and is answered r₀ and leaves l₁
+pub record CodeBegins (m : Message) (l₀ : Lent) (k₀ : ℕ) (r₀ : Outcome) (l₁ : Lent) : Type 0 where
+  pub opened-over : ℕ
+  pub led : Led opened-over (l₀ .state) (l₀ .names)
+  pub lawful : InFragments m
+  pub its-own : k₀ < parts m
+  pub not-open : isOpen (view (l₀ .state) (l₀ .names)) (key m) ≡ false
+  pub taken : Takes l₀ (part m k₀) r₀ l₁
+  pub accepted : isAccepted (r₀ .answer) ≡ true
+
+pub record CodePromised (m : Message) (l₀ : Lent) (k₀ : ℕ) (r₀ : Outcome) (l₁ : Lent) : Type 0 where
+  pub at-once : complete (startOf m l₀ k₀) begun ≡ true → hands l₀ (part m k₀) r₀ l₁ ≡ some (its m)
+  pub at-last : (f : Feed) (l : Lent) → Calls l₁ f l → Supposed (startOf m l₀ k₀) f → (x : Arrival) (r : Outcome) (l′ : Lent) → Takes l x r l′
+      → complete (startOf m l₀ k₀) (f ▹ comes x) ≡ true → hands l x r l′ ≡ some (its m)
+
+-- A PROMISE WITH STRANGERS ABOUT, FOR THE CODE
+abbrev pub CodeStrangers : Type 0
+CodeStrangers = (m : Message) (l₀ : Lent) (k₀ : ℕ) (r₀ : Outcome) (l₁ : Lent) → CodeBegins m l₀ k₀ r₀ l₁ → CodePromised m l₀ k₀ r₀ l₁
