@@ -62,7 +62,7 @@ def receive_line(words, names, store, ledger, a, x, b, y):
 
 
 def forget_line(words, names, a, x, b, y):
-    """It refuses only a state with over 32 keys for a sender (and what is no state)."""
+    """It refuses only a state with over 32 remembered keys for a sender (and what is no state)."""
     return "refused 9" if any(unsound(words, names, a, x, b, y)[:2]) else "done"
 
 

@@ -17,7 +17,8 @@ fn name_bytes(case: &[u8]) -> usize {
     receiver::NAME_BYTES - 1 + wire::least(crate::number(case, 8), 2)
 }
 
-// The word of a state that holds: 1 the slot size, 2 slot 0's P, 3 its n, 4 how many keys of the memory's first sender count. Any other: none.
+// The word of a state that holds: 1 the slot size, 2 slot 0's P, 3 its n, 4 how many keys the memory's first sender has, which stands
+// after the senders. Any other: none.
 fn spot(which: usize) -> usize {
     match which {
         1 => 1,
