@@ -12,7 +12,7 @@ use Rattle.datagram.specs.Read.{readSmall, goodForm, formed, readFragment, read
 use Rattle.datagram.specs.Said.{said}
 use Rattle.cutter.specs.Trip.{joined}
 use Rattle.steps.specs.Held.{noneHeld, isHeld, hold}
-use Rattle.steps.specs.Memory.{among, emptyMemory, isRemembered, remember, memoryOk, others, forgetKeys, since}
+use Rattle.steps.specs.Memory.{among, emptyMemory, isRemembered, remember, placeFor, withKey, memoryOk, forgetKeys, since}
 use Rattle.steps.specs.Slots.{oldest, openCount, lower, release, releaseOf, seat, opening, filled}
 use Rattle.steps.specs.Receive.{opened, stay, sameFragment, agrees, step3, decide, step5, act, receive, sound, step, forget}
 use Rattle.steps.specs.Runs.{World, Arrival, from, call, run, leftBy}
@@ -46,7 +46,7 @@ ours-lawful = tested paperScene paperFeed paper-meets .sent 0 (lit< tt) .lawful
 
 pub all-asked : AllAsked
 unfolding asked noForeign openings complete opensSlot after run inFours step sound receive decide act stay step3 step5 sameFragment agrees seat oldest
-    release releaseOf lower opening openCount filled opened emptyMemory isRemembered remember memoryOk others forgetKeys forget among isHeld hold
+    release releaseOf lower opening openCount filled opened emptyMemory isRemembered remember placeFor withKey memoryOk forgetKeys forget among isHeld hold
     noneHeld said readDatagram readSmall readFragment formed goodForm nameLength goodName untilZero be overlay A-of B-of small-of A-gap B-gap begins
 all-asked = record {
   seven = refl;
@@ -65,7 +65,7 @@ all-asked = record {
 -- each premise is needed
 pub each-needed : EachNeeded
 unfolding after run inFours step sound receive decide act stay step3 step5 sameFragment agrees seat oldest release releaseOf lower opening openCount
-    filled opened emptyMemory isRemembered remember memoryOk others forgetKeys forget among isHeld hold noneHeld said readDatagram readSmall
+    filled opened emptyMemory isRemembered remember placeFor withKey memoryOk forgetKeys forget among isHeld hold noneHeld said readDatagram readSmall
     readFragment formed goodForm nameLength goodName untilZero be overlay A-of B-of small-of A-gap B-gap begins
 each-needed = record {
   few-openings = refl;
