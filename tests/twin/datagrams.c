@@ -361,8 +361,7 @@ static void datagram_stream(struct stream *s, int which) {
 
 static void begin(int for_gaps) {
     watching = for_gaps;
-    watch.any = 0;
-    watch.last = 0;
+    memset(&watch, 0, sizeof watch);
     sent = 0;
     memset(store, 0, sizeof store);
     ref_open(&receiver, store, STORE);
