@@ -47,15 +47,15 @@ fn front(list: &[i64], n: usize) -> &[i64] {
 // root that goes on past the front is too long; and what is whole within the front has numbers left over.
 fn beyond(made: Made) -> Made {
     match made {
-        Made::Bytes(_) => Made::Unwritten(28),
-        Made::Unwritten(e) => {
+        Made::Bytes(_) => Made::Refused(28),
+        Made::Refused(e) => {
             if e == 25 {
-                return Made::Unwritten(21);
+                return Made::Refused(21);
             }
             if e == 21 {
-                return Made::Unwritten(28);
+                return Made::Refused(28);
             }
-            Made::Unwritten(e)
+            Made::Refused(e)
         }
     }
 }
@@ -97,7 +97,7 @@ fn put_answer(out: &mut [u8], at: usize, bytes: &[u8], made: Made) -> usize {
             let next = stream::put_text(out, at, b" bytes ");
             put_message(out, next, bytes, n)
         }
-        Made::Unwritten(e) => stream::put_counted(out, at, b" refused ", e as u64),
+        Made::Refused(e) => stream::put_counted(out, at, b" refused ", e as u64),
     }
 }
 

@@ -30,7 +30,7 @@ fn put_answer(out: &mut [u8], at: usize, list: &[i64], found: Found) -> usize {
             let next = stream::put_text(out, at, b" list");
             put_numbers(out, next, list, n)
         }
-        Found::Unread(e) => stream::put_counted(out, at, b" refused ", e as u64),
+        Found::Refused(e) => stream::put_counted(out, at, b" refused ", e as u64),
     }
 }
 

@@ -12,6 +12,9 @@ Inv-loop numbers₀ n i₀ numbers i = (i ≤ n) × (length numbers ≡ length n
 abbrev μ-loop : tie.MeasureT-loop
 μ-loop numbers₀ n i₀ numbers i = n - i
 
+put-requires : tie.Need-put-requires Inv-loop μ-loop
+put-requires c κs = search needs
+
 loop-holds : tie.Need-loop-holds Inv-loop μ-loop
 loop-holds c = search needs
 
@@ -21,8 +24,11 @@ cast-put c = search needs
 mul-put : tie.Need-mul-put Inv-loop μ-loop
 mul-put c = search needs
 
-put-requires : tie.Need-put-requires Inv-loop μ-loop
-put-requires c κs = search needs
+add-put : tie.Need-add-put Inv-loop μ-loop
+add-put c = search needs
+
+put-requires-2 : tie.Need-put-requires-2 Inv-loop μ-loop
+put-requires-2 c κs = search needs
 
 add-i : tie.Need-add-i Inv-loop μ-loop
 add-i c = search needs
@@ -45,10 +51,12 @@ notes-spec =
     (tie.spec
     Inv-loop
     μ-loop
+    put-requires
     loop-holds
     cast-put
     mul-put
-    put-requires
+    add-put
+    put-requires-2
     add-i
     loop-less
     loop-again
