@@ -5,8 +5,8 @@ use lib.IntN.{ℤ}
 use lib.ListN.{take}
 use Rattle.lmcp.specs.declared.Found.{Found}
 use Rattle.lmcp.specs.declared.Found.the-variants.{Numbers, Refused}
-use Rattle.lmcp.specs.Table.{pitsurv}
-use Rattle.lmcp.specs.Message.{readMessage, ReadTo}
+use Rattle.lmcp.specs.Message.{ReadTo}
+use Rattle.lmcp.specs.Lists.{readList}
 use Rattle.text.specs.Text.{decimal, signedDecimal}
 use Rattle.output.specs.Output.{Pours}
 
@@ -27,5 +27,5 @@ line n list found = decimal n ++ foundText list found ++ 10 ∷ []
 -- The message was read into the list, and line n gives its numbers or its refusal.
 pub record Listed (message : List ℕ) (n : ℕ) (list : List ℤ) (out : List ℕ) (at : ℕ) (list′ : List ℤ) (out′ : List ℕ) (r : ℕ) : Type 0 where
   pub found : Found
-  pub read : ReadTo (readMessage (pitsurv 1) message) list found list′
+  pub read : ReadTo (readList message) list found list′
   pub said : Pours out at (line n list′ found) out′ r
