@@ -1,4 +1,4 @@
-"""An LMCP reader and writer over series PITSURV, version 1, written from the paper: the second opinion for lmcp_list and lmcp_bytes."""
+"""An LMCP reader and writer over series PITSURV, versions 1 and 2, written from the paper: the second opinion for lmcp_list and lmcp_bytes."""
 import struct
 
 LIMIT = 262144
@@ -6,8 +6,8 @@ HOLDS = 262144  # numbers that lmcp_bytes holds
 SERIES = b"PITSURV\0"
 ANY = "LmcpObject"
 
-# field: (array, kind); array is None for one value, a number for a fixed array, "n" for one with a 2-byte count
-TYPES = {
+# field: (array, kind); array is None for one value, a number for a fixed array, "n" for one with a 2-byte count, "N" with a 4-byte one
+FIRST = {
     1: [],
     2: [(None, "int32"), (None, "int32"), (None, "int16")],
     3: [(None, "uint32"), (None, "uint16"), (None, "uint16"), (None, 2)],
@@ -16,6 +16,9 @@ TYPES = {
     6: [("n", "char"), (None, ANY)],
     7: [(4, "byte"), (None, "real64"), (None, "real32"), (None, "int64"), (None, 3)],
 }
+# version 2 has PitList's count in 4 bytes and a depth at PitMark's end
+TABLES = {1: FIRST, 2: {**FIRST, 4: FIRST[4] + [(None, "int16")], 5: [(None, "uint32"), ("N", 4)]}}
+COUNTS = {"n": 2, "N": 4}
 # kind: bytes, signed
 SCALARS = {
     "bool": (1, False),
@@ -63,7 +66,7 @@ def read_value(src, kind):
     return v
 
 
-def read_object(src, declared, depth, out):
+def read_object(src, declared, depth, out, message):
     exists = src.take(1)[0]
     if exists > 1:
         refuse(23)
@@ -74,19 +77,23 @@ def read_object(src, declared, depth, out):
         refuse(26)
     head = src.take(14)
     t, version = struct.unpack(">IH", head[8:])
-    if head[:8] != SERIES or version != 1 or t not in TYPES or (declared != ANY and t != declared):
+    if head[:8] != SERIES or version not in TABLES or t not in TABLES[version] or (declared != ANY and t != declared):
+        refuse(24)
+    if depth == 1:
+        message.append(version)
+    if [version] != message:
         refuse(24)
     out.append(t)
-    for array, kind in TYPES[t]:
+    for array, kind in TABLES[version][t]:
         n = 1 if array is None else array
-        if array == "n":
-            n = int.from_bytes(src.take(2), "big")
+        if array in COUNTS:
+            n = int.from_bytes(src.take(COUNTS[array]), "big")
             out.append(n)
         for _ in range(n):
             if kind in SCALARS:
                 out.append(read_value(src, kind))
             else:
-                read_object(src, kind, depth + 1, out)
+                read_object(src, kind, depth + 1, out, message)
 
 
 def read(m):
@@ -97,13 +104,13 @@ def read(m):
     stored = int.from_bytes(m[-4:], "big")
     if stored != 0 and stored != sum(m[:-4]) % 2**32:
         refuse(22)
-    src, out = Bytes(m[8:-4]), []
+    src, out, message = Bytes(m[8:-4]), [], []
     if src.b[:1] == b"\0":
         refuse(23)
-    read_object(src, ANY, 1, out)
+    read_object(src, ANY, 1, out, message)
     if src.at != len(src.b):
         refuse(28)
-    return out
+    return message + out
 
 
 # ---- writing
@@ -133,7 +140,7 @@ def write_value(src, kind):
     return z.to_bytes(size, "big", signed=signed)
 
 
-def write_object(src, declared, depth, out):
+def write_object(src, declared, depth, out, version):
     t = src.take()
     if t == 0:
         if depth == 1:
@@ -142,21 +149,21 @@ def write_object(src, declared, depth, out):
         return
     if depth > 16:
         refuse(26)
-    if t not in TYPES or (declared != ANY and t != declared):
+    if t not in TABLES[version] or (declared != ANY and t != declared):
         refuse(24)
-    out += b"\1" + SERIES + struct.pack(">IH", t, 1)
-    for array, kind in TYPES[t]:
+    out += b"\1" + SERIES + struct.pack(">IH", t, version)
+    for array, kind in TABLES[version][t]:
         n = 1 if array is None else array
-        if array == "n":
+        if array in COUNTS:
             n = src.take()
-            if not 0 <= n < 65536:
+            if not 0 <= n < 256 ** COUNTS[array]:
                 refuse(29)
-            out += struct.pack(">H", n)
+            out += n.to_bytes(COUNTS[array], "big")
         for _ in range(n):
             if kind in SCALARS:
                 out += write_value(src, kind)
             else:
-                write_object(src, kind, depth + 1, out)
+                write_object(src, kind, depth + 1, out, version)
 
 
 def framed(root, calculate):
@@ -166,7 +173,10 @@ def framed(root, calculate):
 
 def write(l, calculate):
     src, out = Numbers(l), bytearray()
-    write_object(src, ANY, 1, out)
+    version = src.take()
+    if version not in TABLES:
+        refuse(29)
+    write_object(src, ANY, 1, out, version)
     if src.at != len(l):
         refuse(28)
     if 12 + len(out) > LIMIT:

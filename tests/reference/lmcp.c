@@ -1,24 +1,38 @@
-/* The LMCP reader and writer over the table of PITSURV version 1.
+/* The LMCP reader and writer over the tables of PITSURV versions 1 and 2.
 
    The fields of a type are one letter each: U u uint32 and uint16, i h l int32, int16 and int64, b bool, B byte, c char, d f
    real64 and real32, a digit an object of that type, o an object of any type. An opening bracket before a letter makes it a
-   variable array: a string is [c. A fixed array is its letter so many times. */
+   variable array with a 2-byte count, a brace one with a 4-byte count: a string is [c. A fixed array is its letter so many
+   times. */
 
 #include "reference.h"
 
-const char *const ref_fields[TYPES + 1] = {
-    0,
-    "",          /* 1 Ping */
-    "iih",       /* 2 Place: lat, lon, height */
-    "Uuu2",      /* 3 TileHead: tile, column, row, corner */
-    "Ub2",       /* 4 PitMark: pit, sure, at */
-    "U[4",       /* 5 PitList: tile, pits */
-    "[co",       /* 6 Note: text, about */
-    "BBBBdfl3",  /* 7 Frame: camera, stamp, tilt, tick, head */
+const char *const ref_fields[VERSIONS + 1][TYPES + 1] = {
+    {0},
+    {
+        0,
+        "",          /* 1 Ping */
+        "iih",       /* 2 Place: lat, lon, height */
+        "Uuu2",      /* 3 TileHead: tile, column, row, corner */
+        "Ub2",       /* 4 PitMark: pit, sure, at */
+        "U[4",       /* 5 PitList: tile, pits */
+        "[co",       /* 6 Note: text, about */
+        "BBBBdfl3",  /* 7 Frame: camera, stamp, tilt, tick, head */
+    },
+    {
+        0,
+        "",          /* 1 Ping */
+        "iih",       /* 2 Place: lat, lon, height */
+        "Uuu2",      /* 3 TileHead: tile, column, row, corner */
+        "Ub2h",      /* 4 PitMark: pit, sure, at, depth */
+        "U{4",       /* 5 PitList: tile, pits */
+        "[co",       /* 6 Note: text, about */
+        "BBBBdfl3",  /* 7 Frame: camera, stamp, tilt, tick, head */
+    },
 };
 
 static const u8 series[8] = {'P', 'I', 'T', 'S', 'U', 'R', 'V', 0};
-enum { VERSION = 1, ANY = 0, HEADER = 14 };
+enum { ANY = 0, HEADER = 14 };
 
 /* The bytes of a plain field; 0 where the letter is an object's. */
 static int width_of(char letter) {
@@ -39,7 +53,7 @@ static int declared_by(char letter) { return letter == 'o' ? ANY : letter - '0';
 struct reading {
     const u8 *at, *end;
     i64 *list;
-    u64 numbers;
+    u64 numbers, version;   /* the version: the root's */
 };
 
 static void tell(struct reading *r, i64 number) { r->list[r->numbers++] = number; }
@@ -79,8 +93,8 @@ static u32 read_item(struct reading *r, char letter, int depth) {
 static u32 read_fields(struct reading *r, const char *fields, int depth) {
     for (; *fields != 0; fields++) {
         u64 items = 1;
-        if (*fields == '[') {
-            u32 refusal = take(r, 2, &items);
+        if (*fields == '[' || *fields == '{') {
+            u32 refusal = take(r, *fields == '[' ? 2 : 4, &items);
             if (refusal != 0) return refusal;
             tell(r, (i64) items);
             fields++;
@@ -94,7 +108,7 @@ static u32 read_fields(struct reading *r, const char *fields, int depth) {
 }
 
 static u32 read_object(struct reading *r, int declared, int depth) {
-    u64 exists, type;
+    u64 exists, type, version;
     if (take(r, 1, &exists) != 0) return 25;
     if (exists > 1) return 23;
     if (exists == 0) {
@@ -105,12 +119,16 @@ static u32 read_object(struct reading *r, int declared, int depth) {
     if (depth > DEEPEST) return 26;
     if (r->end - r->at < HEADER) return 25;
     type = ref_number(r->at + 8, 4);
-    if (memcmp(r->at, series, 8) != 0 || ref_number(r->at + 12, 2) != VERSION) return 24;
+    version = ref_number(r->at + 12, 2);
+    if (memcmp(r->at, series, 8) != 0 || version < 1 || version > VERSIONS) return 24;
+    if (depth > 1 && version != r->version) return 24;
     if (type < 1 || type > TYPES) return 24;
     if (declared != ANY && type != (u64) declared) return 24;
     r->at += HEADER;
+    r->version = version;
+    if (depth == 1) tell(r, (i64) version);
     tell(r, (i64) type);
-    return read_fields(r, ref_fields[type], depth);
+    return read_fields(r, ref_fields[version][type], depth);
 }
 
 u32 ref_read_message(const u8 *m, u64 length, i64 *list, u64 *numbers) {
@@ -119,7 +137,7 @@ u32 ref_read_message(const u8 *m, u64 length, i64 *list, u64 *numbers) {
     if (length > MAX_MESSAGE || length != 12 + root) return 21;
     u64 sum = ref_number(m + 8 + root, 4);
     if (sum != 0 && sum != ref_checksum(m, 8 + root)) return 22;
-    struct reading r = {m + 8, m + 8 + root, list, 0};
+    struct reading r = {m + 8, m + 8 + root, list, 0, 0};
     u32 refusal = read_object(&r, ANY, 1);
     if (refusal != 0) return refusal;
     if (r.at != r.end) return 28;
@@ -132,7 +150,7 @@ u32 ref_read_message(const u8 *m, u64 length, i64 *list, u64 *numbers) {
 struct writing {
     const i64 *at, *end;
     u8 *out;
-    u64 length;
+    u64 length, version;
 };
 
 static void put(struct writing *w, int width, u64 value) {
@@ -174,10 +192,10 @@ static u32 write_item(struct writing *w, char letter, int depth) {
 static u32 write_fields(struct writing *w, const char *fields, int depth) {
     for (; *fields != 0; fields++) {
         i64 items = 1;
-        if (*fields == '[') {
+        if (*fields == '[' || *fields == '{') {
             if (w->at == w->end) return 25;
             items = *w->at;
-            u32 refusal = write_plain(w, 'u');
+            u32 refusal = write_plain(w, *fields == '[' ? 'u' : 'U');
             if (refusal != 0) return refusal;
             fields++;
         }
@@ -203,12 +221,15 @@ static u32 write_object(struct writing *w, int declared, int depth) {
     put(w, 1, 1);
     for (int i = 0; i < 8; i++) put(w, 1, series[i]);
     put(w, 4, (u64) type);
-    put(w, 2, VERSION);
-    return write_fields(w, ref_fields[type], depth);
+    put(w, 2, w->version);
+    return write_fields(w, ref_fields[w->version][type], depth);
 }
 
 u32 ref_write_root(const i64 *list, u64 numbers, u8 *out, u64 *length) {
-    struct writing w = {list, list + numbers, out, 0};
+    struct writing w = {list, list + numbers, out, 0, 0};
+    if (numbers == 0) return 25;
+    if (!in_range(*list, 1, VERSIONS)) return 29;
+    w.version = (u64) *w.at++;
     u32 refusal = write_object(&w, ANY, 1);
     if (refusal != 0) return refusal;
     if (w.at != w.end) return 28;

@@ -129,19 +129,19 @@ enum ref_seen ref_watch(struct ref_watch *w, u64 sender, u32 sequence, u64 *by);
 
 /* ---- LMCP */
 
-enum { MAX_MESSAGE = 262144, DEEPEST = 16, TYPES = 7 };
+enum { MAX_MESSAGE = 262144, DEEPEST = 16, TYPES = 7, VERSIONS = 2 };
 
 /* Answers 0 and the numbers written to the list, or the refusal. The list has room for any message within the limit. */
 u32 ref_read_message(const u8 *message, u64 length, i64 *list, u64 *numbers);
 
-/* The walk of a list alone: writes the root object to `out` whatever its length, and answers 0 and that length, or the refusal
+/* The version and the walk of a list alone: writes the root object to `out` whatever its length, and answers 0 and that length, or the refusal
    of the walk or 28. Out has room for 15 bytes a number. */
 u32 ref_write_root(const i64 *list, u64 numbers, u8 *out, u64 *length);
 
 /* Answers 0 and the length of the message written, or the refusal. Out as above, and 12 more. */
 u32 ref_write_message(const i64 *list, u64 numbers, int calculate, u8 *out, u64 *length);
 
-/* The fields of a type, a letter or two each; lmcp.c says which. */
-extern const char *const ref_fields[TYPES + 1];
+/* The fields of a type of a version, a letter or two each; lmcp.c says which. */
+extern const char *const ref_fields[VERSIONS + 1][TYPES + 1];
 
 #endif

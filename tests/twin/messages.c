@@ -13,6 +13,15 @@ static u8 message[MESSAGE_ROOM];
 
 static void tell(i64 number) { list[numbers++] = number; }
 
+/* A list begins with its version, and is made by its table. */
+static int version;
+
+static void begin(void) {
+    version = (int) between(1, VERSIONS);
+    numbers = 0;
+    tell(version);
+}
+
 static i64 some_plain(char letter) {
     u64 r = random_64();
     int edge = chance(30);
@@ -50,9 +59,9 @@ static void some_item(char letter, int depth) {
 
 static void some_object(int type, int depth) {
     tell(type);
-    for (const char *f = ref_fields[type]; *f != 0; f++) {
+    for (const char *f = ref_fields[version][type]; *f != 0; f++) {
         u64 items = 1;
-        if (*f == '[') {
+        if (*f == '[' || *f == '{') {
             f++;
             items = some_count(*f);
             tell((i64) items);
@@ -104,11 +113,12 @@ static void marks(u64 count) {
         tell((i64) (i % 2));
         if (i % 3 == 0) some_object(2, 3);
         else tell(0);
+        if (version == 2) tell(some_plain('h'));
     }
 }
 
 static void some_list(void) {
-    numbers = 0;
+    begin();
     if (chance(8)) chain((int) between(1, 18));
     else if (chance(6)) chain((int) between(15, 17));
     else if (chance(5)) marks(below(40));
@@ -118,7 +128,7 @@ static void some_list(void) {
 /* The few large ones, in turn. */
 static void large_list(int turn) {
     static const u64 wholes[] = {262140, 262143, 262144, 262145, 262146, 262200};
-    numbers = 0;
+    begin();
     if (turn < 6) sized(wholes[turn]);
     else if (turn < 9) marks(between(5000, 14000));
     else if (turn < 11) marks(65535);
@@ -321,7 +331,7 @@ static void every_place(struct stream *s) {
 /* A list of at most 60 numbers with a root of this type. */
 static void short_list(int type) {
     do {
-        numbers = 0;
+        begin();
         some_object(type, 1);
     } while (numbers > 60);
 }
@@ -451,7 +461,7 @@ void bytes_stream(struct stream *s, int which) {
     }
     if (which == 17) sweep_lists(s);
     for (int turn = 0; turn < 3; turn++) {
-        numbers = 0;
+        begin();
         marks(between(9000, 13000));
         expect_bytes(s);
     }

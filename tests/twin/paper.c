@@ -31,14 +31,14 @@ const struct paper_case paper_cases[] = {
     {"gaps", "4c433032 ffffffff 50 00; 4c433032 00000001 50 00;", "1 first\n2 forward 1\nend 2\n"},
     {"gaps", "4c433032 00000000 50 00; 4c433032 80000000 50 00;", "1 first\n2 late 2147483648\nend 2\n"},
     {"gaps", A B, "1 first\n2 same\nend 2\n"},
-    {"lmcp_list", "4c4d4350 0000000f " PING " 0000037b;", "1 list 1\nend 1\n"},
-    {"lmcp_list", "4c4d4350 0000000f " PING " 0000037c; 4c4d4350 0000000f " PING " 00000000;", "1 refused 22\n2 list 1\nend 2\n"},
+    {"lmcp_list", "4c4d4350 0000000f " PING " 0000037b;", "1 list 1 1\nend 1\n"},
+    {"lmcp_list", "4c4d4350 0000000f " PING " 0000037c; 4c4d4350 0000000f " PING " 00000000;", "1 refused 22\n2 list 1 1\nend 2\n"},
     {"lmcp_list", "4c4d4350 00000001 00 0000012d;", "1 refused 23\nend 1\n"},
     {"lmcp_list", "", "end 0\n"},
-    {"lmcp_bytes", "01 0000000000000001; 00 0000000000000001;",
+    {"lmcp_bytes", "01 0000000000000001 0000000000000001; 00 0000000000000001 0000000000000001;",
      "1 bytes 4c4d43500000000f015049545355525600000000010001" "0000037b\n"
      "2 bytes 4c4d43500000000f015049545355525600000000010001" "00000000\nend 2\n"},
-    {"lmcp_bytes", "01; 01 0000000000000000;", "1 refused 25\n2 refused 23\nend 2\n"},
+    {"lmcp_bytes", "01; 01 0000000000000001 0000000000000000; 01 0000000000000003;", "1 refused 25\n2 refused 23\n3 refused 29\nend 3\n"},
     {0, 0, 0},
 };
 

@@ -199,33 +199,48 @@ pub record Some (T : Table) (d n : ℕ) : Type 0 where
   pub deep : 0 < d
   pub within : n < length (T .types)
 
+-- all that the reader's head passed, where it is of type n
+pub record Headed (T : Table) (d t n : ℕ) (b : List ℕ) : Type 0 where
+  pub long : ltb (length b) 1 ≡ false
+  pub most : ltb 1 (be 1 b) ≡ false
+  pub exists : eqb (be 1 b) 0 ≡ false
+  pub deep : eqb d 0 ≡ false
+  pub enough : ltb (length (drop 1 b)) 14 ≡ false
+  pub is-known : known T t (drop 1 b) ≡ true
+  pub number : be 4 (drop 8 (drop 1 b)) ≡ n
+
 module _ (T : Table) (d t n : ℕ) (some : n ≡ 0 → ⊥) where
-  not-null : {A B : Type 0} (e : Bool) (ys zs : List B) (l r : List A) (X : Tag A B) → pick e (tag 0 ys l) X ≡ tag n zs r → X ≡ tag n zs r
+  not-null : {A B : Type 0} (e : Bool) (ys zs : List B) (l r : List A) (X : Tag A B) → pick e (tag 0 ys l) X ≡ tag n zs r → (e ≡ false) × (X ≡ tag n zs r)
   not-null true ys zs l r X q = absurd (some (sym (tag-number q)))
-  not-null false ys zs l r X q = q
+  not-null false ys zs l r X q = (refl, q)
 
   deep-enough : eqb d 0 ≡ false → 0 < d
   deep-enough e = omega (arith, eqb-false d 0 e)
 
-  pub read-some : (b : List ℕ) {zs : List ℤ} {r : List ℕ} → readHead T d t b ≡ tag n zs r → Some T d n
+  pub read-headed : (b : List ℕ) {zs : List ℤ} {r : List ℕ} → readHead T d t b ≡ tag n zs r → Headed T d t n b
   unfolding readHead readHeader
-  read-some b {zs} {r} e =
+  read-headed b {zs} {r} e =
       let m = be 4 (drop 8 (drop 1 b)) in
       let known' = known T t (drop 1 b) in
       let header = pick (ltb (length (drop 1 b)) 14) (bad 25) (pick known' (tag m (pos m ∷ []) (drop 14 (drop 1 b))) (bad 24)) in
       let p = tag-unless (ltb (length b) 1) 25 (pick (ltb 1 (be 1 b)) (bad 23) (pick (eqb (be 1 b) 0) (tag 0 (pos 0 ∷ []) (drop 1 b)) (pick (eqb d 0) (bad 26) header))) e in
       let q = tag-unless (ltb 1 (be 1 b)) 23 (pick (eqb (be 1 b) 0) (tag 0 (pos 0 ∷ []) (drop 1 b)) (pick (eqb d 0) (bad 26) header)) (p .1) in
       let o = not-null (eqb (be 1 b) 0) (pos 0 ∷ []) zs (drop 1 b) r (pick (eqb d 0) (bad 26) header) (q .1) in
-      let g = tag-unless (eqb d 0) 26 header o in
+      let g = tag-unless (eqb d 0) 26 header (o .1) in
       let h = tag-unless (ltb (length (drop 1 b)) 14) 25 (pick known' (tag m (pos m ∷ []) (drop 14 (drop 1 b))) (bad 24)) (g .1) in
       let k = tag-where known' (tag m (pos m ∷ []) (drop 14 (drop 1 b))) 24 (h .1) in
-      record { deep = deep-enough (g .0); within = subst (λ (j : ℕ). j < length (T .types)) (tag-number (k .1)) (typed-most T t m (known-type T t (drop 1 b) (k .0))) }
+      record { long = p .0; most = q .0; exists = o .0; deep = g .0; enough = h .0; is-known = k .0; number = tag-number (k .1) }
+
+  pub read-some : (b : List ℕ) {zs : List ℤ} {r : List ℕ} → readHead T d t b ≡ tag n zs r → Some T d n
+  read-some b e =
+      let h = read-headed b e in
+      record { deep = deep-enough (h .deep); within = subst (λ (j : ℕ). j < length (T .types)) (h .number) (typed-most T t (be 4 (drop 8 (drop 1 b))) (known-type T t (drop 1 b) (h .is-known))) }
 
   pub write-some : (l : List ℤ) {ys : List ℕ} {r : List ℤ} → writeHead T d t l ≡ tag n ys r → Some T d n
   unfolding writeHead
   write-some [] e = not-bad e
   write-some (z ∷ l) {ys} {r} e =
       let o = not-null (below 1 z) (0 ∷ []) ys l r (pick (eqb d 0) (bad 26) (pick (typedBy T t z) (tag (mag z) (header T (mag z)) l) (bad 24))) e in
-      let g = tag-unless (eqb d 0) 26 (pick (typedBy T t z) (tag (mag z) (header T (mag z)) l) (bad 24)) o in
+      let g = tag-unless (eqb d 0) 26 (pick (typedBy T t z) (tag (mag z) (header T (mag z)) l) (bad 24)) (o .1) in
       let k = tag-where (typedBy T t z) (tag (mag z) (header T (mag z)) l) 24 (g .1) in
       record { deep = deep-enough (g .0); within = subst (λ (j : ℕ). j < length (T .types)) (tag-number (k .1)) (typed-most T t (mag z) (typedBy-mag T t z (k .0) .1)) }

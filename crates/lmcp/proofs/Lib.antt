@@ -1,3 +1,5 @@
+pub mod Editions
+pub mod Few
 pub mod Goes
 pub mod Heads
 pub mod Lent
@@ -5,6 +7,7 @@ pub mod Makes
 pub mod Never
 pub mod Once
 pub mod Pitsurv
+pub mod Spells
 pub mod Tables
 pub mod Trips
 pub mod Types

@@ -1,14 +1,14 @@
--- Series PITSURV, version 1: its table is sound, by one computed test over all rows. Assumes nothing.
-use mathlib.Core.Path.{_≡_, refl, sym, subst}
+-- Series PITSURV: its table is sound in either version, by one computed test over all rows. Assumes nothing.
+use mathlib.Core.Path.{_≡_, refl, ap, sym, subst}
 use mathlib.Core.Bool.{Bool, true, false, _&&_, _||_}
 use mathlib.Core.List.{List, [], _∷_}
-use Prim.Native.Nat.{ℕ, _<_}
+use Prim.Native.Nat.{ℕ, _^_, _<_}
 use lib.Dec.{leb, eqb, lit<, lit≤}
 use lib.ListN.{length, getD}
 use borrow.Author.Tests.{leb-true, ne-eqb}
 use Rattle.wire.proofs.Choices.{and-l, and-r}
 use Rattle.lmcp.specs.declared.Row.{Row}
-use Rattle.lmcp.specs.Table.{objectKind, signedKind, RowFits, RowsFit, Sound, rowsOf, nothing, pitsurv}
+use Rattle.lmcp.specs.Table.{objectKind, signedKind, RowFits, RowsFit, Sound, joined, beginnings, rowsOf, startsOf, nothing, second, typesOf, pitsurv}
 use Rattle.lmcp.proofs.Tables.{row-fits}
 
 -- ---- the test, and what it says
@@ -39,12 +39,24 @@ all-fit : (l : List Row) → all-fitting l ≡ true → RowsFit l
 all-fit [] e = tt
 all-fit (f ∷ l) e = (fits-row f (and-l (fitting f) (all-fitting l) e), all-fit l (and-r (fitting f) (all-fitting l) e))
 
+rows-by : (two : Bool) → RowsFit (joined (typesOf two))
+rows-by true = all-fit (joined (typesOf true)) refl
+rows-by false = all-fit (joined (typesOf false)) refl
+
 pub rows-fit : (v : ℕ) → RowsFit (rowsOf (pitsurv v))
-rows-fit v = all-fit (rowsOf (pitsurv v)) refl
+rows-fit v = rows-by (second v)
 
 -- row i of the table fits
 pub row-fit : (v i : ℕ) {f : Row} → i < length (rowsOf (pitsurv v)) → f ≡ getD (rowsOf (pitsurv v)) i nothing → RowFits f
 row-fit v i h e = subst RowFits (sym e) (row-fits (rowsOf (pitsurv v)) (rows-fit v) i h)
 
-pub sound : Sound (pitsurv 1)
-sound = record { version-fits = lit< tt; types-fit = lit≤ tt; rows-fit = rows-fit 1 }
+pub sound : (v : ℕ) → v < 256 ^ 2 → Sound (pitsurv v)
+sound v h = record { version-fits = h; types-fit = lit≤ tt; rows-fit = rows-fit v }
+
+-- ---- the rows and their beginnings, by the edition
+
+pub rows-are : (v i : ℕ) (two : Bool) → second v ≡ two → getD (joined (typesOf two)) i nothing ≡ getD (rowsOf (pitsurv v)) i nothing
+rows-are v i two e = ap (λ (t : Bool). getD (joined (typesOf t)) i nothing) (sym e)
+
+pub starts-are : (v t : ℕ) (two : Bool) → second v ≡ two → getD (beginnings 0 (typesOf two)) t 0 ≡ getD (startsOf (pitsurv v)) t 0
+starts-are v t two e = ap (λ (b : Bool). getD (beginnings 0 (typesOf b)) t 0) (sym e)

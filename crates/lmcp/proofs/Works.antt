@@ -15,9 +15,10 @@ use Rattle.lmcp.specs.Value.{fault, numberOf}
 use Rattle.lmcp.specs.Read.{reading, judged, readValue, readCount, typed, known, readHeader, readHead}
 use Rattle.lmcp.specs.Walk.{item, field, fields, object, root}
 use Rattle.lmcp.specs.Message.{stored, frame}
+use Rattle.lmcp.specs.Lists.{versionOf}
 use Rattle.lmcp.specs.Worked.{Case, cases}
 
-pub worked : map (λ (c : Case). root (reading (pitsurv 1)) (pitsurv 1) (c .bytes)) cases ≡ map (λ (c : Case). c .gives) cases
+pub worked : map (λ (c : Case). root (reading (pitsurv (versionOf (c .bytes)))) (pitsurv (versionOf (c .bytes))) (c .bytes)) cases ≡ map (λ (c : Case). c .gives) cases
 unfolding be prepend andThen after repeat fault numberOf judged readValue readCount typed known readHeader readHead item field fields object root
 worked = refl
 

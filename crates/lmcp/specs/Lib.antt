@@ -6,5 +6,7 @@ pub mod Value
 pub mod Read
 pub mod Write
 pub mod Message
+pub mod Lists
 pub mod Ends
+pub mod Spelled
 pub mod Worked

@@ -1,4 +1,4 @@
--- A whole message: "LMCP", the root's length, the root, the checksum. Definitions only.
+-- A whole message of one table: "LMCP", the root's length, the root, the checksum. Definitions only.
 use mathlib.Core.Path.{_≡_}
 use mathlib.Core.Bool.{Bool, true, false, not, _||_}
 use mathlib.Core.List.{List, _++_}
@@ -13,9 +13,9 @@ use Rattle.wire.specs.Sum.{sum}
 use Rattle.wire.specs.Same.{same}
 use Rattle.wire.specs.Overlay.{overlay}
 use Rattle.lmcp.specs.declared.Found.{Found}
-use Rattle.lmcp.specs.declared.Found.the-variants.{Numbers, Unread}
+use Rattle.lmcp.specs.declared.Found.the-variants.{Numbers, Refused as Unread}
 use Rattle.lmcp.specs.declared.Made.{Made}
-use Rattle.lmcp.specs.declared.Made.the-variants.{Bytes, Unwritten}
+use Rattle.lmcp.specs.declared.Made.the-variants.{Bytes, Refused as Unwritten}
 use Rattle.lmcp.specs.Limits.{maxMessage, magic}
 use Rattle.lmcp.specs.Run.{got, refused, whole}
 use Rattle.lmcp.specs.Table.{Table}

@@ -1,8 +1,11 @@
 -- The message table: what a table is, and series PITSURV. Definitions only.
 use mathlib.Core.Path.{_≡_}
+use mathlib.Core.Bool.{Bool}
 use mathlib.Core.List.{List, [], _∷_, _++_}
 use Prim.Native.Nat.{ℕ, _+_, _^_, _≤_, _<_}
+use lib.Dec.{eqb}
 use lib.ListN.{length, getD}
+use Rattle.wire.specs.Choice.{pick}
 use Rattle.lmcp.specs.declared.Row.{Row}
 
 -- ---- kinds of elements
@@ -121,27 +124,30 @@ pub record Sound (T : Table) : Type 0 where
   pub types-fit : length (T .types) ≤ 256 ^ 4
   pub rows-fit : RowsFit (rowsOf T)
 
--- ---- series PITSURV, by version; one version is in force, 1
+-- ---- series PITSURV, by version: the second edition is the first with PitList's count in 4 bytes and one more field in PitMark at its
+-- end, its depth in centimetres
+
+abbrev pub second : ℕ → Bool
+second v = eqb v 2
+
+abbrev pub typesOf : Bool → List (List Row)
+typesOf two =
+    []
+    -- 1 Ping: none
+    ∷ []
+    -- 2 Place: lat, lon, height
+    ∷ (int32 ∷ int32 ∷ int16 ∷ [])
+    -- 3 TileHead: tile, column, row, corner
+    ∷ (uint32 ∷ uint16 ∷ uint16 ∷ objectOf 2 ∷ [])
+    -- 4 PitMark: pit, sure, at; in version 2 depth
+    ∷ (uint32 ∷ bool ∷ objectOf 2 ∷ pick two (int16 ∷ []) [])
+    -- 5 PitList: tile, pits
+    ∷ (uint32 ∷ arrayOf (pick two 4 2) (objectOf 4) ∷ [])
+    -- 6 Note: text, about
+    ∷ (string ∷ lmcpObject ∷ [])
+    -- 7 Frame: camera, stamp, tilt, tick, head
+    ∷ (fixedOf 4 byte ∷ real64 ∷ real32 ∷ int64 ∷ objectOf 3 ∷ [])
+    ∷ []
 
 abbrev pub pitsurv : ℕ → Table
-pitsurv v =
-    record {
-      version = v;
-      types =
-          []
-          -- 1 Ping: none
-          ∷ []
-          -- 2 Place: lat, lon, height
-          ∷ (int32 ∷ int32 ∷ int16 ∷ [])
-          -- 3 TileHead: tile, column, row, corner
-          ∷ (uint32 ∷ uint16 ∷ uint16 ∷ objectOf 2 ∷ [])
-          -- 4 PitMark: pit, sure, at
-          ∷ (uint32 ∷ bool ∷ objectOf 2 ∷ [])
-          -- 5 PitList: tile, pits
-          ∷ (uint32 ∷ arrayOf 2 (objectOf 4) ∷ [])
-          -- 6 Note: text, about
-          ∷ (string ∷ lmcpObject ∷ [])
-          -- 7 Frame: camera, stamp, tilt, tick, head
-          ∷ (fixedOf 4 byte ∷ real64 ∷ real32 ∷ int64 ∷ objectOf 3 ∷ [])
-          ∷ [];
-    }
+pitsurv v = record { version = v; types = typesOf (second v) }

@@ -1,13 +1,20 @@
--- Worked roots, beside m11 to m13 of the marked table: signs, types, bools, chars, a header that is cut, and both sides of the depth. Definitions only.
+-- Worked roots, beside m11 to m13 of the marked table: signs, types, bools, chars, a header that is cut, both sides of the
+-- depth, and both versions. Definitions only.
 use mathlib.Core.List.{List, [], _∷_, _++_}
 use Prim.Native.Nat.{ℕ, zero, suc}
 use lib.IntN.{ℤ, pos, negsuc}
 use Rattle.lmcp.specs.Run.{got, refused}
 use Rattle.lmcp.specs.Read.{Read}
 
--- an object's existence byte and header: "PITSURV", its type, version 1
+-- an object's existence byte and header: "PITSURV", its type, a version
+abbrev pub headOf : ℕ → ℕ → List ℕ
+headOf v t = 1 ∷ 80 ∷ 73 ∷ 84 ∷ 83 ∷ 85 ∷ 82 ∷ 86 ∷ 0 ∷ 0 ∷ 0 ∷ 0 ∷ t ∷ 0 ∷ v ∷ []
+
 abbrev pub head : ℕ → List ℕ
-head t = 1 ∷ 80 ∷ 73 ∷ 84 ∷ 83 ∷ 85 ∷ 82 ∷ 86 ∷ 0 ∷ 0 ∷ 0 ∷ 0 ∷ t ∷ 0 ∷ 1 ∷ []
+head = headOf 1
+
+abbrev pub head2 : ℕ → List ℕ
+head2 = headOf 2
 
 -- n Notes, one about the other, the last about null; and their numbers
 abbrev pub notes : ℕ → List ℕ
@@ -39,4 +46,14 @@ cases =
     -- 16 Notes deep, and 17
     ∷ record { bytes = notes 16; gives = got (noted 16) [] }
     ∷ record { bytes = notes 17; gives = refused 26 }
+    -- PitList of version 2: its count in 4 bytes, a depth of -5 at the mark's end
+    ∷ record { bytes = head2 5 ++ (0 ∷ 0 ∷ 0 ∷ 9 ∷ 0 ∷ 0 ∷ 0 ∷ 2 ∷ head2 4) ++ (0 ∷ 0 ∷ 0 ∷ 7 ∷ 1 ∷ 0 ∷ 255 ∷ 251 ∷ 0 ∷ []); gives = got (pos 5 ∷ pos 9 ∷ pos 2 ∷ pos 4 ∷ pos 7 ∷ pos 1 ∷ pos 0 ∷ negsuc 4 ∷ pos 0 ∷ []) [] }
+    -- mixed, either way
+    ∷ record { bytes = head2 5 ++ (0 ∷ 0 ∷ 0 ∷ 9 ∷ 0 ∷ 0 ∷ 0 ∷ 1 ∷ head 4) ++ (0 ∷ 0 ∷ 0 ∷ 7 ∷ 1 ∷ 0 ∷ []); gives = refused 24 }
+    ∷ record { bytes = head 5 ++ (0 ∷ 0 ∷ 0 ∷ 9 ∷ 0 ∷ 1 ∷ head2 4) ++ (0 ∷ 0 ∷ 0 ∷ 7 ∷ 1 ∷ 0 ∷ 255 ∷ 251 ∷ []); gives = refused 24 }
+    -- no version 0 or 3
+    ∷ record { bytes = headOf 0 1; gives = refused 24 }
+    ∷ record { bytes = headOf 3 1; gives = refused 24 }
+    -- a count of 4,294,967,295, and nothing behind it
+    ∷ record { bytes = head2 5 ++ (0 ∷ 0 ∷ 0 ∷ 9 ∷ 255 ∷ 255 ∷ 255 ∷ 255 ∷ []); gives = refused 25 }
     ∷ []

@@ -39,25 +39,25 @@ pub const OBJECT_KIND: u8 = 4;
 // Where a walk stands: its place in what it reads and in what it writes; or the number of the refusal.
 pub enum Went {
     To(usize, usize),
-    Stopped(u8),
+    Stopped(u32),
 }
 
 // A count or a type on the way, and the two places after it; or the number of the refusal.
 pub enum Mark {
     Of(usize, usize, usize),
-    Bad(u8),
+    Bad(u32),
 }
 
 // What the reader answers: how many numbers the list now begins with, or the number of the refusal.
 pub enum Found {
     Numbers(usize),
-    Unread(u8),
+    Refused(u32),
 }
 
 // What the writer answers: how many bytes the output now begins with, or the number of the refusal.
 pub enum Made {
     Bytes(usize),
-    Unwritten(u8),
+    Refused(u32),
 }
 
 const INT16: Row = Row {
@@ -80,6 +80,9 @@ const INT64: Row = Row {
     kind: SIGNED_KIND,
     arg: 8,
 };
+
+// In centimetres.
+const DEPTH: Row = INT16;
 
 const UINT16: Row = Row {
     count: 0,
@@ -153,6 +156,14 @@ const PIT_MARKS: Row = Row {
     arg: 4,
 };
 
+// The same with its count in 4 bytes.
+const MANY_PIT_MARKS: Row = Row {
+    count: 4,
+    fixed: 0,
+    kind: OBJECT_KIND,
+    arg: 4,
+};
+
 const LMCP_OBJECT: Row = Row {
     count: 0,
     fixed: 1,
@@ -161,7 +172,7 @@ const LMCP_OBJECT: Row = Row {
 };
 
 // Series PITSURV, version 1: the fields of one type after the other.
-const ROWS: [Row; 19] = [
+const FIRST: [Row; 19] = [
     // 2 Place: lat, lon, height
     INT32,
     INT32,
@@ -189,8 +200,48 @@ const ROWS: [Row; 19] = [
     TILE_HEAD,
 ];
 
+// Version 2: PitMark has a depth at its end, and PitList its count in 4 bytes.
+const SECOND: [Row; 20] = [
+    // 2 Place: lat, lon, height
+    INT32,
+    INT32,
+    INT16,
+    // 3 TileHead: tile, column, row, corner
+    UINT32,
+    UINT16,
+    UINT16,
+    PLACE,
+    // 4 PitMark: pit, sure, at, depth
+    UINT32,
+    BOOL,
+    PLACE,
+    DEPTH,
+    // 5 PitList: tile, pits
+    UINT32,
+    MANY_PIT_MARKS,
+    // 6 Note: text, about
+    STRING,
+    LMCP_OBJECT,
+    // 7 Frame: camera, stamp, tilt, tick, head
+    BYTES4,
+    REAL64,
+    REAL32,
+    INT64,
+    TILE_HEAD,
+];
+
 // Where the rows of each type begin, null and Ping first, and at last where they all end.
-const STARTS: [usize; 9] = [0, 0, 0, 3, 7, 10, 12, 14, 19];
+const FIRST_STARTS: [usize; 9] = [0, 0, 0, 3, 7, 10, 12, 14, 19];
+
+const SECOND_STARTS: [usize; 9] = [0, 0, 0, 3, 7, 11, 13, 15, 20];
+
+// What stands past the last row.
+const NOTHING: Row = Row {
+    count: 0,
+    fixed: 0,
+    kind: UNSIGNED_KIND,
+    arg: 0,
+};
 
 // How many types there are, null among them.
 const TYPES: u64 = 8;
@@ -199,15 +250,16 @@ const TYPES: u64 = 8;
 pub fn row_at(version: u64, i: usize) -> Row
     ensures { λ r. ⌜ r ≡ getD (rowsOf (pitsurv version)) i nothing ⌝ }
 {
+    if version == 2 {
+        if i < 20 {
+            return SECOND[i];
+        }
+        return NOTHING;
+    }
     if i < 19 {
-        return ROWS[i];
+        return FIRST[i];
     }
-    Row {
-        count: 0,
-        fixed: 0,
-        kind: UNSIGNED_KIND,
-        arg: 0,
-    }
+    NOTHING
 }
 
 // Where the rows of type t begin; one past the last type, where they all end.
@@ -215,7 +267,10 @@ pub fn start_of(version: u64, t: usize) -> usize
     ensures { λ r. ⌜ r ≡ getD (startsOf (pitsurv version)) t 0 ⌝ }
 {
     if t < 9 {
-        return STARTS[t];
+        if version == 2 {
+            return SECOND_STARTS[t];
+        }
+        return FIRST_STARTS[t];
     }
     0
 }

@@ -10,9 +10,9 @@ use lib.Dec.{ltb, eqb}
 use Rattle.wire.specs.Bytes.{be}
 use Rattle.wire.specs.Signed.{signed}
 use Rattle.lmcp.specs.declared.Made.{Made}
-use Rattle.lmcp.specs.declared.Made.the-variants.{Bytes, Unwritten}
-use Rattle.lmcp.specs.Table.{pitsurv}
-use Rattle.lmcp.specs.Message.{writeMessage, WrittenTo}
+use Rattle.lmcp.specs.declared.Made.the-variants.{Bytes, Refused}
+use Rattle.lmcp.specs.Message.{WrittenTo}
+use Rattle.lmcp.specs.Lists.{writeList}
 use Rattle.text.specs.Text.{decimal, hex}
 use Rattle.output.specs.Output.{Pours}
 
@@ -34,13 +34,13 @@ longerText n =
 -- " bytes 4c4d4350" or " refused 29"
 abbrev pub madeText : List ℕ → Made → List ℕ
 madeText bytes (Bytes n) = (32 ∷ 98 ∷ 121 ∷ 116 ∷ 101 ∷ 115 ∷ 32 ∷ []) ++ hex (take n bytes) ++ 10 ∷ []
-madeText bytes (Unwritten e) = (32 ∷ 114 ∷ 101 ∷ 102 ∷ 117 ∷ 115 ∷ 101 ∷ 100 ∷ 32 ∷ []) ++ decimal e ++ 10 ∷ []
+madeText bytes (Refused e) = (32 ∷ 114 ∷ 101 ∷ 102 ∷ 117 ∷ 115 ∷ 101 ∷ 100 ∷ 32 ∷ []) ++ decimal e ++ 10 ∷ []
 
 -- The list that a body holds was written as a message, and line n gives its bytes or its refusal.
 pub record Made′ (calculate : Bool) (body : List ℕ) (n : ℕ) (list : List ℤ) (bytes out : List ℕ) (at : ℕ) (list′ : List ℤ) (bytes′ out′ : List ℕ) (r : ℕ) : Type 0 where
   pub taken : list′ ≡ sets list 0 (numbersOf (length body / 8) body)
   pub made : Made
-  pub written : WrittenTo (writeMessage (pitsurv 1) calculate (numbersOf (length body / 8) body)) bytes made bytes′
+  pub written : WrittenTo (writeList calculate (numbersOf (length body / 8) body)) bytes made bytes′
   pub said : Pours out at (decimal n ++ madeText bytes′ made) out′ r
 
 -- It has more numbers than the program's list, and line n says so; nothing else is touched.

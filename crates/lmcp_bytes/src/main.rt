@@ -80,7 +80,7 @@ fn pour_made(out: &mut [u8], at: usize, bytes: &[u8], made: Made) -> usize
             let b = output::pour_hex(out, a, wire::part(bytes, 0, n));
             output::pour(out, b, b"\n")
         }
-        Made::Unwritten(e) => output::pour_counted_line(out, at, b" refused ", e as u64),
+        Made::Refused(e) => output::pour_counted_line(out, at, b" refused ", e as u64),
     }
 }
 

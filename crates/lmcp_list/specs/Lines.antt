@@ -4,9 +4,9 @@ use Prim.Native.Nat.{ℕ}
 use lib.IntN.{ℤ}
 use lib.ListN.{take}
 use Rattle.lmcp.specs.declared.Found.{Found}
-use Rattle.lmcp.specs.declared.Found.the-variants.{Numbers, Unread}
-use Rattle.lmcp.specs.Table.{pitsurv}
-use Rattle.lmcp.specs.Message.{readMessage, ReadTo}
+use Rattle.lmcp.specs.declared.Found.the-variants.{Numbers, Refused}
+use Rattle.lmcp.specs.Message.{ReadTo}
+use Rattle.lmcp.specs.Lists.{readList}
 use Rattle.text.specs.Text.{decimal, signedDecimal}
 use Rattle.output.specs.Output.{Pours}
 
@@ -18,7 +18,7 @@ spaced (z ∷ l) = (32 ∷ signedDecimal z) ++ spaced l
 -- " list 1 2 3" or " refused 22"
 abbrev pub foundText : List ℤ → Found → List ℕ
 foundText list (Numbers n) = (32 ∷ 108 ∷ 105 ∷ 115 ∷ 116 ∷ []) ++ spaced (take n list)
-foundText list (Unread e) = (32 ∷ 114 ∷ 101 ∷ 102 ∷ 117 ∷ 115 ∷ 101 ∷ 100 ∷ 32 ∷ []) ++ decimal e
+foundText list (Refused e) = (32 ∷ 114 ∷ 101 ∷ 102 ∷ 117 ∷ 115 ∷ 101 ∷ 100 ∷ 32 ∷ []) ++ decimal e
 
 -- line n
 abbrev pub line : ℕ → List ℤ → Found → List ℕ
@@ -27,5 +27,5 @@ line n list found = decimal n ++ foundText list found ++ 10 ∷ []
 -- The message was read into the list, and line n gives its numbers or its refusal.
 pub record Listed (message : List ℕ) (n : ℕ) (list : List ℤ) (out : List ℕ) (at : ℕ) (list′ : List ℤ) (out′ : List ℕ) (r : ℕ) : Type 0 where
   pub found : Found
-  pub read : ReadTo (readMessage (pitsurv 1) message) list found list′
+  pub read : ReadTo (readList message) list found list′
   pub said : Pours out at (line n list′ found) out′ r

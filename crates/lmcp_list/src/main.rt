@@ -35,7 +35,7 @@ fn pour_found(out: &mut [u8], at: usize, list: &[i64], found: Found) -> usize
             let next = output::pour(out, at, b" list");
             pour_numbers(out, next, list, n)
         }
-        Found::Unread(e) => output::pour_counted(out, at, b" refused ", e as u64),
+        Found::Refused(e) => output::pour_counted(out, at, b" refused ", e as u64),
     }
 }
 

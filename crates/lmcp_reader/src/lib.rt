@@ -4,19 +4,18 @@ use lmcp::Mark;
 use lmcp::Row;
 use lmcp::Went;
 ghost use mathlib.Core.Path.{_≡_};
-ghost use mathlib.Core.List.{[]};
+ghost use mathlib.Core.List.{[], _∷_};
 ghost use Prim.Native.Nat.{_+_, _-_, _*_, _^_, _≤_, _<_};
 ghost use lib.IntN.{pos};
 ghost use lib.ListN.{length, drop, set, getD};
 ghost use Rattle.wire.specs.Signed.{signed};
-ghost use Rattle.lmcp.specs.Run.{repeat, whole};
+ghost use Rattle.lmcp.specs.Run.{prepend, repeat, whole};
 ghost use Rattle.lmcp.specs.Table.{RowFits, rowsOf, fieldsOf, pitsurv, nothing, signedKind};
 ghost use Rattle.lmcp.specs.Value.{fault, numberOf};
 ghost use Rattle.lmcp.specs.Read.{readValue, readCount, known, readHead};
-ghost use Rattle.lmcp.specs.Message.{frame, readMessage, ReadTo};
-ghost use Rattle.lmcp_reader.specs.Steps.{readObject, readItem, readField, readFields, readRoot, Ends, Marks};
-
-const VERSION: u64 = 1;
+ghost use Rattle.lmcp.specs.Message.{frame, ReadTo};
+ghost use Rattle.lmcp.specs.Lists.{versionOf, readList};
+ghost use Rattle.lmcp_reader.specs.Steps.{readObject, readItem, readField, readFields, readRoot, Listed, Ends, Marks};
 
 // The number z at a place, if the list reaches so far.
 fn put(list: &mut [i64], to: usize, z: i64)
@@ -61,7 +60,7 @@ fn number_of(kind: u8, w: usize, v: u64) -> i64
 }
 
 // What is wrong with a value of a kind: 0 for nothing, else the number of the refusal.
-fn fault_of(kind: u8, v: u64) -> u8
+fn fault_of(kind: u8, v: u64) -> u32
     ensures { λ r. ⌜ r ≡ fault kind v ⌝ }
 {
     if kind == lmcp::BOOL_KIND {
@@ -317,28 +316,49 @@ fn count_root(s: &[u8], version: u64, list: &mut [i64]) -> Went
     root_at(s, version, &mut list[..none])
 }
 
-// The numbers of a root: one walk that checks and counts, and then, where all is in order, the same walk, which writes.
+// The version of a message, by its root: 2 where the root's header says so, else 1, whose table refuses any other.
+fn version_of(s: &[u8]) -> u64
+    ensures { λ r. ⌜ r ≡ versionOf (now (s .entry)) ⌝ }
+{
+    let v = wire::number(s, 13, 2);
+    if v == 2 {
+        return v;
+    }
+    1
+}
+
+// The version, and behind it the numbers of the root, where the list has room for them.
+fn put_list(s: &[u8], version: u64, list: &mut [i64])
+    requires { ⌜ (version < 2 ^ 63) × (1 ≤ length (now list)) ⌝ }
+    ensures { λ _. ⌜ Listed version (now (s .entry)) (now (list .entry)) (now (list .exit)) ⌝ }
+{
+    put(list, 0, plain_of(version));
+    root_at(s, version, &mut list[1..]);
+}
+
+// The numbers of a root of a version: one walk that checks and counts, and then, where all is in order, the same walk, which writes.
 fn read_root(s: &[u8], version: u64, list: &mut [i64]) -> Found
-    ensures { λ r. ⌜ ReadTo (whole (readRoot version (now (s .entry)))) (now (list .entry)) r (now (list .exit)) ⌝ }
+    requires { ⌜ version < 2 ^ 63 ⌝ }
+    ensures { λ r. ⌜ ReadTo (prepend (pos version ∷ []) (whole (readRoot version (now (s .entry))))) (now (list .entry)) r (now (list .exit)) ⌝ }
 {
     let first = count_root(s, version, list);
     match first {
-        Went::Stopped(e) => Found::Unread(e),
+        Went::Stopped(e) => Found::Refused(e),
         Went::To(at, count) => {
             if at != s.len() {
-                return Found::Unread(28);
+                return Found::Refused(28);
             }
-            if list.len() < count {
-                return Found::Unread(13);
+            if list.len() <= count {
+                return Found::Refused(13);
             }
-            root_at(s, version, list);
-            Found::Numbers(count)
+            put_list(s, version, list);
+            Found::Numbers(1 + count)
         }
     }
 }
 
 // 0, or what is wrong with a message before its root.
-fn frame_of(m: &[u8]) -> u8
+fn frame_of(m: &[u8]) -> u32
     ensures { λ r. ⌜ r ≡ frame (now (m .entry)) ⌝ }
 {
     if m.len() < 12 {
@@ -366,14 +386,15 @@ fn frame_of(m: &[u8]) -> u8
     22
 }
 
-// Reads a message into the start of the list.
+// Reads a message of either version into the start of the list.
 pub fn read_message(message: &[u8], list: &mut [i64]) -> Found
-    ensures { λ r. ⌜ ReadTo (readMessage (pitsurv 1) (now (message .entry))) (now (list .entry)) r (now (list .exit)) ⌝ }
+    ensures { λ r. ⌜ ReadTo (readList (now (message .entry))) (now (list .entry)) r (now (list .exit)) ⌝ }
 {
     let wrong = frame_of(message);
     if wrong != 0 {
-        return Found::Unread(wrong);
+        return Found::Refused(wrong);
     }
     let end = message.len() - 4;
-    read_root(&message[8..end], VERSION, list)
+    let s = &message[8..end];
+    read_root(s, version_of(s), list)
 }

@@ -2,12 +2,13 @@
 use mathlib.Core.Path.{_≡_, refl, ap, sym, _∙_, subst}
 use mathlib.Core.Bool.{Bool, true, false}
 use mathlib.Core.List.{List, [], _∷_, _++_, append-assoc, append-nil}
-use Prim.Native.Nat.{ℕ, _+_, _-_, _≤_, _<_}
+use Prim.Native.Nat.{ℕ, suc, _+_, _-_, _≤_, _<_}
 use native.Mathlib.Omega.{arith}
 use lib.Dec.{ltb}
-use lib.IntN.{ℤ}
-use lib.ListN.{length, take, drop, length-append}
-use lib.Seq.{sets}
+use lib.IntN.{ℤ, pos}
+use lib.ListN.{length, getD, take, drop, length-append}
+use lib.Seq.{sets, take-length}
+use lib.Signed.{mag}
 use borrow.Author.Tests.{lt-ltb, le-ltb, le-leb, lt-leb}
 use Rattle.wire.specs.Choice.{pick}
 use Rattle.wire.specs.Bytes.{be, bytes, Bytes}
@@ -16,18 +17,23 @@ use Rattle.wire.proofs.Numbers.{length-bytes}
 use Rattle.wire.proofs.Overlays.{overlay-sets, overlay-next, overlay-at}
 use Rattle.lmcp.specs.declared.Went.{Went}
 use Rattle.lmcp.specs.declared.Made.{Made}
-use Rattle.lmcp.specs.declared.Made.the-variants.{Bytes as Wrote, Unwritten}
+use Rattle.lmcp.specs.declared.Made.the-variants.{Bytes as Wrote, Refused}
 use Rattle.lmcp.specs.Limits.{maxMessage, magic}
 use Rattle.lmcp.specs.Run.{got, refused, whole}
 use Rattle.lmcp.specs.Table.{pitsurv}
 use Rattle.lmcp.specs.Write.{Write}
 use Rattle.lmcp.specs.Ends.{Sofar, Few15}
 use Rattle.lmcp.specs.Message.{checksumOf, headOn, messageOn, framed, writeMessage, made, written, WrittenTo}
-use Rattle.lmcp.proofs.Goes.{run-is, run-left, run-done, laid-again}
+use Rattle.lmcp.specs.Lists.{isVersion, writeList}
+use Rattle.lmcp.proofs.Goes.{run-is, run-left, run-done, laid-again, empty}
 use Rattle.lmcp_writer.specs.Steps.{Ends, Laid, writeRoot}
 
 head-length : (bs : List ℕ) (e : ℕ) → e ≡ 8 + length bs → length (headOn bs) ≡ e
 head-length bs e h = simp (length-append, length-bytes) (omega arith)
+
+cons-of : (l : List ℤ) → (length l ≡ 0 → ⊥) → l ≡ getD l 0 (pos 0) ∷ take (length l - 1) (drop 1 l)
+cons-of [] h = absurd (h refl)
+cons-of (x ∷ t) h = let n : suc (length t) - 1 ≡ length t = omega arith in ap (λ (m : List ℤ). x ∷ m) (sym (ap (λ (k : ℕ). take k t) n ∙ take-length t))
 
 -- ---- the head, the root and the checksum, one after the other
 
@@ -62,21 +68,21 @@ module _ (v : ℕ) (l : List ℤ) (calculate : Bool) (out : List ℕ) where
   abbrev Answer : Made → List ℕ → Type 0
   Answer = WrittenTo (writeMessage (pitsurv v) calculate l) out
 
-  refuses : (k : ℕ) → writeMessage (pitsurv v) calculate l ≡ refused k → Answer (Unwritten k) out
+  refuses : (k : ℕ) → writeMessage (pitsurv v) calculate l ≡ refused k → Answer (Refused k) out
   unfolding made written
   refuses k e = rw e (record { gave = refl; left = refl })
 
-  pub answer-stopped : (k : ℕ) → writeRoot v l ≡ refused k → Answer (Unwritten k) out
+  pub answer-stopped : (k : ℕ) → writeRoot v l ≡ refused k → Answer (Refused k) out
   unfolding writeMessage framed whole
   answer-stopped k e = refuses k (ap (λ (X : Write). framed calculate (whole X)) e)
 
   module _ (at e : ℕ) (h : Sofar Few15 l [] 8 (writeRoot v l) (got []) at e []) where
-    pub answer-left : (at ≡ length l → ⊥) → Answer (Unwritten 28) out
+    pub answer-left : (at ≡ length l → ⊥) → Answer (Refused 28) out
     unfolding writeMessage framed
     answer-left d = refuses 28 (ap (framed calculate) (run-left h d))
 
     module _ (d : at ≡ length l) where
-      pub answer-long : maxMessage < e + 4 → Answer (Unwritten 21) out
+      pub answer-long : maxMessage < e + 4 → Answer (Refused 21) out
       unfolding writeMessage framed
       answer-long k = refuses 21 (ap (framed calculate) (run-done h d) ∙ simp (lt-ltb maxMessage (12 + length (h .ys)) (omega (arith, h .place))))
 
@@ -95,7 +101,7 @@ module _ (v : ℕ) (l : List ℤ) (calculate : Bool) (out : List ℕ) where
         writes =
             ap (framed calculate) (run-done h d) ∙ simp (le-ltb maxMessage (12 + length (h .ys)) (omega (arith, h .place)))
 
-        pub answer-short : length out < e + 4 → Answer (Unwritten 13) out
+        pub answer-short : length out < e + 4 → Answer (Refused 13) out
         unfolding made written
         answer-short j =
             let i : length out < length message = omega (arith, size) in
@@ -110,3 +116,33 @@ module _ (v : ℕ) (l : List ℤ) (calculate : Bool) (out : List ℕ) where
               gave = simp (le-leb (length message) (length out) i) (ap Wrote (sym size));
               left = simp (le-leb (length message) (length out) i) (all (h .ys) (drop at l) (run-is h) (h .place));
             })
+
+-- ---- a list, by its version
+
+module _ (calculate : Bool) (l : List ℤ) (out : List ℕ) where
+  pub list-empty : length l ≡ 0 → WrittenTo (writeList calculate l) out (Refused 25) out
+  unfolding writeList made written
+  list-empty e = rw (empty l e) (record { gave = refl; left = refl })
+
+  module _ (some : length l ≡ 0 → ⊥) where
+    first : ℤ
+    first = getD l 0 (pos 0)
+
+    -- the rest, as the code takes it
+    rest : List ℤ
+    rest = take (length l - 1) (drop 1 l)
+
+    cons : l ≡ first ∷ rest
+    unfolding first rest
+    cons = cons-of l some
+
+    pub list-other : isVersion (getD l 0 (pos 0)) ≡ false → WrittenTo (writeList calculate l) out (Refused 29) out
+    unfolding first writeList made written
+    list-other f = let q : writeList calculate l ≡ refused 29 = ap (writeList calculate) cons ∙ rw f refl in rw q (record { gave = refl; left = refl })
+
+    pub list-version : isVersion (getD l 0 (pos 0)) ≡ true → (v : ℕ) → v ≡ mag (getD l 0 (pos 0)) → (r : Made) (after : List ℕ)
+        → WrittenTo (writeMessage (pitsurv v) calculate (take (length l - 1) (drop 1 l))) out r after → WrittenTo (writeList calculate l) out r after
+    unfolding first rest writeList
+    list-version f v e r after h =
+        let q : writeList calculate l ≡ writeMessage (pitsurv (mag first)) calculate rest = ap (writeList calculate) cons ∙ rw f refl in
+        subst (λ (X : Write). WrittenTo X out r after) (ap (λ (n : ℕ). writeMessage (pitsurv n) calculate rest) e ∙ sym q) h

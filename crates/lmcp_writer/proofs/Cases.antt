@@ -15,7 +15,7 @@ use lib.Seq.{sets, drop-cons}
 use mir.Syntax.{w64}
 use mir.Val.{toZ, ofZ, SFits}
 use mir.ValLaws.{toZ-ofZ}
-use borrow.Author.Tests.{eq-eqb, ne-eqb, ltb-true, eqb-true}
+use borrow.Author.Tests.{le-ltb, eq-eqb, ne-eqb, ltb-true, eqb-true}
 use Rattle.wire.specs.Choice.{pick}
 use Rattle.wire.specs.Bytes.{bytes}
 use Rattle.wire.specs.Overlay.{overlay}
@@ -32,6 +32,7 @@ use Rattle.lmcp.specs.Value.{values, fits, denial}
 use Rattle.lmcp.specs.Value as value
 use Rattle.lmcp.specs.Read.{typed}
 use Rattle.lmcp.specs.Write.{writeValue, writeCount, header, typedBy, writeHead}
+use Rattle.lmcp.specs.Lists.{isVersion}
 use Rattle.lmcp.proofs.Goes.{some-tag}
 use Rattle.lmcp.proofs.Heads.{typed-least, typedBy-mag}
 use Rattle.lmcp.proofs.Values.{pow-bytes}
@@ -73,6 +74,20 @@ negative-typed T t (negsuc m) h = refl
 pub positive-typed : (T : Table) (t : ℕ) (z : ℤ) (m : ℕ) → m ≡ mag z → ltZ z (pos 0) ≡ false → typed T t m ≡ typedBy T t z
 positive-typed T t (pos k) m e h = ap (typed T t) e
 positive-typed T t (negsuc k) m e h = never refl h
+
+pub version-low : (z : ℤ) → value.below 1 z ≡ true → false ≡ isVersion z
+version-low (pos zero) e = refl
+version-low (pos (suc n)) e = absurd (let l : suc n < 1 = ltb-true (suc n) 1 e in omega arith)
+version-low (negsuc n) e = never e refl
+
+pub version-high : (z : ℤ) → value.below 1 z ≡ false → value.below 3 z ≡ isVersion z
+version-high (pos zero) e = never refl e
+version-high (pos (suc zero)) e = refl
+version-high (pos (suc (suc zero))) e = refl
+version-high (pos (suc (suc (suc n)))) e =
+    let m = suc (suc (suc n)) in
+    rw (le-ltb m 3 (omega arith), ne-eqb m 1 (λ q. let z : ⊥ = omega arith in z), ne-eqb m 2 (λ q. let z : ⊥ = omega arith in z)) refl
+version-high (negsuc n) e = refl
 
 -- ---- ranges
 

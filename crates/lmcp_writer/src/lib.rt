@@ -17,9 +17,8 @@ ghost use Rattle.lmcp.specs.Table.{RowFits, rowsOf, fieldsOf, pitsurv, nothing,
 ghost use Rattle.lmcp.specs.Value.{below, values, fits, denial};
 ghost use Rattle.lmcp.specs.Write.{writeValue, writeCount, header, typedBy, writeHead};
 ghost use Rattle.lmcp.specs.Message.{checksumOf, writeMessage, WrittenTo};
+ghost use Rattle.lmcp.specs.Lists.{isVersion, writeList};
 ghost use Rattle.lmcp_writer.specs.Steps.{writeObject, writeItem, writeField, writeFields, writeRoot, Laid, Ends, Marks};
-
-const VERSION: u64 = 1;
 
 // The size of a number: n for n and for -(n + 1).
 fn size_of(z: i64) -> u64
@@ -53,6 +52,16 @@ fn below_of(n: u64, z: i64) -> bool
     size_of(z) < n
 }
 
+// Whether a number is a version: 1 or 2.
+fn is_version(z: i64) -> bool
+    ensures { λ r. ⌜ r ≡ isVersion z ⌝ }
+{
+    if below_of(1, z) {
+        return false;
+    }
+    below_of(3, z)
+}
+
 // How many values a kind that is not signed has in w bytes.
 fn values_of(kind: u8, w: usize) -> u64
     requires { ⌜ (1 ≤ w) × (w ≤ 7) ⌝ }
@@ -82,7 +91,7 @@ fn fits_in(kind: u8, w: usize, z: i64) -> bool
 }
 
 // The refusal of a number that is not.
-fn denial_of(kind: u8) -> u8
+fn denial_of(kind: u8) -> u32
     ensures { λ r. ⌜ r ≡ denial kind ⌝ }
 {
     if kind == lmcp::CHAR_KIND {
@@ -364,17 +373,17 @@ fn write_root(list: &[i64], version: u64, calculate: bool, out: &mut [u8]) -> Ma
 {
     let first = count_root(list, version, out);
     match first {
-        Went::Stopped(e) => Made::Unwritten(e),
+        Went::Stopped(e) => Made::Refused(e),
         Went::To(at, end) => {
             let size = end + 4;
             if at != list.len() {
-                return Made::Unwritten(28);
+                return Made::Refused(28);
             }
             if lmcp::MAX_MESSAGE < size {
-                return Made::Unwritten(21);
+                return Made::Refused(21);
             }
             if out.len() < size {
-                return Made::Unwritten(13);
+                return Made::Refused(13);
             }
             put_message(list, version, calculate, end, out);
             Made::Bytes(size)
@@ -382,9 +391,17 @@ fn write_root(list: &[i64], version: u64, calculate: bool, out: &mut [u8]) -> Ma
     }
 }
 
-// Writes the message of a list to the start of the output. A calculated checksum is never zero (`lmcp`, Never).
+// Writes the message of a list, which begins with its version, to the start of the output. A calculated checksum is never zero
+// (`lmcp`, Never).
 pub fn write_message(list: &[i64], calculate: bool, out: &mut [u8]) -> Made
-    ensures { λ r. ⌜ WrittenTo (writeMessage (pitsurv 1) calculate (now (list .entry))) (now (out .entry)) r (now (out .exit)) ⌝ }
+    ensures { λ r. ⌜ WrittenTo (writeList calculate (now (list .entry))) (now (out .entry)) r (now (out .exit)) ⌝ }
 {
-    write_root(list, VERSION, calculate, out)
+    if list.len() == 0 {
+        return Made::Refused(25);
+    }
+    let version = list[0];
+    if is_version(version) {
+        return write_root(&list[1..], size_of(version), calculate, out);
+    }
+    Made::Refused(29)
 }

@@ -20,9 +20,14 @@ use Rattle.lmcp.specs.Value.{fault, numberOf}
 use Rattle.lmcp.specs.Read.{judged, readValue, readCount, typed, known, readHeader, readHead}
 use Rattle.lmcp.specs.Walk.{item, field, fields, object, root}
 use Rattle.lmcp.specs.Message.{frame, readMessage}
+use Rattle.lmcp.specs.Lists.{readAs, readList}
 use Rattle.marked.specs.Ask.{Given, given}
 use Rattle.marked.specs.Table.{Case, cases}
 
 pub marked : map (λ (c : Case). given (c .ask)) cases ≡ map (λ (c : Case). c .gives) cases
-unfolding be bytes overlay sum goodName untilZero nameLength readSmall goodForm formed readFragment readDatagram said countOf smallBytes headBytes pieceOf fragmentBytes datagramOf noneHeld isHeld hold among emptyMemory isRemembered remember placeFor withKey memoryOk oldest openCount lower release seat opening filled opened stay sameFragment agrees step3 decide step5 act receive sound step run zipWith setLast moved askedAt asked after run.prepend run.andThen run.after run.repeat run.whole fault numberOf judged readValue readCount typed known readHeader readHead item field fields object root frame readMessage
+unfolding be bytes overlay sum goodName untilZero nameLength readSmall goodForm formed readFragment readDatagram said countOf smallBytes headBytes
+    pieceOf fragmentBytes datagramOf noneHeld isHeld hold among emptyMemory isRemembered remember placeFor withKey memoryOk oldest openCount lower
+    release seat opening filled opened stay sameFragment agrees step3 decide step5 act receive sound step run zipWith setLast moved askedAt asked
+    after run.prepend run.andThen run.after run.repeat run.whole fault numberOf judged readValue readCount typed known readHeader readHead item field
+    fields object root frame readMessage readAs readList
 marked = refl

@@ -16,8 +16,7 @@ use Rattle.watch.specs.Watching.{asked, after}
 use Rattle.watch.specs.Noted as watched
 use Rattle.watch.specs.declared.Watch.{Watch}
 use Rattle.lmcp.specs.Read.{Read}
-use Rattle.lmcp.specs.Table.{pitsurv}
-use Rattle.lmcp.specs.Message.{readMessage}
+use Rattle.lmcp.specs.Lists.{readList}
 
 pub data Ask : Type 0 where
   -- what does the datagram say, for a slot size of 4?
@@ -74,4 +73,4 @@ given (reading d) = said′ (said 4 maxFragments d)
 given (receiving ds) = replied (map (λ (h : Heard). h .answer) (allHeard (fresh (replicate 32 9) (replicate ledgerLength 0)) (map (from 0) ds)))
 given (cutting p) = cut′ (tileFrom p 0 (countOf (length TILE) p 96))
 given (watching ns) = seen (seenFrom empty ns)
-given (opening m) = numbers (readMessage (pitsurv 1) m)
+given (opening m) = numbers (readList m)

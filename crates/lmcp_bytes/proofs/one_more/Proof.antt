@@ -7,8 +7,8 @@ use lib.IntN.{ℤ}
 use lib.ListN.{length, take}
 use lib.Seq.{sets}
 use borrow.Author.Tests.{lt-ltb, le-ltb}
-use Rattle.lmcp.specs.Table.{pitsurv}
-use Rattle.lmcp.specs.Message.{writeMessage, WrittenTo}
+use Rattle.lmcp.specs.Message.{WrittenTo}
+use Rattle.lmcp.specs.Lists.{writeList}
 use Rattle.output.proofs.Sending.{pours-then}
 use Rattle.lmcp_bytes.specs.Lines.{numbersOf, byLength}
 use Rattle.lmcp_bytes.proofs.Taken.{length-numbers, taken-front}
@@ -79,7 +79,7 @@ returns-2 c =
       taken = l .take-list .ensures .1;
       made = w .write-message .result;
       written =
-          subst (λ (x : List ℤ). WrittenTo (writeMessage (pitsurv 1) (a .calculate) x) (a .bytes .now) (w .write-message .result) (w .write-message .last .1 .1 .0)) (f .front .ensures ∙ e)
+          subst (λ (x : List ℤ). WrittenTo (writeList (a .calculate) x) (a .bytes .now) (w .write-message .result) (w .write-message .last .1 .1 .0)) (f .front .ensures ∙ e)
           (w .write-message .ensures);
       said = pours-then (d .pour-decimal .ensures) (p .pour-made .ensures);
     })

@@ -1,7 +1,9 @@
 -- `lmcp_reader::count_root` meets its contract: of no list nothing is left.
-use mathlib.Core.Path.{_≡_, ap, subst}
+use mathlib.Core.Path.{_≡_, ap, sym, subst}
 use mathlib.Core.List.{List, [], _++_}
 use lib.IntN.{ℤ}
+use native.Mathlib.Omega.{arith}
+use lib.Seq.{length-take-le}
 use borrow.Author.Needs.{needs}
 use Rattle.lmcp.proofs.Goes.{empty}
 use Rattle.lmcp_reader.specs.Steps.{Ends, readRoot}
@@ -12,7 +14,7 @@ slice-relend-prefix-root-at : tie.Need-slice-relend-prefix-root-at
 slice-relend-prefix-root-at c = search needs
 
 slice-aggregate-root-at : tie.Need-slice-aggregate-root-at
-slice-aggregate-root-at c = search needs
+slice-aggregate-root-at c = let l = c .before .before .args .list .now in sym (length-take-le _ l (omega arith))
 
 root-at-requires : tie.Need-root-at-requires
 root-at-requires c κs = search needs

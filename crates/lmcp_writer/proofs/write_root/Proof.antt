@@ -8,7 +8,7 @@ use lib.ListN.{length}
 use borrow.Author.Needs.{needs}
 use Rattle.lmcp.specs.declared.Went.{Went}
 use Rattle.lmcp.specs.declared.Made.{Made}
-use Rattle.lmcp.specs.declared.Made.the-variants.{Unwritten}
+use Rattle.lmcp.specs.declared.Made.the-variants.{Refused}
 use Rattle.lmcp.specs.Run.{got}
 use Rattle.lmcp.specs.Ends.{Sofar, Few15}
 use Rattle.lmcp.specs.Table.{pitsurv}
@@ -84,7 +84,7 @@ returns c =
     let w = c .before .before in
     let d = counted w in
     let a = start d .args in
-    says d (Unwritten 28) (answer-left (a .version) (L d) (a .calculate) (O d) (place w) (end w) (walked w) (c .if1 .taken))
+    says d (Refused 28) (answer-left (a .version) (L d) (a .calculate) (O d) (place w) (end w) (walked w) (c .if1 .taken))
 
 same-length-2 : tie.Need-same-length-2
 same-length-2 c = search needs
@@ -94,7 +94,7 @@ returns-2 c =
     let w = c .before .before .before in
     let d = counted w in
     let a = start d .args in
-    says d (Unwritten 21) (answer-long (a .version) (L d) (a .calculate) (O d) (place w) (end w) (walked w) (c .before .if1 .left) (c .if2 .taken))
+    says d (Refused 21) (answer-long (a .version) (L d) (a .calculate) (O d) (place w) (end w) (walked w) (c .before .if1 .left) (c .if2 .taken))
 
 same-length-3 : tie.Need-same-length-3
 same-length-3 c = search needs
@@ -106,7 +106,7 @@ returns-3 c =
     let d = counted w in
     let a = start d .args in
     let l : length (O d) < end w + 4 = subst (λ (o : List ℕ). length o < end w + 4) (kept d) (c .if3 .taken) in
-    says d (Unwritten 13) (answer-short (a .version) (L d) (a .calculate) (O d) (place w) (end w) (walked w) (e .before .if1 .left) (e .if2 .left) l)
+    says d (Refused 13) (answer-short (a .version) (L d) (a .calculate) (O d) (place w) (end w) (walked w) (e .before .if1 .left) (e .if2 .left) l)
 
 put-message-requires : tie.Need-put-message-requires
 put-message-requires c κs =
@@ -124,7 +124,7 @@ returns-4 c =
     let l = L d in
     let n = f .first .given .0 .0 in
     let e = subst (λ (w : Went). Ends l [] 8 (writeRoot (a .version) l) w []) (f .first .given .1) (d .count-root .ensures .1) in
-    says d (Unwritten n) (answer-stopped (a .version) l (a .calculate) (O d) n e)
+    says d (Refused n) (answer-stopped (a .version) l (a .calculate) (O d) n e)
 
 same-length-5 : tie.Need-same-length-5
 same-length-5 c = search needs
