@@ -1,0 +1,6 @@
+pub mod Walks
+pub mod Trails
+pub mod Packets
+pub mod Parts
+pub mod Looks
+pub mod Plans
