@@ -4,3 +4,6 @@ pub mod Packets
 pub mod Parts
 pub mod Looks
 pub mod Plans
+pub mod Laying
+pub mod Trips
+pub mod Once

@@ -74,6 +74,10 @@ pub nothing-is : (b : List ℕ) (l : List (List ℕ)) → nothingIn b ≡ some l
 nothing-is [] l e = cc
 nothing-is (x ∷ b) l e = absurd (let z : _≡_ {A = ℕ} 0 1 = cc in omega arith)
 
+pub nothing-left : (b : List ℕ) (l : List (List ℕ)) → nothingIn b ≡ some l → b ≡ []
+nothing-left [] l e = refl
+nothing-left (x ∷ b) l e = absurd (let z : _≡_ {A = ℕ} 0 1 = cc in omega arith)
+
 carried-part : (t : Bool) (s : List ℕ) (at n : ℕ) (ms : List (List ℕ)) (a : Part)
     → pick t (messagesIn (drop at s)) (nothingIn (drop at s)) ≡ some ms → located n at ms ≡ gives a → take (a .len) (drop (a .at) s) ≡ nth n ms
 carried-part true s at n ms a h e = part-within (length (drop at s)) s at n ms a h e

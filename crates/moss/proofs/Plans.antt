@@ -35,7 +35,7 @@ module _ (kind : ℕ) (blocks : List ℕ) (room : ℕ) where
     written-type h = rw (le-ltb maxPacket (headLength + length blocks) fits, h)
 
     module _ (known : knownKind kind ≡ true) where
-      written-known : writtenOf kind blocks room ≡ filledBy (carried kind blocks) (headLength + length blocks) room
+      pub written-known : writtenOf kind blocks room ≡ filledBy (carried kind blocks) (headLength + length blocks) room
       unfolding writtenOf
       written-known = rw (le-ltb maxPacket (headLength + length blocks) fits, known)
 

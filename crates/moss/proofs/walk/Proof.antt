@@ -56,8 +56,8 @@ loop-again c =
     let next = walk-next (a .b .now) (l .t) (a .n) (l .at) (c .before .before .before .loop-test .taken) (k .result) (k .ensures .0) (c .before .if1 .left) in (
       omega (arith, ap (λ (t : Trail). t .count) (c .pass .ensures) ∙ past-count (l .t) (a .n) (l .at) (k .result)),
       l .inv .1
-      ∙ next
-      ∙ ap (λ (t : Trail). walked t (a .n) (l .at + (2 + k .result)) (messagesIn (drop (l .at + (2 + k .result)) (a .b .now)))) (sym (c .pass .ensures)),
+          ∙ next
+          ∙ ap (λ (t : Trail). walked t (a .n) (l .at + (2 + k .result)) (messagesIn (drop (l .at + (2 + k .result)) (a .b .now)))) (sym (c .pass .ensures)),
     )
 
 returns-2 : tie.Need-returns-2 Inv-loop μ-loop
