@@ -11,7 +11,7 @@ use lib.Seq.{length-take-le, drop-drop}
 use borrow.Author.Tests.{ltb-false}
 use Rattle.wire.specs.Choice.{pick}
 use Rattle.wire.specs.Bytes.{be}
-use Rattle.moss.specs.Limits.{headLength, noMessage, letterU}
+use Rattle.moss.specs.Limits.{headLength, maxPacket, noMessage, letterU}
 use Rattle.moss.specs.Blocks.{isCut, firstMessage, behind, before, nothingIn, firstThen, messagesWithin, messagesIn}
 use Rattle.moss.specs.Packet.{Given, gives, refuses, Packet, kindIn, carried, packetOf}
 use Rattle.moss.specs.Message.{Part, located, placeIn, nth, messageIn}
@@ -101,3 +101,21 @@ none-at (suc n) at number (m ∷ ms) e = none-at n (at + (2 + length m)) number 
 pub message-none : (g : Given Packet) (n number : ℕ) → placeIn g n ≡ refuses number → messageIn g n ≡ []
 message-none (refuses k) n number e = refl
 message-none (gives q) n number e = none-at n headLength number (q .messages) e
+
+-- ---- how many messages there can be
+
+within-few : (t : ℕ) (b : List ℕ) (ms : List (List ℕ)) → messagesWithin t b ≡ some ms → length ms ≤ length b
+within-few t b [] e = omega arith
+within-few zero b (m ∷ ms) e = absurd (within-zero b m ms e)
+within-few (suc t) b (m ∷ ms) e =
+    let f = within-front t b m ms e in
+    omega (arith, within-few t (behind b) ms (f .behind), f .fits, length-drop (2 + be 2 b) b)
+
+carried-few : (t : Bool) (b : List ℕ) (ms : List (List ℕ)) → pick t (messagesIn b) (nothingIn b) ≡ some ms → length ms ≤ length b
+carried-few true b ms e = within-few (length b) b ms e
+carried-few false b ms e = omega (arith, ap length (nothing-is b ms e))
+
+pub messages-few : (b : List ℕ) (p : Packet) → packetOf b ≡ gives p → length (p .messages) ≤ maxPacket
+messages-few b p e =
+    let g = packet-good b p e in
+    omega (arith, g .fits, length-drop headLength b, carried-few (eqb (kindIn b) letterU) (drop headLength b) (p .messages) (g .carries))

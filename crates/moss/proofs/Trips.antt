@@ -18,7 +18,7 @@ use Rattle.moss.specs.Limits.{sessionLength, headLength, maxPacket, lett
 use Rattle.moss.specs.Blocks.{laid, nothingIn, messagesIn}
 use Rattle.moss.specs.Packet.{Given, gives, refuses, Packet, lengthIn, sessionIn, sequenceIn, kindIn, knownKind, carried, held, packetOf}
 use Rattle.moss.specs.Answers.{writes}
-use Rattle.moss.specs.Write.{packetBytes, filledBy, writtenOf, outputOf, WrittenTo}
+use Rattle.moss.specs.Write.{packetBytes, filledBy, writtenOf, outputOf, WritesPacket}
 use Rattle.moss.specs.declared.Written.{Written}
 use Rattle.moss.specs.declared.Written.the-variants as written
 use Rattle.moss.proofs.Packets.{Good, packet-good, packet-held}
@@ -88,7 +88,7 @@ module _ (s : List ℕ) (q k : ℕ) (blocks : List ℕ) (ten : length s ≡ sess
 
 -- the same of a call: the first n bytes of the output
 pub written-reads : (s : List ℕ) (q k : ℕ) (blocks out : List ℕ) (n : ℕ) (out′ : List ℕ) → length s ≡ sessionLength → q < 2 ^ 32 → k < 256
-    → (w : WrittenTo (writtenOf k blocks (length out)) 0 (packetBytes s q k blocks) out (written.Bytes n) out′)
+    → (w : WritesPacket s q k blocks out (written.Bytes n) out′)
     → packetOf (take n out′) ≡ gives (record { session = s; sequence = q; kind = k; messages = written-makes k blocks (length out) n (sym (w .answer)) .messages })
 written-reads s q k blocks out n out′ ten hq hk w =
     let m : Makes k blocks (length out) n = written-makes k blocks (length out) n (sym (w .answer)) in

@@ -45,3 +45,10 @@ outputOf (gives n) out at b = overlay out at b
 pub record WrittenTo (said : Given ℕ) (at : ℕ) (b out : List ℕ) (r : Written) (out′ : List ℕ) : Type 0 where
   pub answer : writes r ≡ said
   pub output : out′ ≡ outputOf said out at b
+
+-- of a packet at the start of the output, and of a block at a place
+abbrev pub WritesPacket : List ℕ → ℕ → ℕ → List ℕ → List ℕ → Written → List ℕ → Type 0
+WritesPacket session sequence kind blocks out r out′ = WrittenTo (writtenOf kind blocks (length out)) 0 (packetBytes session sequence kind blocks) out r out′
+
+abbrev pub LaysBlock : List ℕ → ℕ → List ℕ → Written → List ℕ → Type 0
+LaysBlock message at out r out′ = WrittenTo (laidOf message at (length out)) at (block message) out r out′

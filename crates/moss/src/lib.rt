@@ -9,10 +9,9 @@ ghost use Rattle.moss.specs.Blocks.{messagesIn};
 ghost use Rattle.moss.specs.Packet.{packetOf, held, carried, knownKind, kindIn};
 ghost use Rattle.moss.specs.Message.{placeIn, messageIn};
 ghost use Rattle.moss.specs.Answers.{headersOf, reads, locates};
-ghost use Rattle.moss.specs.Blocks.{block};
 ghost use Rattle.moss.specs.Limits.{headLength, maxPacket, sessionLength};
 ghost use Rattle.moss.specs.Answers.{writes};
-ghost use Rattle.moss.specs.Write.{packetBytes, writtenOf, laidOf, WrittenTo};
+ghost use Rattle.moss.specs.Write.{packetBytes, writtenOf, WritesPacket, LaysBlock};
 ghost use Rattle.moss.specs.Walk.{start, past, walked, looked, pointed};
 
 // The bytes of a session, of a header, and of the longest packet.
@@ -271,7 +270,7 @@ pub fn session_at(b: &[u8], at: usize) -> [u8; 10]
 
 // Lays one message block at a place of the output: its length, then its bytes.
 pub fn lay_block(out: &mut [u8], at: usize, message: &[u8]) -> Written
-    ensures { λ r. ⌜ WrittenTo (laidOf (now (message .entry)) at (length (now (out .entry)))) at (block (now (message .entry))) (now (out .entry)) r (now (out .exit)) ⌝ }
+    ensures { λ r. ⌜ LaysBlock (now (message .entry)) at (now (out .entry)) r (now (out .exit)) ⌝ }
 {
     let n = message.len();
     if MAX_MESSAGE < n {
@@ -326,7 +325,7 @@ pub fn write_packet(
     blocks: &[u8],
     out: &mut [u8],
 ) -> Written
-    ensures { λ r. ⌜ WrittenTo (writtenOf kind (now (blocks .entry)) (length (now (out .entry)))) 0 (packetBytes session sequence kind (now (blocks .entry))) (now (out .entry)) r (now (out .exit)) ⌝ }
+    ensures { λ r. ⌜ WritesPacket session sequence kind (now (blocks .entry)) (now (out .entry)) r (now (out .exit)) ⌝ }
 {
     let r = plan(kind, blocks, out.len());
     let Written::Bytes(_) = r else {
