@@ -30,12 +30,12 @@ told-forward (pos (suc n)) m e = cc
 told-forward (negsuc n) m e = absurd (let z : _≡_ {A = ℕ} 0 1 = cc in omega arith)
 
 -- so the counter went one further than is missing
-forward-distance : (n s m : ℕ) → told (difference n s) ≡ forward m → (n + (2 ^ 32 - s)) % 2 ^ 32 ≡ suc m
+pub forward-distance : (n s m : ℕ) → told (difference n s) ≡ forward m → (n + (2 ^ 32 - s)) % 2 ^ 32 ≡ suc m
 forward-distance n s m e =
     sym (unsigned-signed 32 ((n + (2 ^ 32 - s)) % 2 ^ 32) (omega arith)) ∙ ap (unsigned 32) (told-forward (difference n s) m e)
 
 -- a step forward is one more than the numbers that it leaves out
-step-told : (s d : ℕ) → s < 2 ^ 32 → 1 ≤ d → d < 2 ^ 31 → told (difference ((s + d) % 2 ^ 32) s) ≡ forward (d - 1)
+pub step-told : (s d : ℕ) → s < 2 ^ 32 → 1 ≤ d → d < 2 ^ 31 → told (difference ((s + d) % 2 ^ 32) s) ≡ forward (d - 1)
 step-told s d h l k =
     let u : ((s + d) % 2 ^ 32 + (2 ^ 32 - s)) % 2 ^ 32 ≡ suc (d - 1) = omega arith in
     ap told (ap (signed 32) u ∙ signed-low 32 (suc (d - 1)) (omega arith))

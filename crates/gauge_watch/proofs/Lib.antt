@@ -1,0 +1,4 @@
+pub mod Hears
+pub mod Runs
+pub mod Once
+pub mod Works

@@ -1,0 +1,16 @@
+-- No second answer satisfies a contract of this crate; `new` says `r ≡ definition`: wire's one-answer is its theorem. Assumes nothing.
+use mathlib.Core.Path.{_≡_}
+use mathlib.Core.List.{List}
+use Prim.Native.Nat.{ℕ}
+use Rattle.wire.proofs.Once.{one-answer}
+use Rattle.watch.proofs.Unique.{answer-once}
+use Rattle.gauge_watch.specs.declared.Gauge.{Gauge}
+use Rattle.gauge_watch.specs.declared.Heard.{Heard}
+use Rattle.gauge_watch.specs.Heard.{Hears}
+
+-- `see_packet`
+pub see-once : {g : Gauge} {b : List ℕ} (r s : Heard) → Hears g b r → Hears g b s → r ≡ s
+see-once r s p q =
+    let a = answer-once (r .answer) (s .answer) (p .answer) (q .answer) in
+    let n = one-answer (r .gauge) (s .gauge) (p .gauge) (q .gauge) in
+    λ i. record { answer = a i; gauge = n i }

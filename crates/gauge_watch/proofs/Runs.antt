@@ -1,0 +1,93 @@
+-- Runs of packets of one session: nothing is missing where nothing was left out, and what is missing is what was left out. Assumes nothing.
+use mathlib.Core.Path.{_≡_, refl, ap, sym, _∙_, subst}
+use mathlib.Core.Bool.{true}
+use mathlib.Core.List.{List, [], _∷_, map}
+use Prim.Native.Nat.{ℕ, zero, suc, _+_, _-_, _%_, _^_, _≤_, _<_}
+use native.Mathlib.Omega.{arith}
+use lib.ListN.{length, replicate}
+use Rattle.wire.specs.Same.{same}
+use Rattle.wire.specs.Sum.{sum}
+use Rattle.wire.proofs.Parts.{same-refl}
+use Rattle.watch.specs.Noted.{Noted, first, forward}
+use Rattle.watch.specs.Watching.{moves}
+use Rattle.watch.specs.Difference.{difference, told}
+use Rattle.watch.proofs.Runs.{step-told, forward-distance}
+use Rattle.moss.specs.Packet.{Given, gives, refuses, Packet, packetOf}
+use Rattle.gauge_watch.specs.declared.Gauge.{Gauge}
+use Rattle.gauge_watch.specs.Heard.{silent, notedOf, movedTo, asked, after}
+use Rattle.gauge_watch.specs.Runs.{notedAll, Expects, Follows, nextAfter, LeavesOut, done, next, Carries, none, more}
+use Rattle.gauge_watch.proofs.Hears.{noted-silent, noted-other, noted-same, after-moves}
+
+-- ---- one packet
+
+-- after a packet that moves the gauge, the message after it is expected
+pub expects-next : (p : Packet) → Expects (movedTo p) (p .session) (nextAfter p)
+expects-next p = record { started = refl; session = refl; counter = omega arith; next = omega arith }
+
+module _ {g : Gauge} {s : List ℕ} {e : ℕ} (at : Expects g s e) where
+  -- a packet of the session goes by the difference to the last number
+  asked-same : (b : List ℕ) (p : Packet) → packetOf b ≡ gives p → p .session ≡ s → asked g (packetOf b) ≡ told (difference (p .sequence) (g .last))
+  asked-same b p r f =
+      let q : same (p .session) (g .session) ≡ true = ap (λ (l : List ℕ). same l (g .session)) (f ∙ sym (at .session)) ∙ same-refl (g .session) in
+      ap (asked g) r ∙ noted-same g p (at .started) q
+
+  -- where it is answered Forward, the message after it is expected next
+  after-forward : (b : List ℕ) (p : Packet) (m : ℕ) → packetOf b ≡ gives p → p .session ≡ s → asked g (packetOf b) ≡ forward m
+      → Expects (after g (packetOf b)) s (nextAfter p)
+  after-forward b p m r f n =
+      let t : after g (packetOf b) ≡ movedTo p = ap (after g) r ∙ after-moves g p (ap moves (sym (ap (asked g) r) ∙ n)) in
+      subst (λ (x : Gauge). Expects x s (nextAfter p)) (sym t) (subst (λ (l : List ℕ). Expects (movedTo p) l (nextAfter p)) f (expects-next p))
+
+  -- x messages left out are reported as x missing
+  follows-forward : {x : ℕ} {b : List ℕ} → Follows s e x b → asked g (packetOf b) ≡ forward x
+  follows-forward {x} {b} f =
+      let last = g .last in
+      let n : f .packet .sequence ≡ (last + (x + 1)) % 2 ^ 32 = f .sequence ∙ (let z : (e + x) % 2 ^ 32 ≡ (last + (x + 1)) % 2 ^ 32 = omega (arith, at .next) in z) in
+      asked-same b (f .packet) (f .reads) (f .session)
+      ∙ ap (λ (q : ℕ). told (difference q last)) n
+      ∙ step-told last (x + 1) (at .counter) (omega arith) (omega (arith, f .few))
+      ∙ ap forward (omega arith)
+
+-- ---- runs
+
+-- over a run of packets of one session, what is reported missing before each is what was left out before it
+pub left-out : (g : Gauge) (s : List ℕ) (e : ℕ) (xs : List ℕ) (bs : List (List ℕ)) → Expects g s e → LeavesOut s e xs bs → notedAll g bs ≡ map forward xs
+left-out g s e xs bs at done = refl
+left-out g s e xs bs at (next {x = x} {xs = ys} {b = b} {bs = cs} f l) =
+    let n = follows-forward at f in
+    let t = left-out (after g (packetOf b)) s (nextAfter (f .packet)) ys cs (after-forward at b (f .packet) x (f .reads) (f .session) n) l in
+    λ i. n i ∷ t i
+
+map-none : (k : ℕ) → map forward (replicate k 0) ≡ replicate k (forward 0)
+map-none zero = refl
+map-none (suc k) = ap (λ (t : List Noted). forward 0 ∷ t) (map-none k)
+
+-- a run that goes on, each packet's sequence the one before plus its count, heartbeats included and across the wrap: nothing is missing
+pub nothing-missing : (g : Gauge) (s : List ℕ) (e k : ℕ) (bs : List (List ℕ)) → Expects g s e → LeavesOut s e (replicate k 0) bs → notedAll g bs ≡ replicate k (forward 0)
+nothing-missing g s e k bs at l = left-out g s e (replicate k 0) bs at l ∙ map-none k
+
+-- a packet of another session, or the first of all, is First, and what follows it is followed
+pub from-first : (g : Gauge) (b : List ℕ) (p : Packet) (xs : List ℕ) (bs : List (List ℕ)) → packetOf b ≡ gives p → notedOf g p ≡ first
+    → LeavesOut (p .session) (nextAfter p) xs bs → notedAll g (b ∷ bs) ≡ first ∷ map forward xs
+from-first g b p xs bs r n l =
+    let t : after g (packetOf b) ≡ movedTo p = ap (after g) r ∙ after-moves g p (ap moves n) in
+    let at : Expects (after g (packetOf b)) (p .session) (nextAfter p) = subst (λ (x : Gauge). Expects x (p .session) (nextAfter p)) (sym t) (expects-next p) in
+    let q : asked g (packetOf b) ≡ first = ap (asked g) r ∙ n in
+    let u = left-out (after g (packetOf b)) (p .session) (nextAfter p) xs bs at l in
+    λ i. q i ∷ u i
+
+cons-eq : {x : Noted} {a b : List Noted} {y : Noted} → _≡_ {A = List Noted} (x ∷ a) (y ∷ b) → (x ≡ y) × (a ≡ b)
+cons-eq e = (cc, cc)
+
+-- Over any run of Forwards what is missing and what is carried add up to the way from the number first expected to the last one.
+pub run-missing : (g : Gauge) (s : List ℕ) (e : ℕ) (bs : List (List ℕ)) (n final : ℕ) (missing : List ℕ) → Expects g s e → Carries s e bs n final
+    → notedAll g bs ≡ map forward missing → (e + (sum missing + n)) % 2 ^ 32 ≡ final
+unfolding sum
+run-missing g s e bs n final [] at none q = omega (arith, at .next)
+run-missing g s e bs n final (m ∷ ms) at none q = absurd (let z : _≡_ {A = ℕ} 0 1 = cc in omega arith)
+run-missing g s e bs n final [] at (more p r f h l) q = absurd (let z : _≡_ {A = ℕ} 0 1 = cc in omega arith)
+run-missing g s e bs n final (m ∷ ms) at (more {n = k} {b = b} {bs = cs} p r f h l) q =
+    let a = cons-eq q in
+    let d = forward-distance (p .sequence) (g .last) m (sym (asked-same at b p r f) ∙ a .0) in
+    let t = run-missing (after g (packetOf b)) s (nextAfter p) cs k final ms (after-forward at b p m r f (a .0)) l (a .1) in
+    (let z : (e + (m + sum ms + (length (p .messages) + k))) % 2 ^ 32 ≡ (nextAfter p + (sum ms + k)) % 2 ^ 32 = omega (arith, d, at .next, at .counter) in z) ∙ t

@@ -1,0 +1,46 @@
+-- A packet that is read, or the reader's refusal. Assumes nothing.
+use mathlib.Core.Path.{_≡_, sym, ap, _∙_}
+use borrow.Author.Needs.{needs}
+use Rattle.moss.specs.Packet.{packetOf}
+use Rattle.moss.specs.Answers.{reads}
+use Rattle.gauge_watch.specs.Heard.{asked, after}
+use Rattle.gauge_watch.proofs.Hears.{not-read}
+use Rattle.gauge_watch.proofs.see_packet.Statement.{statement}
+use Rattle.gauge_watch.proofs.see_packet.Tie as tie
+
+read-packet-requires : tie.Need-read-packet-requires
+read-packet-requires c κs = search needs
+
+enum-known-read : tie.Need-enum-known-read
+enum-known-read c = search needs
+
+see-header-requires : tie.Need-see-header-requires
+see-header-requires c κs =
+    let r = c .before .read in
+    let k = c .before .before .before in
+    sym (ap reads (r .given .1)) ∙ k .read-packet .ensures
+
+enum-known-read-2 : tie.Need-enum-known-read-2
+enum-known-read-2 c = search needs
+
+returns : tie.Need-returns
+returns c = c .see-header .ensures
+
+returns-2 : tie.Need-returns-2
+returns-2 c =
+    let r = c .before .read2 in
+    let k = c .before .before .before in
+    let a = k .before .before .args in
+    let e = not-read (packetOf (a .p .now)) _ (sym (ap reads (r .given .1)) ∙ k .read-packet .ensures) in
+    record { answer = sym (ap (asked (a .g)) e); gauge = sym (ap (after (a .g)) e) }
+
+pub see-packet-spec : {M : Type 1} → statement M
+see-packet-spec =
+    tie.close
+    (tie.spec
+    read-packet-requires
+    enum-known-read
+    see-header-requires
+    enum-known-read-2
+    returns
+    returns-2)

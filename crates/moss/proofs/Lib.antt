@@ -1,0 +1,9 @@
+pub mod Walks
+pub mod Trails
+pub mod Packets
+pub mod Parts
+pub mod Looks
+pub mod Plans
+pub mod Laying
+pub mod Trips
+pub mod Once

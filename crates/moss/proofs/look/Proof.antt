@@ -1,0 +1,78 @@
+-- What a packet says, refusals 50, 51, 52 first. Assumes nothing.
+use mathlib.Core.Path.{_≡_, refl, sym, ap, _∙_}
+use mathlib.Core.Bool.{true}
+use Prim.Native.Nat.{_≤_}
+use borrow.Author.Tests.{not-true, not-false}
+use borrow.Author.Needs.{needs}
+use lib.ListN.{length}
+use Rattle.moss.specs.Limits.{headLength, maxPacket}
+use Rattle.moss.specs.Packet.{lengthIn}
+use Rattle.moss.specs.Walk.{looked}
+use Rattle.moss.proofs.Packets.{packet-short, packet-wrong, packet-long, packet-type, packet-held}
+use Rattle.moss.proofs.look.Statement.{statement}
+use Rattle.moss.proofs.look.Tie as tie
+
+-- past 50, and past the length field
+whole : (c : tie.Else2) → headLength ≤ length (c .before .before .before .before .args .p .now)
+whole c = c .before .before .if1 .left
+
+true-length : (c : tie.Else2) → let b = c .before .before .before .before .args .p .now in lengthIn b ≡ length b
+true-length c = sym (c .before .number .ensures .value) ∙ c .if2 .left
+
+returns : tie.Need-returns
+returns c = let a = c .before .before .args in ap (looked (a .n)) (sym (packet-short (a .p .now) (c .if1 .taken)))
+
+number-requires : tie.Need-number-requires
+number-requires c κs = search needs
+
+returns-2 : tie.Need-returns-2
+returns-2 c =
+    let a = c .before .before .before .before .args in
+    ap (looked (a .n)) (sym (packet-wrong (a .p .now) (c .before .before .if1 .left) (λ e. c .if2 .taken (c .before .number .ensures .value ∙ e))))
+
+returns-3 : tie.Need-returns-3
+returns-3 c =
+    let s = c .before in
+    let a = s .before .before .before .before .args in
+    ap (looked (a .n)) (sym (packet-long (a .p .now) (whole s) (true-length s) (c .if3 .taken)))
+
+shared-slice-read-kind : tie.Need-shared-slice-read-kind
+shared-slice-read-kind c = search needs
+
+is-known-requires : tie.Need-is-known-requires
+is-known-requires c κs = search needs
+
+returns-4 : tie.Need-returns-4
+returns-4 c =
+    let f = c .before .before .before in
+    let s = f .before in
+    let a = s .before .before .before .before .args in
+    ap (looked (a .n))
+    (sym (packet-type (a .p .now) (whole s) (true-length s) (f .if3 .left) (sym (c .before .is-known .ensures) ∙ not-true _ (c .if4 .taken))))
+
+look-inside-requires : tie.Need-look-inside-requires
+look-inside-requires c κs = search needs
+
+returns-5 : tie.Need-returns-5
+returns-5 c =
+    let k = c .before in
+    let f = k .before .before .before in
+    let s = f .before in
+    let a = s .before .before .before .before .args in
+    c .look-inside .ensures
+    ∙ ap (looked (a .n))
+    (sym (packet-held (a .p .now) (whole s) (true-length s) (f .if3 .left) (sym (k .before .is-known .ensures) ∙ not-false _ (k .if4 .left))))
+
+pub look-spec : {M : Type 1} → statement M
+look-spec =
+    tie.close
+    (tie.spec
+    returns
+    number-requires
+    returns-2
+    returns-3
+    shared-slice-read-kind
+    is-known-requires
+    returns-4
+    look-inside-requires
+    returns-5)

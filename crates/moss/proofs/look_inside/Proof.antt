@@ -1,0 +1,44 @@
+-- A packet of known type. Assumes nothing.
+use mathlib.Core.Path.{_≡_, sym, _∙_}
+use borrow.Author.Needs.{needs}
+use lib.ListN.{drop}
+use Rattle.moss.specs.Limits.{headLength}
+use Rattle.moss.specs.Packet.{sessionPlace, carried}
+use Rattle.moss.proofs.Looks.{look-broken, look-filled}
+use Rattle.moss.proofs.look_inside.Statement.{statement}
+use Rattle.moss.proofs.look_inside.Tie as tie
+
+walk-kind-requires : tie.Need-walk-kind-requires
+walk-kind-requires c κs = search needs
+
+enum-known-r : tie.Need-enum-known-r
+enum-known-r c = search needs
+
+enum-told : tie.Need-enum-told
+enum-told c = search needs
+
+returns : tie.Need-returns
+returns c =
+    let k = c .before .before in
+    let a = k .before .before .args in
+    look-broken (a .n) (a .p .now) (carried (a .kind) (drop headLength (a .p .now))) (sym (k .walk-kind .ensures) ∙ c .enum-told .given .1)
+
+word-at-requires : tie.Need-word-at-requires
+word-at-requires c κs = search needs
+
+returns-2 : tie.Need-returns-2
+returns-2 c =
+    let r = c .before .before .r in
+    let k = c .before .before .before .before in
+    let s = k .before .before in
+    let a = s .args in
+    let t = r .given .0 .0 in
+    look-filled (a .n) (a .p .now) (carried (a .kind) (drop headLength (a .p .now))) t
+    (record { session = sessionPlace; sequence = c .word-at .result; kind = a .kind; count = t .count })
+    (sym (k .walk-kind .ensures) ∙ r .given .1)
+    (λ i. record { session = sessionPlace; sequence = c .word-at .ensures i; kind = s .pre i; count = t .count })
+
+pub look-inside-spec : {M : Type 1} → statement M
+look-inside-spec =
+    tie.close
+    (tie.spec walk-kind-requires enum-known-r enum-told returns word-at-requires returns-2)

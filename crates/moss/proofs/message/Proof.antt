@@ -1,0 +1,49 @@
+-- The n-th message is the part at its place. Assumes nothing.
+use mathlib.Core.Path.{sym, ap, _∙_}
+use borrow.Author.Needs.{needs}
+use Rattle.moss.specs.Packet.{packetOf}
+use Rattle.moss.specs.Answers.{locates}
+use Rattle.moss.proofs.Parts.{message-part, message-none}
+use Rattle.moss.proofs.message.Statement.{statement}
+use Rattle.moss.proofs.message.Tie as tie
+
+message-place-requires : tie.Need-message-place-requires
+message-place-requires c κs = search needs
+
+enum-known-l : tie.Need-enum-known-l
+enum-known-l c = search needs
+
+part-requires : tie.Need-part-requires
+part-requires c κs = search needs
+
+enum-told : tie.Need-enum-told
+enum-told c = search needs
+
+part-requires-2 : tie.Need-part-requires-2
+part-requires-2 c κs = search needs
+
+returns : tie.Need-returns
+returns c =
+    let l = c .before .before .l in
+    let k = c .before .before .before .before in
+    let a = k .before .before .args in
+    c .part .ensures ∙ message-part (a .p .now) (a .n) _ (sym (k .message-place .ensures) ∙ ap locates (l .given .1))
+
+returns-2 : tie.Need-returns-2
+returns-2 c =
+    let l = c .before .enum-told in
+    let k = c .before .before .before in
+    let a = k .before .before .args in
+    c .part2 .ensures ∙ sym (message-none (packetOf (a .p .now)) (a .n) _ (sym (k .message-place .ensures) ∙ ap locates (l .given .1)))
+
+pub message-spec : {M : Type 1} → statement M
+message-spec =
+    tie.close
+    (tie.spec
+    message-place-requires
+    enum-known-l
+    part-requires
+    enum-told
+    part-requires-2
+    returns
+    returns-2)

@@ -1,0 +1,40 @@
+-- Where the n-th message stands. Assumes nothing.
+use mathlib.Core.Path.{sym, ap, _∙_}
+use Prim.Native.Nat.{ℕ}
+use borrow.Author.Needs.{needs}
+use Rattle.moss.specs.Packet.{Given, Packet, packetOf}
+use Rattle.moss.specs.Message.{placeIn}
+use Rattle.moss.proofs.Looks.{looked-place, looked-refused}
+use Rattle.moss.proofs.message_place.Statement.{statement}
+use Rattle.moss.proofs.message_place.Tie as tie
+
+look-requires : tie.Need-look-requires
+look-requires c κs = search needs
+
+enum-known-l : tie.Need-enum-known-l
+enum-known-l c = search needs
+
+place-of-requires : tie.Need-place-of-requires
+place-of-requires c κs = search needs
+
+enum-known-l-2 : tie.Need-enum-known-l-2
+enum-known-l-2 c = search needs
+
+returns : tie.Need-returns
+returns c =
+    let l = c .before .before .l in
+    let k = c .before .before .before .before in
+    let a = k .before .before .args in
+    c .place-of .ensures ∙ looked-place (a .n) (packetOf (a .p .now)) _ _ (sym (l .given .1) ∙ k .look .ensures)
+
+returns-2 : tie.Need-returns-2
+returns-2 c =
+    let l = c .before .l2 in
+    let k = c .before .before .before in
+    let a = k .before .before .args in
+    sym (ap (λ (g : Given Packet). placeIn g (a .n)) (looked-refused (a .n) _ (packetOf (a .p .now)) (sym (l .given .1) ∙ k .look .ensures)))
+
+pub message-place-spec : {M : Type 1} → statement M
+message-place-spec =
+    tie.close
+    (tie.spec look-requires enum-known-l place-of-requires enum-known-l-2 returns returns-2)

@@ -1,0 +1,32 @@
+-- What a packet says. Assumes nothing.
+use mathlib.Core.Path.{sym, ap, _∙_}
+use borrow.Author.Needs.{needs}
+use Rattle.moss.specs.Packet.{packetOf}
+use Rattle.moss.specs.Answers.{headersOf}
+use Rattle.moss.proofs.Looks.{looked-head, looked-refused}
+use Rattle.moss.proofs.read_packet.Statement.{statement}
+use Rattle.moss.proofs.read_packet.Tie as tie
+
+look-requires : tie.Need-look-requires
+look-requires c κs = search needs
+
+enum-known-l : tie.Need-enum-known-l
+enum-known-l c = search needs
+
+enum-known-l-2 : tie.Need-enum-known-l-2
+enum-known-l-2 c = search needs
+
+returns : tie.Need-returns
+returns c =
+    let l = c .before .l in
+    let k = c .before .before .before in
+    looked-head 0 (packetOf (k .before .before .args .p .now)) _ _ (sym (l .given .1) ∙ k .look .ensures)
+
+returns-2 : tie.Need-returns-2
+returns-2 c =
+    let l = c .before .l2 in
+    let k = c .before .before .before in
+    sym (ap headersOf (looked-refused 0 _ (packetOf (k .before .before .args .p .now)) (sym (l .given .1) ∙ k .look .ensures)))
+
+pub read-packet-spec : {M : Type 1} → statement M
+read-packet-spec = tie.close (tie.spec look-requires enum-known-l enum-known-l-2 returns returns-2)

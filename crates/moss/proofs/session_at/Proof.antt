@@ -1,0 +1,34 @@
+-- Ten bytes of a slice by value. Assumes nothing.
+use mathlib.Core.Path.{_≡_, sym, ap, _∙_}
+use mathlib.Core.List.{List}
+use Prim.Native.Nat.{ℕ}
+use native.Mathlib.Omega.{arith}
+use lib.ListN.{length, drop, replicate, length-drop}
+use lib.Seq.{take-all}
+use borrow.Author.Needs.{needs}
+use Rattle.wire.specs.Overlay.{overlay}
+use Rattle.moss.specs.Limits.{sessionLength}
+use Rattle.moss.proofs.session_at.Statement.{statement}
+use Rattle.moss.proofs.session_at.Tie as tie
+
+slice-aggregate-put-bytes : tie.Need-slice-aggregate-put-bytes
+slice-aggregate-put-bytes c = search needs
+
+part-requires : tie.Need-part-requires
+part-requires c κs = search needs
+
+put-bytes-requires : tie.Need-put-bytes-requires
+put-bytes-requires c κs = search needs
+
+returns : tie.Need-returns
+returns c =
+    let k = c .before in
+    let p = k .before in
+    let a = p .before .before .before .args in
+    let b = a .b .now in
+    let all = take-all (length b) (drop (a .at) b) (omega (arith, length-drop (a .at) b)) in
+    k .put-bytes .ensures ∙ ap (overlay (replicate sessionLength 0) 0) (p .part .ensures ∙ all)
+
+pub session-at-spec : {M : Type 1} → statement M
+session-at-spec =
+    tie.close (tie.spec slice-aggregate-put-bytes part-requires put-bytes-requires returns)

@@ -1,0 +1,85 @@
+-- The walk over the blocks: at each turn what is walked is what was passed and the messages of what is left. Assumes nothing.
+use Prim.Native.Nat.{_+_, _-_, _≤_}
+use mathlib.Core.Path.{_≡_, refl, sym, _∙_, ap}
+use native.Mathlib.Omega.{arith}
+use lib.ListN.{length, drop}
+use borrow.Author.Needs.{needs}
+use Rattle.moss.specs.Blocks.{messagesIn}
+use Rattle.moss.specs.Walk.{start, walked}
+use Rattle.moss.specs.declared.Trail.{Trail}
+use Rattle.moss.proofs.Walks.{past-count, walk-next, walk-broken, walk-end}
+use Rattle.moss.proofs.walk.Statement.{statement}
+use Rattle.moss.proofs.walk.Tie as tie
+
+abbrev Inv-loop : tie.InvT-loop
+Inv-loop b from n t₀ at₀ t at =
+    (t .count ≤ at) × (walked start n from (messagesIn (drop from b)) ≡ walked t n at (messagesIn (drop at b)))
+
+abbrev μ-loop : tie.MeasureT-loop
+μ-loop b from n t₀ at₀ t at = length b - at
+
+loop-holds : tie.Need-loop-holds Inv-loop μ-loop
+loop-holds c = (omega arith, refl)
+
+size-at-requires : tie.Need-size-at-requires Inv-loop μ-loop
+size-at-requires c κs = search needs
+
+sub-if1 : tie.Need-sub-if1 Inv-loop μ-loop
+sub-if1 c = search needs
+
+add-if1 : tie.Need-add-if1 Inv-loop μ-loop
+add-if1 c = omega (arith, c .size-at .ensures .1)
+
+returns : tie.Need-returns Inv-loop μ-loop
+returns c =
+    let l = c .before .before .before .loop in
+    let a = c .before .before .before .before .before .args in
+    sym (l .inv .1 ∙ walk-broken (a .b .now) (l .t) (a .n) (l .at) (c .before .before .loop-test .taken) _ (c .before .size-at .ensures .0) (c .if1 .taken))
+
+pass-requires : tie.Need-pass-requires Inv-loop μ-loop
+pass-requires c κs = (c .before .before .before .loop .inv .0, omega arith)
+
+add-at : tie.Need-add-at Inv-loop μ-loop
+add-at c = omega (arith, c .before .before .size-at .ensures .1)
+
+add-at-2 : tie.Need-add-at-2 Inv-loop μ-loop
+add-at-2 c = omega arith
+
+loop-less : tie.Need-loop-less Inv-loop μ-loop
+loop-less c = omega arith
+
+loop-again : tie.Need-loop-again Inv-loop μ-loop
+loop-again c =
+    let l = c .before .before .before .before .loop in
+    let a = c .before .before .before .before .before .before .args in
+    let k = c .before .before .size-at in
+    let next = walk-next (a .b .now) (l .t) (a .n) (l .at) (c .before .before .before .loop-test .taken) (k .result) (k .ensures .0) (c .before .if1 .left) in (
+      omega (arith, ap (λ (t : Trail). t .count) (c .pass .ensures) ∙ past-count (l .t) (a .n) (l .at) (k .result)),
+      l .inv .1
+          ∙ next
+          ∙ ap (λ (t : Trail). walked t (a .n) (l .at + (2 + k .result)) (messagesIn (drop (l .at + (2 + k .result)) (a .b .now)))) (sym (c .pass .ensures)),
+    )
+
+returns-2 : tie.Need-returns-2 Inv-loop μ-loop
+returns-2 c =
+    let l = c .before .loop in
+    let a = c .before .before .before .args in
+    sym (l .inv .1 ∙ walk-end (a .b .now) (l .t) (a .n) (l .at) (c .loop-test .left))
+
+pub walk-spec : {M : Type 1} → statement M
+walk-spec =
+    tie.close
+    (tie.spec
+    Inv-loop
+    μ-loop
+    loop-holds
+    size-at-requires
+    sub-if1
+    add-if1
+    returns
+    pass-requires
+    add-at
+    add-at-2
+    loop-less
+    loop-again
+    returns-2)

@@ -1,0 +1,7 @@
+pub mod Limits
+pub mod Blocks
+pub mod Packet
+pub mod Message
+pub mod Answers
+pub mod Write
+pub mod Walk
