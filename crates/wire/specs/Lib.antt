@@ -3,4 +3,5 @@ pub mod Choice
 pub mod Overlay
 pub mod Same
 pub mod Signed
+pub mod Strides
 pub mod Sum
