@@ -45,6 +45,7 @@ fn put_answer(out: &mut [u8], at: usize, answer: Answer) -> usize
         Answer::Forward(missing) => put_number(out, at, b" forward ", missing),
         Answer::Same => stream::put_text(out, at, b" same\n"),
         Answer::Late(by) => put_number(out, at, b" late ", by),
+        Answer::Restarted(number) => put_number(out, at, b" restarted ", number),
         Answer::Refused(number) => put_number(out, at, b" refused ", number),
     }
 }

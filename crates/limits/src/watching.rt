@@ -8,6 +8,7 @@ fn answer(out: &mut [u8], at: usize, a: Answer) -> usize {
         Answer::Forward(n) => crate::page::line(out, at, b"", b"forward ", n as u64),
         Answer::Same => stream::put_text(&mut *out, at, b"same\n"),
         Answer::Late(n) => crate::page::line(out, at, b"", b"late ", n as u64),
+        Answer::Restarted(n) => crate::page::line(out, at, b"", b"restarted ", n as u64),
         Answer::Refused(n) => crate::page::line(out, at, b"", b"refused ", n as u64),
     }
 }
@@ -30,7 +31,7 @@ fn watching(n: u64) -> Watch {
     w
 }
 
-// 16 and 17 senders, and the numbers at the turn of the signed difference.
+// 16 and 17 senders, late by 1,024 and by 1,025, and the numbers at the turn of the signed difference.
 pub(crate) fn senders(out: &mut [u8], at: usize) -> usize {
     let few = watching(15);
     let all = watching(16);
@@ -39,6 +40,8 @@ pub(crate) fn senders(out: &mut [u8], at: usize) -> usize {
     a = seen(&mut *out, a, all, 17, 5);
     a = seen(&mut *out, a, all, 1, 6);
     a = seen(&mut *out, a, all, 1, 4);
+    a = seen(&mut *out, a, all, 1, 4294966277);
+    a = seen(&mut *out, a, all, 1, 4294966276);
     a = seen(&mut *out, a, all, 1, 2147483652);
     seen(&mut *out, a, all, 1, 2147483653)
 }

@@ -53,6 +53,15 @@ slice-aggregate-put-number-3 c = search needs
 put-number-requires-3 : tie.Need-put-number-requires-3
 put-number-requires-3 c κs = search needs
 
+enum-known-answer-4 : tie.Need-enum-known-answer-4
+enum-known-answer-4 c = search needs
+
+slice-aggregate-put-number-4 : tie.Need-slice-aggregate-put-number-4
+slice-aggregate-put-number-4 c = search needs
+
+put-number-requires-4 : tie.Need-put-number-requires-4
+put-number-requires-4 c κs = search needs
+
 same-length : tie.Need-same-length
 same-length c = search needs
 
@@ -93,6 +102,14 @@ returns-5 c =
     let t = c .before .before in
     put-is (t .put-number3 .ensures) (ap (λ (a : Answer). answerText (notes a)) (sym (t .before .before .before .before .answer3 .given .1)))
 
+same-length-6 : tie.Need-same-length-6
+same-length-6 c = search needs
+
+returns-6 : tie.Need-returns-6
+returns-6 c =
+    let t = c .before .before in
+    put-is (t .put-number4 .ensures) (ap (λ (a : Answer). answerText (notes a)) (sym (t .before .before .before .before .answer4 .given .1)))
+
 pub put-answer-spec : {M : Type 1} → statement M
 put-answer-spec =
     tie.close
@@ -112,6 +129,9 @@ put-answer-spec =
     enum-known-answer-3
     slice-aggregate-put-number-3
     put-number-requires-3
+    enum-known-answer-4
+    slice-aggregate-put-number-4
+    put-number-requires-4
     same-length
     returns
     same-length-2
@@ -121,4 +141,6 @@ put-answer-spec =
     same-length-4
     returns-4
     same-length-5
-    returns-5)
+    returns-5
+    same-length-6
+    returns-6)
