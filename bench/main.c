@@ -77,7 +77,7 @@ static void by_proved(u64 store_length, u64 sender, const u8 *d, u64 length, str
 // ---- the log
 
 enum { FRAGMENTS = 100000, ROUND = 256, DATAGRAMS = 2 * (ROUND + SLOTS * MAX_COUNT), ROOM = 1500 };
-enum { IN_ORDER, MIXED, TWICE };
+enum { IN_ORDER, MIXED, TWICE, SIXTEEN };
 
 // A round: some messages whose datagrams stand here. For the next round each gets another sequence, so that the datagrams are
 // in the cache, as they are when they have just come from the network.
@@ -91,6 +91,7 @@ struct entry {
 static u8 buffers[DATAGRAMS][ROOM];
 static struct entry round_[DATAGRAMS];
 static u32 in_round, messages_in_round, rounds;
+static int of_sixteen; // the messages are of 16 senders in turn
 
 static void put32(u8 *p, u32 x) {
     for (int i = 3; i >= 0; i--, x >>= 8) p[i] = (u8)x;
@@ -121,6 +122,7 @@ static void make_round(int kind, u32 n, u32 m) {
     u32 group = kind == MIXED ? SLOTS : 1, copies = kind == TWICE ? 2 : 1, buffer = 0;
     if (n < 1 || n > MAX_COUNT || m > ROOM || m < 96) stop("n is 1 to 256 and M 96 to 1,500");
     in_round = messages_in_round = 0;
+    of_sixteen = kind == SIXTEEN;
     while (in_round < ROUND) {
         u32 from = in_round;
         for (u32 g = 0; g < group; g++, messages_in_round++)
@@ -140,7 +142,11 @@ static void make_round(int kind, u32 n, u32 m) {
 }
 
 static void number_round(u32 r) {
-    for (u32 i = 0; i < in_round; i++) put32(buffers[round_[i].buffer] + 4, r * messages_in_round + round_[i].message);
+    for (u32 i = 0; i < in_round; i++) {
+        u32 message = r * messages_in_round + round_[i].message;
+        put32(buffers[round_[i].buffer] + 4, message);
+        if (of_sixteen) round_[i].sender = message % SENDERS;
+    }
 }
 
 typedef void receiver(u64, u64, const u8 *, u64, struct outcome *);
@@ -214,7 +220,7 @@ static void compare_log(int kind, u32 n, u32 m) {
     if (answers[DELIVERED] != (u64)rounds * messages_in_round) stop("not every message was delivered");
 }
 
-// Short messages of few senders and sequences, many of them spoilt, on a store of a hundred bytes a slot.
+// Short messages of 20 senders, three of them often, and few sequences, many of them spoilt, on a store of a hundred bytes a slot.
 static void compare_hostile(u32 count) {
     static u8 d[400];
     u64 answers[16] = {0};
@@ -242,7 +248,7 @@ static void compare_hostile(u32 count) {
         for (u32 j = 0; j < length; j++) d[at++] = (u8)any(any(8) == 0 ? 2 : 1);
         for (u32 spoilt = any(6) == 0 ? 1 + any(2) : 0; spoilt > 0; spoilt--) d[any(at)] = (u8)any(256);
         if (any(40) == 0) at = any(at + 1);
-        compare(8 * 100 + 3, any(3), d, at, answers);
+        compare(8 * 100 + 3, any(any(2) == 0 ? 3 : 20), d, at, answers);
         if (i % 16 == 0) compare_stores(8 * 100 + 3);
     }
     compare_stores(8 * 100 + 3);
@@ -256,14 +262,15 @@ static int kind_of(const char *log) {
     if (strcmp(log, "in-order") == 0) return IN_ORDER;
     if (strcmp(log, "mixed") == 0) return MIXED;
     if (strcmp(log, "twice") == 0) return TWICE;
-    stop("a log is in-order, mixed or twice");
+    if (strcmp(log, "sixteen") == 0) return SIXTEEN;
+    stop("a log is in-order, mixed, twice or sixteen");
     return 0;
 }
 
 int main(int argc, char **argv) {
     u64 delivered = 0;
     if (argc == 2 && strcmp(argv[1], "check") == 0) {
-        for (int kind = IN_ORDER; kind <= TWICE; kind++) {
+        for (int kind = IN_ORDER; kind <= SIXTEEN; kind++) {
             compare_log(kind, 2, 1400);
             compare_log(kind, 100, 1400);
             compare_log(kind, 190, 1400);

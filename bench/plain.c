@@ -79,23 +79,49 @@ static int ready(const struct plain *r, u64 store_length, u64 ledger_length) {
         const struct slot *slot = &r->slots[s];
         if (slot->count != 0 && (slot->size > room || slot->count > MAX_COUNT)) return 0;
     }
-    return r->remembered <= MEMORY;
+    for (u32 i = 0; i < SENDERS; i++)
+        if (r->memory[i].used > KEYS) return 0;
+    return 1;
 }
 
-static int is_remembered(const struct plain *r, u64 sender, u32 sequence) {
-    for (u64 i = 0; i < r->remembered; i++)
-        if (r->memory[i].sender == sender && r->memory[i].sequence == sequence) return 1;
+static struct known *find_sender(struct plain *r, u64 sender) {
+    for (u32 i = 0; i < SENDERS; i++)
+        if (r->memory[i].used != 0 && r->memory[i].sender == sender) return &r->memory[i];
     return 0;
 }
 
-static void remember(struct plain *r, u64 sender, u32 sequence) {
-    if (r->remembered == MEMORY) {
-        memmove(r->memory, r->memory + 1, sizeof r->memory - sizeof r->memory[0]);
-        r->remembered--;
+static int is_remembered(struct plain *r, u64 sender, u32 sequence) {
+    const struct known *k = find_sender(r, sender);
+    if (k == 0) return 0;
+    for (u64 i = 0; i < k->used; i++)
+        if (k->sequences[i] == sequence) return 1;
+    return 0;
+}
+
+// A place for a sender that has none: a free one, else that of the sender whose latest delivery lies furthest back.
+static struct known *new_sender(struct plain *r, u64 sender) {
+    struct known *k = &r->memory[0];
+    for (u32 i = 0; i < SENDERS; i++) {
+        if (r->memory[i].used == 0) {
+            k = &r->memory[i];
+            break;
+        }
+        if (r->memory[i].latest < k->latest) k = &r->memory[i];
     }
-    r->memory[r->remembered].sender = sender;
-    r->memory[r->remembered].sequence = sequence;
-    r->remembered++;
+    k->sender = sender;
+    k->used = 0;
+    return k;
+}
+
+static void remember(struct plain *r, u64 sender, u32 sequence) {
+    struct known *k = find_sender(r, sender);
+    if (k == 0) k = new_sender(r, sender);
+    if (k->used == KEYS) {
+        memmove(k->sequences, k->sequences + 1, sizeof k->sequences - sizeof k->sequences[0]);
+        k->used--;
+    }
+    k->sequences[k->used++] = sequence;
+    k->latest = ++r->deliveries;
 }
 
 static u32 find_open(const struct plain *r, u64 sender, u32 sequence) {

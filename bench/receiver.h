@@ -12,7 +12,7 @@ void *memmove(void *to, const void *from, u64 n);
 void *memset(void *to, int byte, u64 n);
 int memcmp(const void *a, const void *b, u64 n);
 
-enum { SLOTS = 8, MEMORY = 64, MAX_NAME = 63, MAX_COUNT = 256, MAX_SIZE = 262144, MAX_DATAGRAM = 65535, LEDGER = 4096 };
+enum { SLOTS = 8, SENDERS = 16, KEYS = 32, MAX_NAME = 63, MAX_COUNT = 256, MAX_SIZE = 262144, MAX_DATAGRAM = 65535, LEDGER = 4096 };
 
 enum { KEPT, REPEAT, DELIVERED, REFUSED };
 enum { IN_DATAGRAM = 1, IN_STORE = 2 };
@@ -42,17 +42,20 @@ struct slot {
     u8 name[MAX_NAME];
 };
 
-struct key {
+// The last keys of a sender, the oldest first, and when the latest of them was delivered.
+struct known {
     u64 sender;
-    u32 sequence;
+    u64 used;
+    u64 latest;
+    u32 sequences[KEYS];
 };
 
 struct plain {
     u64 store_length;
     u64 room; // of a slot
     struct slot slots[SLOTS];
-    u64 remembered;
-    struct key memory[MEMORY];
+    u64 deliveries;
+    struct known memory[SENDERS];
 };
 
 void plain_open(struct plain *r, u64 store_length);

@@ -118,6 +118,48 @@ static void run(u64 senders, u64 window) {
     }
 }
 
+static void open_both(void) {
+    held(proved_open(state, proved_state_words(), names, proved_name_bytes(), STORE) == 0, "opening", 0);
+    memset(ledger, 0, sizeof ledger);
+    memset(store, 0, sizeof store);
+    memset(ref_store, 0, sizeof ref_store);
+    ref_open(&ref, ref_store, STORE);
+}
+
+/* A small message to both, and which kind of answer it must be. */
+static void small_message(u64 sender, u32 sequence, enum ref_kind kind, u64 call) {
+    static u8 d[ROOM];
+    u32 count, length;
+    u64 before = met[kind];
+    if (ref_cut((const u8 *) "MAST", 4, (const u8 *) "wind 4", 6, sequence, 96, 0, d, ROOM, &count, &length) != 0) held(0, "small message", call);
+    give(sender, d, length, 0, call);
+    held(met[kind] == before + 1, "kind of answer", call);
+}
+
+/* The mast of the request: 200 small messages of one sender push no key of another out. Then 16 senders and a 17th, which drops the one
+   whose latest delivery lies furthest back, and not the one that spoke first; and forget, which leaves a place free. */
+static void mast_run(void) {
+    open_both();
+    small_message(9, 7, REF_DELIVERED, 1);
+    for (u32 q = 0; q < 200; q++) small_message(1, q, REF_DELIVERED, q);
+    small_message(9, 7, REF_REPEAT, 201);
+    small_message(1, 168, REF_REPEAT, 202);
+    small_message(1, 167, REF_DELIVERED, 203);
+    open_both();
+    for (u64 s = 0; s < 16; s++) small_message(s, 7, REF_DELIVERED, s);
+    small_message(0, 8, REF_DELIVERED, 16);
+    small_message(16, 7, REF_DELIVERED, 17);
+    small_message(0, 7, REF_REPEAT, 18);
+    small_message(1, 7, REF_DELIVERED, 19); /* dropped for the 17th, and now the second goes in its turn */
+    small_message(2, 7, REF_DELIVERED, 20);
+    held(proved_forget(state, proved_state_words(), names, proved_name_bytes(), 16) == 0, "forget", 21);
+    ref_forget(&ref, 16);
+    small_message(17, 7, REF_DELIVERED, 22);
+    small_message(4, 7, REF_REPEAT, 23); /* nobody is dropped for one that takes the place left free */
+    small_message(16, 7, REF_DELIVERED, 24);
+    small_message(4, 7, REF_DELIVERED, 25);
+}
+
 /* The watch over numbers of up to 18 senders: the wrap, the edges of 2^31, and a 17th sender. */
 static void watch_run(u64 senders) {
     enum { N = 3000 };
@@ -137,6 +179,7 @@ static void watch_run(u64 senders) {
 }
 
 int main(void) {
+    mast_run();
     for (u64 r = 0; r < RUNS; r++) {
         random_state = 1037 + r;
         run(ONE_OF(1, 2, 5, 16, 17, 20), ONE_OF(6, 40, 1000));

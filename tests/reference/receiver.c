@@ -14,18 +14,41 @@ void ref_open(struct ref_receiver *r, u8 *store, u64 store_length) {
 
 /* ---- the memory of delivered keys */
 
+static int place_of(const struct ref_receiver *r, u64 sender) {
+    for (int i = 0; i < r->senders; i++)
+        if (r->memory[i].sender == sender) return i;
+    return -1;
+}
+
+static void drop_place(struct ref_receiver *r, int place) {
+    for (int i = place + 1; i < r->senders; i++) r->memory[i - 1] = r->memory[i];
+    r->senders--;
+}
+
 static int is_remembered(const struct ref_receiver *r, struct ref_key key) {
-    for (int i = 0; i < r->remembered; i++)
-        if (same_key(r->memory[i], key)) return 1;
+    int place = place_of(r, key.sender);
+    if (place < 0) return 0;
+    for (int i = 0; i < r->memory[place].keys; i++)
+        if (r->memory[place].sequences[i] == key.sequence) return 1;
     return 0;
 }
 
+/* The sender goes to the end of the order; where there is no room for it, the first in the order goes, with its keys. */
 static void remember(struct ref_receiver *r, struct ref_key key) {
-    if (r->remembered == REMEMBERED) {
-        for (int i = 1; i < REMEMBERED; i++) r->memory[i - 1] = r->memory[i];
-        r->remembered--;
+    struct ref_sender known = {.sender = key.sender};
+    int place = place_of(r, key.sender);
+    if (place >= 0) {
+        known = r->memory[place];
+        drop_place(r, place);
+    } else if (r->senders == SENDERS_KNOWN) {
+        drop_place(r, 0);
     }
-    r->memory[r->remembered++] = key;
+    if (known.keys == KEYS_EACH) {
+        for (int i = 1; i < KEYS_EACH; i++) known.sequences[i - 1] = known.sequences[i];
+        known.keys--;
+    }
+    known.sequences[known.keys++] = key.sequence;
+    r->memory[r->senders++] = known;
 }
 
 /* ---- the slots */
@@ -166,12 +189,10 @@ struct ref_answer ref_receive_lent(struct ref_receiver *r, u64 store_length, u64
 
 /* Frees the sender's slots and drops its remembered keys; the rest keep their order. */
 void ref_forget(struct ref_receiver *r, u64 sender) {
-    int kept = 0;
+    int place = place_of(r, sender);
     for (int s = 0; s < SLOTS; s++)
         if (r->slots[s].busy && r->slots[s].key.sender == sender) r->slots[s].busy = 0;
-    for (int i = 0; i < r->remembered; i++)
-        if (r->memory[i].sender != sender) r->memory[kept++] = r->memory[i];
-    r->remembered = kept;
+    if (place >= 0) drop_place(r, place);
 }
 
 /* ---- the watch */

@@ -33,8 +33,14 @@ void ref_put(u8 *at, int width, u64 value);
 /* The sum of all bytes modulo 2^32. */
 u32 ref_checksum(const u8 *bytes, u64 length);
 
-/* 1 where the bytes are a name: 1 to 63 of them, each from 32 to 126. */
+/* 1 where the bytes are a name: 1 to 63 of well-formed UTF-8 (RFC 3629), no code point below 32 and none 127. */
 int ref_good_name(const u8 *name, u64 length);
+
+/* A name of exactly that many bytes, of code points of every size, the edges of their ranges among them. */
+void ref_fill_name(u8 *at, u64 length, u64 (*random)(void));
+
+/* The bits in the form of n bytes, whether or not RFC 3629 allows it; answers n. */
+u64 ref_put_form(u8 *at, u32 bits, u64 n);
 
 /* What a datagram of good form says. A small one: size is its data length, offset 0, number 0, count 1. */
 struct ref_header {
@@ -52,7 +58,7 @@ u32 ref_cut(const u8 *name, u64 c, const u8 *payload, u64 p, u32 sequence, u64 m
 
 /* ---- the receiver */
 
-enum { SLOTS = 8, REMEMBERED = 64, LEDGER = SLOTS * MAX_FRAGMENTS * 2 };
+enum { SLOTS = 8, SENDERS_KNOWN = 16, KEYS_EACH = 32, LEDGER = SLOTS * MAX_FRAGMENTS * 2 };
 
 struct ref_key {
     u64 sender;
@@ -69,6 +75,13 @@ struct ref_slot {
     u32 name_length;
 };
 
+/* A sender of which something was delivered, and the last of its sequences in order of delivery. */
+struct ref_sender {
+    u64 sender;
+    u32 sequences[KEYS_EACH];
+    int keys;
+};
+
 struct ref_receiver {
     u8 *store;
     u64 store_length;   /* at opening */
@@ -76,8 +89,8 @@ struct ref_receiver {
     u32 ledger[LEDGER];
     struct ref_slot slots[SLOTS];
     u64 openings;
-    struct ref_key memory[REMEMBERED];   /* in order of delivery */
-    int remembered;
+    struct ref_sender memory[SENDERS_KNOWN];   /* in order of their latest delivery */
+    int senders;
 };
 
 enum ref_kind { REF_REFUSED, REF_KEPT, REF_REPEAT, REF_DELIVERED };

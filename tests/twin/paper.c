@@ -21,7 +21,7 @@ const struct paper_case paper_cases[] = {
     {"replay",
      B OF("00000008") OF("00000009") OF("0000000a") OF("0000000b") OF("0000000c") OF("0000000d") OF("0000000e") OF("0000000f"),
      "1 kept\n2 kept\n3 kept\n4 kept\n5 kept\n6 kept\n7 kept\n8 kept\n9 kept emptied 0 7\nend 9\n"},
-    /* a late copy after the last 64 deliveries is covered by the streams; here a refused datagram empties no slot */
+    /* a late copy after the last 32 deliveries of its sender is covered by the streams; here a refused datagram empties no slot */
     {"replay",
      B OF("00000008") OF("00000009") OF("0000000a") OF("0000000b") OF("0000000c") OF("0000000d") OF("0000000e")
          "4c433033 0000000f 00000003 00000000 0001 0002 42 43;" A,

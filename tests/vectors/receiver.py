@@ -6,11 +6,15 @@ FRAGMENT = bytes.fromhex("4c433033")
 
 
 def name_in(rest):
-    """The name before the first zero byte, or None where the paper refuses it by 4."""
+    """The name before the first zero byte, or None where the paper (L2) refuses it by 4."""
     end = rest[:64].find(0)
-    if end < 1 or not all(32 <= b <= 126 for b in rest[:end]):
+    if end < 1:
         return None
-    return rest[:end]
+    try:
+        text = rest[:end].decode("utf-8")  # strict: no overlong form, no surrogate, nothing above 10FFFF
+    except UnicodeDecodeError:
+        return None
+    return rest[:end] if all(ord(c) >= 32 and ord(c) != 127 for c in text) else None
 
 
 def read(d, limit):
@@ -52,7 +56,7 @@ class Receiver:
         self.limit = min(store // 8, MAX_PAYLOAD)
         self.slots = [None] * 8
         self.opened = 0
-        self.memory = []
+        self.memory = {}  # the sequences of each sender, the sender of the latest delivery last
 
     def find(self, key):
         for s, slot in enumerate(self.slots):
@@ -61,7 +65,14 @@ class Receiver:
         return None
 
     def remember(self, key):
-        self.memory = (self.memory + [key])[-64:]
+        sender, sequence = key
+        self.memory[sender] = (self.memory.pop(sender, []) + [sequence])[-32:]
+        if len(self.memory) > 16:
+            del self.memory[next(iter(self.memory))]
+
+    def forget(self, sender):
+        self.memory.pop(sender, None)
+        self.slots = [None if slot and slot["key"][0] == sender else slot for slot in self.slots]
 
     def receive(self, sender, d):
         """The answer as the words of a line."""
@@ -69,7 +80,7 @@ class Receiver:
         if isinstance(r, int):
             return f"refused {r}"
         key = (sender, r["sequence"])
-        if key in self.memory:
+        if r["sequence"] in self.memory.get(sender, []):
             return "repeat"
         at = self.find(key)
         if r["small"]:

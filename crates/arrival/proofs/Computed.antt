@@ -13,7 +13,7 @@ use Rattle.datagram.specs.Name.{goodName, untilZero, nameLength}
 use Rattle.datagram.specs.Read.{readSmall, goodForm, formed, readFragment, readDatagram}
 use Rattle.datagram.specs.Said.{Fragment, Said, fragment, said}
 use Rattle.steps.specs.Held.{noneHeld, isHeld, hold}
-use Rattle.steps.specs.Memory.{among, emptyMemory, isRemembered, remember, memoryOk, since}
+use Rattle.steps.specs.Memory.{among, emptyMemory, isRemembered, remember, placeFor, withKey, memoryOk, since}
 use Rattle.steps.specs.Slots.{oldest, openCount, lower, release, seat, opening, filled}
 use Rattle.steps.specs.Receive.{opened, stay, sameFragment, agrees, step3, decide, step5, act, receive, sound, step}
 use Rattle.steps.specs.Runs.{run}
@@ -23,7 +23,7 @@ use Rattle.arrival.specs.Worked.{small-of, fromEach, inTwo, paperScene, 
 use Rattle.arrival.proofs.Pieces.{fragmentSaid}
 
 pub paper-at-completion : AtCompletion paperScene paperFeed
-unfolding delivery after run done completes step sound receive decide act stay step3 step5 sameFragment agrees seat oldest release lower opening openCount filled opened emptyMemory isRemembered remember memoryOk among isHeld hold noneHeld said readDatagram readSmall readFragment formed goodForm nameLength goodName untilZero be overlay A-of B-of small-of
+unfolding delivery after run done completes step sound receive decide act stay step3 step5 sameFragment agrees seat oldest release lower opening openCount filled opened emptyMemory isRemembered remember placeFor withKey memoryOk among isHeld hold noneHeld said readDatagram readSmall readFragment formed goodForm nameLength goodName untilZero be overlay A-of B-of small-of
 paper-at-completion = (((((tt, refl), refl), refl), refl), refl)
 
 -- two messages of one key
@@ -47,9 +47,9 @@ crowd-shut-out p =
     let nine : 9 ≤ 8 = p .0 .0 .0 .0 .0 .0 .0 .0 .0 .1 in
     omega arith
 
--- the first of 65 again: 64 others have been delivered since
+-- the first of 33 again: 32 others of its sender have been delivered since
 pub late-shut-out : NeverTooLate manyScene manyFeed → ⊥
 unfolding fromEach done completes completed since
 late-shut-out p =
-    let late : 64 < 64 = p .1 refl in
+    let late : 32 < 32 = p .1 refl in
     omega arith

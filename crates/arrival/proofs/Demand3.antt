@@ -84,5 +84,5 @@ pub demand3 : Demand3
 unfolding done
 demand3 σ f s =
     promised σ (record { distinct = s .distinct; sent = s .sent; ledger-fits = s .ledger-fits }) f
-    (fair-of σ f (s .mixture) (s .never-over-eight) (s .never-too-late))
+    (fair-of σ f (s .mixture) (s .never-over-eight) (s .few-senders) (s .never-too-late))
     (λ i b. all-of (parts (message σ i)) (got f i) (λ k c. s .each-comes i k b c))

@@ -15,14 +15,14 @@ use Rattle.datagram.specs.Said.{said}
 use Rattle.cutter.specs.Trip.{joined}
 use Rattle.steps.specs.Limits.{ledgerLength}
 use Rattle.steps.specs.Held.{noneHeld, isHeld, hold}
-use Rattle.steps.specs.Memory.{among, emptyMemory, isRemembered, remember, memoryOk, others, forgetKeys, since}
+use Rattle.steps.specs.Memory.{among, emptyMemory, isRemembered, remember, placeFor, withKey, memoryOk, forgetKeys, since}
 use Rattle.steps.specs.Slots.{oldest, openCount, lower, release, releaseOf, seat, opening, filled}
 use Rattle.steps.specs.Receive.{Machine, After, opened, stay, sameFragment, agrees, step3, decide, step5, act, receive, sound, step, forget}
 use Rattle.steps.specs.Answers.{Reply, refusedBy, kept, delivered, reply}
 use Rattle.steps.specs.Runs.{run}
 use Rattle.steps.specs.Worked.{A-of, B-of}
 use Rattle.arrival.specs.Demand.{Feed, Delivery, after, delivery, deliveries, done, unfinished, completes, completed, Promised}
-use Rattle.arrival.specs.Worked.{small-of, A-gap, B-gap, fromEach, EachNeeded, twinScene, twinFeed, gapScene, bothFeed, largeScene, barredScene, oneScene, strangerFeed, lackingFeed, nineScene, crowdedFeed, manyScene, manyFeed}
+use Rattle.arrival.specs.Worked.{small-of, A-gap, B-gap, fromEach, EachNeeded, twinScene, twinFeed, gapScene, bothFeed, largeScene, barredScene, oneScene, strangerFeed, lackingFeed, nineScene, crowdedFeed, throngScene, throngFeed, manyScene, manyFeed}
 use Rattle.arrival.proofs.Tests.{tests, giving}
 
 not-handed : {d : Delivery} → _≡_ {A = Option Delivery} none (some d) → ⊥
@@ -40,23 +40,25 @@ pub others-met :
     ∷ tests oneScene strangerFeed
     ∷ tests oneScene lackingFeed
     ∷ tests nineScene crowdedFeed
+    ∷ tests throngScene throngFeed
     ∷ tests manyScene manyFeed
     ∷ []
-    ≡ giving false true true true true true true
-    ∷ giving true false true true true true true
-    ∷ giving true false true true true true true
-    ∷ giving true true false true true true true
-    ∷ giving true true true false true true true
-    ∷ giving true true true true false true true
-    ∷ giving true true true true true false true
-    ∷ giving true true true true true true false
+    ≡ giving false true true true true true true true
+    ∷ giving true false true true true true true true
+    ∷ giving true false true true true true true true
+    ∷ giving true true false true true true true true
+    ∷ giving true true true false true true true true
+    ∷ giving true true true true false true true true
+    ∷ giving true true true true true false true true
+    ∷ giving true true true true true true false true
+    ∷ giving true true true true true true true false
     ∷ []
 unfolding tests done unfinished completes completed since joined said readDatagram readSmall readFragment formed goodForm nameLength goodName untilZero be small-of A-of B-of A-gap B-gap fromEach
 others-met = refl
 
 -- and the promise is broken: most often the arrival that completes a message hands over nothing
 pub each-needed : EachNeeded
-unfolding delivery after run done completes step sound receive decide act stay step3 step5 sameFragment agrees seat oldest release releaseOf lower opening openCount filled opened emptyMemory isRemembered remember memoryOk others forgetKeys forget among isHeld hold noneHeld said readDatagram readSmall readFragment formed goodForm nameLength goodName untilZero be overlay small-of A-of B-of A-gap B-gap fromEach
+unfolding delivery after run done completes step sound receive decide act stay step3 step5 sameFragment agrees seat oldest release releaseOf lower opening openCount filled opened emptyMemory isRemembered remember placeFor withKey memoryOk forgetKeys forget among isHeld hold noneHeld said readDatagram readSmall readFragment formed goodForm nameLength goodName untilZero be overlay small-of A-of B-of A-gap B-gap fromEach
 each-needed = record {
   distinct = λ p. not-handed (p .at-completion .1);
   lawfully-cut = λ p. not-handed (p .at-completion .1);
@@ -65,6 +67,7 @@ each-needed = record {
   mixture = λ p. not-handed (p .at-completion .1);
   each-comes = λ p. never refl (p .none-open 0 (lit< tt));
   never-over-eight = λ p. not-handed (p .at-completion .1);
+  few-senders = λ p. handed-too-much (p .at-completion .1);
   never-too-late = λ p. handed-too-much (p .at-completion .1);
   untouched = refl;
   same-store = refl;

@@ -101,6 +101,6 @@ code-demand3 σ f s l c =
       ledger = h .ledger;
       each-call = each-call σ c (demand3 σ f s .none-emptied);
       delivered = hands σ c;
-      their-own = hands σ c ∙ delivered-own σ law f (fair-of σ f (s .mixture) (s .never-over-eight) (s .never-too-late));
+      their-own = hands σ c ∙ delivered-own σ law f (fair-of σ f (s .mixture) (s .never-over-eight) (s .few-senders) (s .never-too-late));
       promised = demand3 σ f s;
     }

@@ -1,8 +1,8 @@
 -- The premises of demand 3 as tests that compute, and that a scene and a feed that pass them meet the premises.
 use mathlib.Core.Path.{_≡_, refl, sym, ap, _∙_, subst}
 use mathlib.Core.Logic.{_≢_, _⊎_, inl, inr}
-use mathlib.Core.Bool.{Bool, true, false, not, _&&_}
-use mathlib.Core.List.{List, [], _∷_}
+use mathlib.Core.Bool.{Bool, true, false, not, _&&_, _||_}
+use mathlib.Core.List.{List, [], _∷_, map}
 use Prim.Native.Nat.{ℕ, zero, suc, _+_, _≤_, _<_}
 use native.Mathlib.Omega.{arith}
 use native.Mathlib.Decide.{decLe, ℕ-discrete}
@@ -11,17 +11,18 @@ use lib.ListN.{length}
 use borrow.Author.Tests.{ltb-true, leb-true, eqb-true, lt-ltb}
 use Rattle.wire.specs.Choice.{pick}
 use Rattle.wire.specs.Same.{same}
-use Rattle.wire.proofs.Choices.{never, and-l, and-r}
+use Rattle.wire.proofs.Choices.{either, never, and-l, and-r}
 use Rattle.wire.proofs.Parts.{same-true}
 use Rattle.datagram.specs.Limits.{maxPayload, maxFragments}
 use Rattle.datagram.specs.Said.{Fragment, Said, refused, small, fragment, said}
 use Rattle.cutter.specs.Trip.{joined}
-use Rattle.steps.specs.Limits.{slotCount, memorySize, ledgerLength}
+use Rattle.steps.specs.declared.Key.{Key}
+use Rattle.steps.specs.Limits.{slotCount, sendersMost, keysEach, ledgerLength}
 use Rattle.steps.specs.Search.{allBelow, count}
-use Rattle.steps.specs.Memory.{sameKey, since, Lately}
-use Rattle.steps.proofs.Tables.{all-at, not-true}
+use Rattle.steps.specs.Memory.{sameKey, among, has, since, Lately}
+use Rattle.steps.proofs.Tables.{all-at, not-true, or-not, or-yes}
 use Rattle.steps.proofs.Memories.{key-same}
-use Rattle.arrival.specs.Demand.{Message, Scene, SentSmall, SentCut, Sent, key, parts, datagram, size, message, slotBytes, Distinct, EachSent, Event, part, noise, Feed, start, _▹_, RefusedForForm, MayCome, Mixture, got, EachComes, done, unfinished, NeverOverEight, completed, keysOf, StillKnown, NeverTooLate, Supposed}
+use Rattle.arrival.specs.Demand.{Message, Scene, SentSmall, SentCut, Sent, key, parts, datagram, size, message, slotBytes, Distinct, EachSent, Event, part, noise, Feed, start, _▹_, RefusedForForm, MayCome, Mixture, got, EachComes, done, unfinished, NeverOverEight, AtMost16Senders, completed, keysOf, StillKnown, NeverTooLate, Supposed}
 use Rattle.arrival.proofs.Pieces.{fragmentSaid, piece}
 
 -- ---- the tests
@@ -76,12 +77,23 @@ eightOk σ start = true
 eightOk σ (f ▹ e) = leb (count (unfinished σ f (f ▹ e)) (size σ)) slotCount && eightOk σ f
 
 abbrev stillKnown : Scene → Feed → Event → Bool
-stillKnown σ f (part i k) = pick (done σ f i) (ltb (since (keysOf σ (completed σ f)) (key (message σ i))) memorySize) true
+stillKnown σ f (part i k) = pick (done σ f i) (ltb (since (keysOf σ (completed σ f)) (key (message σ i))) keysEach) true
 stillKnown σ f (noise from d) = true
 
 abbrev pub lateOk : Scene → Feed → Bool
 lateOk σ start = true
 lateOk σ (f ▹ e) = stillKnown σ f e && lateOk σ f
+
+-- each number once
+abbrev eachOnce : List ℕ → List ℕ
+eachOnce [] = []
+eachOnce (x ∷ l) = pick (has l x) (eachOnce l) (x ∷ eachOnce l)
+
+abbrev sendersOf : List Message → List ℕ
+sendersOf l = eachOnce (map (λ (m : Message). m .sender) l)
+
+abbrev pub sendersOk : Scene → Bool
+sendersOk σ = leb (length (sendersOf (σ .messages))) sendersMost
 
 -- one test for each premise
 pub record Tests : Type 0 where
@@ -91,6 +103,7 @@ pub record Tests : Type 0 where
   pub mixture : Bool
   pub each-comes : Bool
   pub never-over-eight : Bool
+  pub few-senders : Bool
   pub never-too-late : Bool
 
 unfoldable pub tests : Scene → Feed → Tests
@@ -101,15 +114,16 @@ tests σ f = record {
   mixture = mixtureOk σ f;
   each-comes = allBelow (size σ) (λ i. allBelow (parts (message σ i)) (got f i));
   never-over-eight = eightOk σ f;
+  few-senders = sendersOk σ;
   never-too-late = lateOk σ f;
 }
 
--- what the seven give, in that order
-abbrev pub giving : Bool → Bool → Bool → Bool → Bool → Bool → Bool → Tests
-giving a b c d e f g = record { distinct = a; sent = b; ledger-fits = c; mixture = d; each-comes = e; never-over-eight = f; never-too-late = g }
+-- what the eight give, in that order
+abbrev pub giving : Bool → Bool → Bool → Bool → Bool → Bool → Bool → Bool → Tests
+giving a b c d e f g h = record { distinct = a; sent = b; ledger-fits = c; mixture = d; each-comes = e; never-over-eight = f; few-senders = g; never-too-late = h }
 
 abbrev pub allPass : Tests
-allPass = giving true true true true true true true
+allPass = giving true true true true true true true true
 
 -- ---- what they show
 
@@ -239,12 +253,46 @@ eight-of σ start q = tt
 eight-of σ (f ▹ e) q = (eight-of σ f (and-r (leb (count (unfinished σ f (f ▹ e)) (size σ)) slotCount) (eightOk σ f) q), leb-true _ _ (and-l (leb (count (unfinished σ f (f ▹ e)) (size σ)) slotCount) (eightOk σ f) q))
 
 known-of : (σ : Scene) (f : Feed) (e : Event) → stillKnown σ f e ≡ true → StillKnown σ f e
-known-of σ f (part i k) q = λ d. ltb-true _ _ (subst (λ (t : Bool). pick t (ltb (since (keysOf σ (completed σ f)) (key (message σ i))) memorySize) true ≡ true) d q)
+known-of σ f (part i k) q = λ d. ltb-true _ _ (subst (λ (t : Bool). pick t (ltb (since (keysOf σ (completed σ f)) (key (message σ i))) keysEach) true ≡ true) d q)
 known-of σ f (noise from d) q = tt
 
 late-of : (σ : Scene) (f : Feed) → lateOk σ f ≡ true → NeverTooLate σ f
 late-of σ start q = tt
 late-of σ (f ▹ e) q = (late-of σ f (and-r (stillKnown σ f e) (lateOk σ f) q), known-of σ f e (and-l (stillKnown σ f e) (lateOk σ f) q))
+
+once-has : (l : List ℕ) (x : ℕ) → has l x ≡ true → has (eachOnce l) x ≡ true
+once-has [] x e = e
+once-has (y ∷ l) x e = go (has l y) refl (once-has l x)
+  where
+    keep : (t : Bool) → (t || has l x) ≡ true → (has l x ≡ true → has (eachOnce l) x ≡ true) → (t || has (eachOnce l) x) ≡ true
+    keep true q ih = refl
+    keep false q ih = ih q
+
+    go : (b : Bool) → has l y ≡ b → (has l x ≡ true → has (eachOnce l) x ≡ true) → has (pick b (eachOnce l) (y ∷ eachOnce l)) x ≡ true
+    go false p ih = keep (eqb y x) e ih
+    go true p ih = elim (either (eqb y x)) [
+      | inl t ↦ ih (subst (λ (z : ℕ). has l z ≡ true) (eqb-true y x t) p)
+      | inr t ↦ ih (sym (or-not (eqb y x) (has l x) t) ∙ e)
+    ]
+
+key-sender : (l : List Message) (k : Key) → among (map key l) k ≡ true → has (map (λ (m : Message). m .sender) l) (k .sender) ≡ true
+unfolding among
+key-sender [] k e = e
+key-sender (m ∷ l) k e = elim (either (sameKey (key m) k)) [
+  | inl t ↦ or-yes (eqb (m .sender) (k .sender)) _ (and-l (eqb (m .sender) (k .sender)) _ t)
+  | inr t ↦ right (eqb (m .sender) (k .sender)) (key-sender l k (sym (or-not (sameKey (key m) k) (among (map key l) k) t) ∙ e))
+]
+  where
+    right : (a : Bool) {b : Bool} → b ≡ true → (a || b) ≡ true
+    right true q = refl
+    right false q = q
+
+senders-of : (σ : Scene) → sendersOk σ ≡ true → AtMost16Senders σ
+senders-of σ e = record {
+  senders = sendersOf (σ .messages);
+  few = leb-true _ _ e;
+  all = λ k q. once-has (map (λ (m : Message). m .sender) (σ .messages)) (k .sender) (key-sender (σ .messages) k q);
+}
 
 -- a scene and a feed that pass every test meet the premises
 pub tested : (σ : Scene) (f : Feed) → tests σ f ≡ allPass → Supposed σ f
@@ -257,5 +305,6 @@ tested σ f e = record {
   each-comes = λ i k b c.
       all-at (parts (message σ i)) (got f i) (all-at (size σ) (λ i. allBelow (parts (message σ i)) (got f i)) (ap (λ (t : Tests). t .each-comes) e) i b) k c;
   never-over-eight = eight-of σ f (ap (λ (t : Tests). t .never-over-eight) e);
+  few-senders = senders-of σ (ap (λ (t : Tests). t .few-senders) e);
   never-too-late = late-of σ f (ap (λ (t : Tests). t .never-too-late) e);
 }

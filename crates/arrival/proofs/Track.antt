@@ -5,6 +5,7 @@ use mathlib.Core.Bool.{Bool, true, false, not, _&&_, _||_}
 use mathlib.Core.Option.{Option, none, some}
 use mathlib.Core.List.{List, [], _∷_, map}
 use Prim.Native.Nat.{ℕ, zero, suc, _+_, _≤_, _<_}
+use native.Mathlib.Nat.{not-suc-le-zero, le-of-suc-le-suc}
 use native.Mathlib.Omega.{arith}
 use native.Mathlib.Decide.{ℕ-discrete}
 use lib.Dec.{eqb}
@@ -15,10 +16,10 @@ use Rattle.wire.proofs.Choices.{either, never}
 use Rattle.steps.specs.declared.Key.{Key}
 use Rattle.steps.specs.Limits.{slotCount, ledgerLength}
 use Rattle.steps.specs.Search.{allBelow, one, count}
-use Rattle.steps.specs.Memory.{sameKey, among, Lately}
+use Rattle.steps.specs.Memory.{sameKey, among, Lately, FewSenders, Recent}
 use Rattle.steps.proofs.Tables.{or-not, or-yes, all-at, all-of, all-not, all-cong}
 use Rattle.steps.proofs.Memories.{same-key, key-same}
-use Rattle.arrival.specs.Demand.{Message, Scene, Distinct, EachSent, SentCut, SentSmall, Sent, key, parts, size, message, slotBytes, Event, part, noise, Feed, start, _▹_, RefusedForForm, MayCome, Mixture, NeverOverEight, StillKnown, NeverTooLate, got, begun, done, completes, completed, keysOf, unfinished, push}
+use Rattle.arrival.specs.Demand.{Message, Scene, nobody, Distinct, EachSent, SentCut, SentSmall, Sent, key, parts, size, message, slotBytes, Event, part, noise, Feed, start, _▹_, RefusedForForm, MayCome, Mixture, NeverOverEight, AtMost16Senders, StillKnown, NeverTooLate, got, begun, done, completes, completed, keysOf, unfinished, push}
 
 -- ---- what is supposed, arrival by arrival
 
@@ -32,7 +33,7 @@ pub record MayArrive (σ : Scene) (f : Feed) (i k : ℕ) : Type 0 where
   pub known : i < size σ
   pub exists : k < parts (message σ i)
   pub room : count (unfinished σ f (f ▹ part i k)) (size σ) ≤ slotCount
-  pub recent : done σ f i ≡ true → Lately (keysOf σ (completed σ f)) (key (message σ i))
+  pub recent : done σ f i ≡ true → Recent (keysOf σ (completed σ f)) (key (message σ i))
 
 abbrev pub Arrives : Scene → Feed → Event → Type 0
 Arrives σ f (part i k) = MayArrive σ f i k
@@ -42,13 +43,42 @@ abbrev pub Fair : Scene → Feed → Type 0
 Fair σ start = Unit {0}
 Fair σ (f ▹ e) = Fair σ f × Arrives σ f e
 
-arrival-of : (σ : Scene) (f : Feed) (e : Event) → MayCome σ e → count (unfinished σ f (f ▹ e)) (size σ) ≤ slotCount → StillKnown σ f e → Arrives σ f e
-arrival-of σ f (part i k) a b c = record { known = a .0; exists = a .1; room = b; recent = c }
-arrival-of σ f (noise from d) a b c = a
+-- the completed messages are some of all
+its-key : (l : List Message) (i : ℕ) → i < length l → among (map key l) (key (getD l i nobody)) ≡ true
+unfolding among
+its-key [] i h = absurd (not-suc-le-zero h)
+its-key (m ∷ l) zero h = or-yes (sameKey (key m) (key m)) (among (map key l) (key m)) (key-same (key m))
+its-key (m ∷ l) (suc i) h = or-right (sameKey (key m) (key (getD l i nobody))) (its-key l i (le-of-suc-le-suc h))
+  where
+    or-right : (a : Bool) {b : Bool} → b ≡ true → (a || b) ≡ true
+    or-right true e = refl
+    or-right false e = e
 
-pub fair-of : (σ : Scene) (f : Feed) → Mixture σ f → NeverOverEight σ f → NeverTooLate σ f → Fair σ f
-fair-of σ start a b c = tt
-fair-of σ (f ▹ e) a b c = (fair-of σ f (a .0) (b .0) (c .0), arrival-of σ f e (a .1) (b .1) (c .1))
+some-of-all : (σ : Scene) (f : Feed) → Mixture σ f → (k : Key) → among (keysOf σ (completed σ f)) k ≡ true → among (map key (σ .messages)) k ≡ true
+unfolding completed completes among
+some-of-all σ start a k e = never e refl
+some-of-all σ (f ▹ noise from d) a k e = some-of-all σ f (a .0) k e
+some-of-all σ (f ▹ part i j) a k e = go (not (done σ f i) && done σ (f ▹ part i j) i) (some-of-all σ f (a .0) k) e
+  where
+    go : (b : Bool) → (among (keysOf σ (completed σ f)) k ≡ true → among (map key (σ .messages)) k ≡ true)
+        → among (keysOf σ (push (pick b (some i) none) (completed σ f))) k ≡ true → among (map key (σ .messages)) k ≡ true
+    go false ih q = ih q
+    go true ih q = elim (either (sameKey (key (message σ i)) k)) [
+      | inl t ↦ subst (λ (x : Key). among (map key (σ .messages)) x ≡ true) (same-key (key (message σ i)) k t) (its-key (σ .messages) i (a .1 .0))
+      | inr t ↦ ih (sym (or-not (sameKey (key (message σ i)) k) (among (keysOf σ (completed σ f)) k) t) ∙ q)
+    ]
+
+arrival-of : (σ : Scene) (f : Feed) (e : Event) → MayCome σ e → count (unfinished σ f (f ▹ e)) (size σ) ≤ slotCount
+    → FewSenders (keysOf σ (completed σ f)) → StillKnown σ f e → Arrives σ f e
+arrival-of σ f (part i k) a b w c = record { known = a .0; exists = a .1; room = b; recent = λ d. record { lately = c d; few = w } }
+arrival-of σ f (noise from d) a b w c = a
+
+pub fair-of : (σ : Scene) (f : Feed) → Mixture σ f → NeverOverEight σ f → AtMost16Senders σ → NeverTooLate σ f → Fair σ f
+fair-of σ start a b w c = tt
+fair-of σ (f ▹ e) a b w c = (
+  fair-of σ f (a .0) (b .0) w (c .0),
+  arrival-of σ f e (a .1) (b .1) (record { senders = w .senders; few = w .few; all = λ k q. w .all k (some-of-all σ f (a .0) k q) }) (c .1),
+)
 
 -- how often i stands in l
 unfoldable pub times : ℕ → List ℕ → ℕ

@@ -9,7 +9,7 @@ use Rattle.cutter.specs.Trip.{joined}
 use Rattle.steps.specs.Memory.{since}
 use Rattle.steps.specs.Worked.{A-of, B-of}
 use Rattle.arrival.specs.Demand.{done, unfinished, completes, completed, Promised}
-use Rattle.arrival.specs.Worked.{small-of, paperScene, paperFeed, nineScene, fromEach, nineFeed}
+use Rattle.arrival.specs.Worked.{small-of, paperScene, paperFeed, nineScene, fromEach, nineFeed, mastScene, mastFeed, sixteenScene, sixteenFeed}
 use Rattle.arrival.proofs.Tests.{tests, allPass, tested}
 use Rattle.arrival.proofs.Demand3.{demand3}
 
@@ -26,3 +26,17 @@ nine-meet = refl
 
 pub nine-promised : Promised nineScene nineFeed
 nine-promised = demand3 nineScene nineFeed (tested nineScene nineFeed nine-meet)
+
+mast-meets : tests mastScene mastFeed ≡ allPass
+unfolding tests done unfinished completes completed since joined said readDatagram readSmall readFragment formed goodForm nameLength goodName untilZero be A-of B-of small-of fromEach
+mast-meets = refl
+
+pub mast-promised : Promised mastScene mastFeed
+mast-promised = demand3 mastScene mastFeed (tested mastScene mastFeed mast-meets)
+
+sixteen-meet : tests sixteenScene sixteenFeed ≡ allPass
+unfolding tests done unfinished completes completed since joined said readDatagram readSmall readFragment formed goodForm nameLength goodName untilZero be small-of fromEach
+sixteen-meet = refl
+
+pub sixteen-promised : Promised sixteenScene sixteenFeed
+sixteen-promised = demand3 sixteenScene sixteenFeed (tested sixteenScene sixteenFeed sixteen-meet)

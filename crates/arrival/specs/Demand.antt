@@ -15,7 +15,7 @@ use Rattle.cutter.specs.Trip.{joined}
 use Rattle.steps.specs.Limits.{slotCount, ledgerLength, slotSizeOf}
 use Rattle.steps.specs.Search.{allBelow, one, count}
 use Rattle.steps.specs.declared.Key.{Key}
-use Rattle.steps.specs.Memory.{keyOf, sameKey, Lately}
+use Rattle.steps.specs.Memory.{keyOf, sameKey, Lately, FewSenders}
 use Rattle.steps.specs.Slots.{busy, slotAt}
 use Rattle.steps.specs.Receive.{After}
 use Rattle.steps.specs.Answers.{Reply, refusedBy, kept, repeat, delivered, reply, emptiedKey}
@@ -166,7 +166,12 @@ abbrev pub NeverOverEight : Scene → Feed → Type 0
 NeverOverEight σ start = Unit {0}
 NeverOverEight σ (f ▹ e) = NeverOverEight σ f × (count (unfinished σ f (f ▹ e)) (size σ) ≤ slotCount)
 
--- ==== "no datagram comes again once 64 other messages have been delivered since its own"
+-- ==== "at most 16 senders"
+
+abbrev pub AtMost16Senders : Scene → Type 0
+AtMost16Senders σ = FewSenders (map key (σ .messages))
+
+-- ==== "no datagram comes again once 32 other messages of its own sender have been delivered since its own"
 
 -- the message that arrival e completes
 unfoldable pub completes : Scene → Feed → Event → Option ℕ
@@ -202,6 +207,7 @@ pub record Supposed (σ : Scene) (f : Feed) : Type 0 where
   pub mixture : Mixture σ f
   pub each-comes : EachComes σ f
   pub never-over-eight : NeverOverEight σ f
+  pub few-senders : AtMost16Senders σ
   pub never-too-late : NeverTooLate σ f
 
 -- ==== "Then each message is delivered once, at the arrival that completes it, with its own name and bytes."

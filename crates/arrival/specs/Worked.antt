@@ -1,4 +1,4 @@
--- Worked feeds: the paper's B, A, B; nine messages with eight open at once; and for each premise a feed without it. Definitions only.
+-- Worked feeds: the paper's B, A, B; nine messages with eight open at once; a mast beside a tile; 16 senders; and for each premise a feed without it. Definitions only.
 use mathlib.Core.Path.{_≡_}
 use mathlib.Core.Bool.{Bool, true, false}
 use mathlib.Core.List.{List, [], _∷_}
@@ -50,6 +50,25 @@ fromEach f k i (suc n) = fromEach f k i n ▹ part (i + n) k
 abbrev pub nineFeed : Feed
 nineFeed = fromEach (fromEach start 1 0 8 ▹ part 0 0 ▹ part 8 1) 0 1 8
 
+-- ---- a tile in two fragments, with 200 small messages of a mast among them: 100 before it is whole, and 100 before a fragment comes again
+
+abbrev pub smallFrom : ℕ → ℕ → Message
+smallFrom from q = record { sender = from; sequence = q; name = 0x50 ∷ []; payload = 0x41 ∷ []; fragmented = false; datagrams = small-of q 0x41 ∷ [] }
+
+abbrev pub mastScene : Scene
+mastScene = sceneOf (inTwo 7 ∷ table 200 (λ q. smallFrom 1 q))
+
+abbrev pub mastFeed : Feed
+mastFeed = fromEach (fromEach (start ▹ part 0 1) 0 1 100 ▹ part 0 0) 0 101 100 ▹ part 0 1
+
+-- ---- a small message of each of 16 senders, then all again
+
+abbrev pub sixteenScene : Scene
+sixteenScene = sceneOf (table 16 (λ from. smallFrom from 7))
+
+abbrev pub sixteenFeed : Feed
+sixteenFeed = fromEach (fromEach start 0 0 16) 0 0 16
+
 -- ---- feeds that break the promise, each for want of one premise
 
 -- two messages of one key
@@ -97,12 +116,19 @@ lackingFeed = start ▹ part 0 1
 abbrev pub crowdedFeed : Feed
 crowdedFeed = fromEach (fromEach start 1 0 9) 0 0 9
 
--- 65 small messages, and the first again
+-- 33 small messages of one sender, and the first again
 abbrev pub manyScene : Scene
-manyScene = sceneOf (table 65 (λ q. inOne q 0x41))
+manyScene = sceneOf (table 33 (λ q. inOne q 0x41))
 
 abbrev pub manyFeed : Feed
-manyFeed = fromEach start 0 0 65 ▹ part 0 0
+manyFeed = fromEach start 0 0 33 ▹ part 0 0
+
+-- a small message of each of 17 senders, and the first again
+abbrev pub throngScene : Scene
+throngScene = sceneOf (table 17 (λ from. smallFrom from 7))
+
+abbrev pub throngFeed : Feed
+throngFeed = fromEach start 0 0 17 ▹ part 0 0
 
 -- ---- and what is lost, though the calls are the same, when somebody changes the store or the ledger, or calls forget, between B and A
 
@@ -124,6 +150,7 @@ pub record EachNeeded : Type 0 where
   pub mixture : Promised oneScene strangerFeed → ⊥
   pub each-comes : Promised oneScene lackingFeed → ⊥
   pub never-over-eight : Promised nineScene crowdedFeed → ⊥
+  pub few-senders : Promised throngScene throngFeed → ⊥
   pub never-too-late : Promised manyScene manyFeed → ⊥
   -- untouched it is delivered
   pub untouched : inBetween (λ m. m) (λ s. s) (λ l. l) ≡ delivered (0x41 ∷ 0x42 ∷ 0x43 ∷ [])

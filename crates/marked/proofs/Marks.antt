@@ -9,7 +9,7 @@ use Rattle.datagram.specs.Read.{readSmall, goodForm, formed, readFragment, read
 use Rattle.datagram.specs.Said.{said}
 use Rattle.cutter.specs.Cut.{countOf, smallBytes, headBytes, pieceOf, fragmentBytes, datagramOf}
 use Rattle.steps.specs.Held.{noneHeld, isHeld, hold}
-use Rattle.steps.specs.Memory.{among, emptyMemory, isRemembered, remember, memoryOk}
+use Rattle.steps.specs.Memory.{among, emptyMemory, isRemembered, remember, placeFor, withKey, memoryOk}
 use Rattle.steps.specs.Slots.{oldest, openCount, lower, release, seat, opening, filled}
 use Rattle.steps.specs.Receive.{opened, stay, sameFragment, agrees, step3, decide, step5, act, receive, sound, step}
 use Rattle.steps.specs.Runs.{run}
@@ -24,5 +24,5 @@ use Rattle.marked.specs.Ask.{Given, given}
 use Rattle.marked.specs.Table.{Case, cases}
 
 pub marked : map (λ (c : Case). given (c .ask)) cases ≡ map (λ (c : Case). c .gives) cases
-unfolding be bytes overlay sum goodName untilZero nameLength readSmall goodForm formed readFragment readDatagram said countOf smallBytes headBytes pieceOf fragmentBytes datagramOf noneHeld isHeld hold among emptyMemory isRemembered remember memoryOk oldest openCount lower release seat opening filled opened stay sameFragment agrees step3 decide step5 act receive sound step run zipWith setLast moved askedAt asked after run.prepend run.andThen run.after run.repeat run.whole fault numberOf judged readValue readCount typed known readHeader readHead item field fields object root frame readMessage
+unfolding be bytes overlay sum goodName untilZero nameLength readSmall goodForm formed readFragment readDatagram said countOf smallBytes headBytes pieceOf fragmentBytes datagramOf noneHeld isHeld hold among emptyMemory isRemembered remember placeFor withKey memoryOk oldest openCount lower release seat opening filled opened stay sameFragment agrees step3 decide step5 act receive sound step run zipWith setLast moved askedAt asked after run.prepend run.andThen run.after run.repeat run.whole fault numberOf judged readValue readCount typed known readHeader readHead item field fields object root frame readMessage
 marked = refl

@@ -1,47 +1,122 @@
--- Laws of the definitions of specs/Words.antt, one turn at a time, as the loops use them.
+-- Laws of the definitions, one turn at a time, as the loops use them.
 use mathlib.Core.Path.{_≡_, refl, sym, _∙_, ap}
-use mathlib.Core.Bool.{Bool, true, false, _&&_, _||_}
+use mathlib.Core.Bool.{Bool, true, false, not, _&&_, _||_}
+use mathlib.Core.Option.{Option, none, some, Option·map}
 use mathlib.Core.List.{List, [], _∷_, _++_}
-use Prim.Native.Nat.{ℕ, zero, suc, _+_, _≤_, _<_}
+use Prim.Native.Nat.{ℕ, zero, suc, _+_, _≤_, _<_, min}
 use native.Mathlib.Numerals.{add-one}
-use native.Mathlib.Decide.{ℕ-discrete}
+use native.Mathlib.Decide.{ℕ-discrete, decLe}
 use native.Mathlib.Omega.{arith}
 use borrow.Author.Tests.{eq-eqb, ne-eqb}
-use lib.Dec.{eqb}
-use lib.ListN.{length, getD, set, take, drop, replicate, length-append, length-set}
-use lib.Seq.{drop-cons, take-at, set-append-seam, append-snoc}
-use Rattle.wire.proofs.Choices.{and-false}
-use Rattle.steps.specs.Limits.{memorySize}
-use Rattle.memory.specs.Words.{senders, sequences, someBelow, keyAt, shiftedIn, othersIn, front, sievedIn}
-use Rattle.memory.specs.declared.Sieved.{Sieved}
+use lib.Dec.{eqb, leb}
+use lib.ListN.{length, getD, set, take, length-set, length-take}
+use lib.Seq.{take-suc, take-all}
+use Rattle.wire.specs.Choice.{pick}
+use Rattle.wire.proofs.Choices.{and-false, pick-all}
+use Rattle.words.specs.Builds.{build}
+use Rattle.words.proofs.Builds.{length-build, getD-build}
+use Rattle.steps.specs.Limits.{sendersMost, keysEach}
+use Rattle.steps.specs.Search.{allBelow, first}
+use Rattle.steps.proofs.Tables.{all-cong}
+use Rattle.steps.specs.Memory.{Place, vacant, isOf, remembered, has, orElse, placeAt, noPlace, memoryOk}
+use Rattle.memory.specs.Words.{senderAt, usedAt, sequencesAt, sequencesIn, placeIn, memoryIn}
+use Rattle.memory.specs.Parts.{shiftedIn, freedAt, freedIn}
+
+-- ---- the first place that passes
+
+module _ {A : Type 0} (p : A → Bool) where
+  pub first-here : (n : ℕ) (f : ℕ → A) (i : ℕ) → i < n → ((j : ℕ) → j < i → p (f j) ≡ false) → p (f i) ≡ true → first p (build n f) ≡ some i
+  first-here zero f i h a e = absurd (omega arith)
+  first-here (suc n) f zero h a e = rw e
+  first-here (suc n) f (suc i) h a e = rw (a 0 (omega arith), first-here n (λ j. f (suc j)) i (omega arith) (λ j b. a (suc j) (omega arith)) e)
+
+  pub first-nowhere : (n : ℕ) (f : ℕ → A) → ((j : ℕ) → j < n → p (f j) ≡ false) → first p (build n f) ≡ none
+  first-nowhere zero f a = refl
+  first-nowhere (suc n) f a = rw (a 0 (omega arith), first-nowhere n (λ j. f (suc j)) (λ j b. a (suc j) (omega arith)))
+
+pub found-at : (p : Place → Bool) (w : List ℕ) (i : ℕ) → i < sendersMost → ((j : ℕ) → j < i → p (placeIn w j) ≡ false) → p (placeIn w i) ≡ true
+    → i ≡ orElse (first p (memoryIn w)) sendersMost
+unfolding memoryIn
+found-at p w i h a e = sym (ap (λ (o : Option ℕ). orElse o sendersMost) (first-here p sendersMost (placeIn w) i h a e))
+
+pub found-none : (p : Place → Bool) (w : List ℕ) → ((j : ℕ) → j < sendersMost → p (placeIn w j) ≡ false) → sendersMost ≡ orElse (first p (memoryIn w)) sendersMost
+unfolding memoryIn
+found-none p w a = sym (ap (λ (o : Option ℕ). orElse o sendersMost) (first-nowhere p sendersMost (placeIn w) a))
+
+pub of-other : (w : List ℕ) (i s : ℕ) → (getD w (senderAt i) 0 ≡ s → ⊥) → isOf s (placeIn w i) ≡ false
+of-other w i s d = rw (ne-eqb _ _ d) (and-false (not (vacant (placeIn w i))))
+
+pub of-by : (w : List ℕ) (i s : ℕ) → getD w (senderAt i) 0 ≡ s → isOf s (placeIn w i) ≡ not (eqb (getD w (usedAt i) 0) 0)
+of-by w i s e = rw (eq-eqb _ _ e) (go (not (eqb (getD w (usedAt i) 0) 0)))
+  where
+    go : (b : Bool) → (b && true) ≡ b
+    go true = refl
+    go false = refl
+
+-- ---- a sequence is looked for among the first of a list
+
+has-snoc : (l : List ℕ) (x q : ℕ) → has (l ++ (x ∷ [])) q ≡ (has l q || eqb x q)
+has-snoc [] x q = go (eqb x q)
+  where
+    go : (b : Bool) → (b || false) ≡ b
+    go true = refl
+    go false = refl
+has-snoc (y ∷ l) x q = rw (has-snoc l x q) (go (eqb y q) (has l q) (eqb x q))
+  where
+    go : (b c d : Bool) → (b || (c || d)) ≡ ((b || c) || d)
+    go true c d = refl
+    go false c d = refl
 
 or-true : (b : Bool) → (b || true) ≡ true
 or-true true = refl
 or-true false = refl
 
-module _ (p : ℕ → Bool) where
-  pub some-more : (i : ℕ) → someBelow p i ≡ false → p i ≡ false → someBelow p (i + 1) ≡ false
-  some-more i a e = rw add-one (rw (a, e))
+module _ (l : List ℕ) (q : ℕ) where
+  pub has-more : (j : ℕ) → j < length l → has (take j l) q ≡ false → eqb (getD l j 0) q ≡ false → has (take (j + 1) l) q ≡ false
+  has-more j h a e = rw add-one (rw (take-suc l j 0 h, has-snoc (take j l) (getD l j 0) q, a, e))
 
-  pub some-hit : (i n : ℕ) → i < n → p i ≡ true → someBelow p n ≡ true
-  some-hit i zero h e = absurd (omega arith)
-  some-hit i (suc n) h e = elim (ℕ-discrete i n) [
-    | yes q ↦ rw (sym (ap p q) ∙ e) (or-true (someBelow p n))
-    | no q ↦ rw (some-hit i n (omega arith) e)
+  pub has-hit : (j n : ℕ) → j < n → n ≤ length l → eqb (getD l j 0) q ≡ true → has (take n l) q ≡ true
+  has-hit j zero h b e = absurd (omega arith)
+  has-hit j (suc n) h b e = elim (ℕ-discrete j n) [
+    | yes z ↦ rw (take-suc l n 0 (omega arith), has-snoc (take n l) (getD l n 0) q, sym (ap (λ (i : ℕ). eqb (getD l i 0) q) z) ∙ e) (or-true (has (take n l) q))
+    | no z ↦ rw (take-suc l n 0 (omega arith), has-snoc (take n l) (getD l n 0) q, has-hit j n (omega arith) (omega arith) e)
   ]
 
--- ---- a key
+  -- more count than there are
+  pub take-min : (n m : ℕ) → length l ≡ m → take n l ≡ take (min n m) l
+  take-min n m e = elim (decLe n m) [
+    | yes h ↦ let z : min n m ≡ n = omega arith in rw z
+    | no h ↦ take-all n l (omega arith) ∙ sym (take-all (min n m) l (omega arith))
+  ]
 
-module _ (m : List ℕ) (s q i : ℕ) where
-  pub key-other : (getD m (sequences + i) 0 ≡ q → ⊥) → keyAt m s q i ≡ false
-  key-other d = rw (ne-eqb _ _ d) (and-false (eqb (getD m (senders + i) 0) s))
+module _ (w : List ℕ) (i q n : ℕ) (e : n ≡ min (getD w (usedAt i) 0) keysEach) where
+  kept-are : take (getD w (usedAt i) 0) (sequencesIn w i) ≡ take n (sequencesIn w i)
+  kept-are = take-min (sequencesIn w i) q (getD w (usedAt i) 0) keysEach (length-build keysEach (λ j. getD w (sequencesAt i + j) 0)) ∙ ap (λ (k : ℕ). take k (sequencesIn w i)) (sym e)
 
-  pub key-by : getD m (sequences + i) 0 ≡ q → keyAt m s q i ≡ eqb (getD m (senders + i) 0) s
-  key-by e = rw (eq-eqb _ _ e) (go (eqb (getD m (senders + i) 0) s))
-    where
-      go : (b : Bool) → (b && true) ≡ b
-      go true = refl
-      go false = refl
+  pub key-hit : (j : ℕ) → j < n → getD w (sequencesAt i + j) 0 ≡ q → has (remembered (placeIn w i)) q ≡ true
+  key-hit j h f = rw kept-are (has-hit (sequencesIn w i) q j n h (omega (arith, length-build keysEach (λ j. getD w (sequencesAt i + j) 0)))
+      (ap (λ (x : ℕ). eqb x q) (getD-build keysEach (λ j. getD w (sequencesAt i + j) 0) j 0 (omega arith)) ∙ eq-eqb _ _ f))
+
+  pub key-more : (j : ℕ) → j < n → has (take j (sequencesIn w i)) q ≡ false → (getD w (sequencesAt i + j) 0 ≡ q → ⊥) → has (take (j + 1) (sequencesIn w i)) q ≡ false
+  key-more j h a f = has-more (sequencesIn w i) q j (omega (arith, length-build keysEach (λ j. getD w (sequencesAt i + j) 0))) a
+      (ap (λ (x : ℕ). eqb x q) (getD-build keysEach (λ j. getD w (sequencesAt i + j) 0) j 0 (omega arith)) ∙ ne-eqb _ _ f)
+
+  pub key-missed : has (take n (sequencesIn w i)) q ≡ false → has (remembered (placeIn w i)) q ≡ false
+  key-missed a = rw kept-are a
+
+-- ---- refusal 9
+
+-- not over 32 sequences count at place i
+abbrev pub fewAt : List ℕ → ℕ → Bool
+fewAt w i = leb (getD w (usedAt i) 0) keysEach
+
+pub ok-is : (w : List ℕ) → memoryOk (memoryIn w) ≡ allBelow sendersMost (fewAt w)
+unfolding memoryOk memoryIn
+ok-is w = all-cong sendersMost (λ i. leb (placeAt (build sendersMost (placeIn w)) i .used) keysEach) (fewAt w)
+    (λ i b. ap (λ (p : Place). leb (p .used) keysEach) (getD-build sendersMost (placeIn w) i noPlace b))
+
+pub all-more : (p : ℕ → Bool) (i : ℕ) → allBelow i p ≡ true → p i ≡ true → allBelow (i + 1) p ≡ true
+all-more p i a e = rw add-one (rw (a, e))
 
 -- ---- numbers that take the next one's place
 
@@ -60,44 +135,20 @@ unfolding shiftedIn
 shifted-length m a zero = refl
 shifted-length m a (suc i) = length-set (shiftedIn m a i) (a + i) _ ∙ shifted-length m a i
 
--- ---- the numbers of other senders, at the front of the list z
+-- ---- places that are freed
 
-snoc-length : (k : List ℕ) (v : ℕ) → length (k ++ (v ∷ [])) ≡ suc (length k)
-snoc-length k v = omega (arith, length-append k (v ∷ []))
+pub freed-none : (w : List ℕ) (s : ℕ) → w ≡ freedIn w s 0
+unfolding freedIn
+freed-none w s = refl
 
-front-more : (k z : List ℕ) (v : ℕ) → length k < length z → set (front k z) (length k) v ≡ front (k ++ (v ∷ [])) z
-front-more k z v h = rw (drop-cons z (length k) 0 h, set-append-seam k (getD z (length k) 0) (drop (suc (length k)) z) v, snoc-length k v, append-snoc k v (drop (suc (length k)) z))
+pub freed-more : (w v u : List ℕ) (s i : ℕ) → v ≡ freedIn w s i → u ≡ freedAt v s i → u ≡ freedIn w s (i + 1)
+unfolding freedIn
+freed-more w v u s i e f =
+    let p : i + 1 ≡ suc i = omega arith in
+    rw (f, e, p)
 
-module _ (m : List ℕ) (a i s : ℕ) where
-  others-other : (getD m (senders + i) 0 ≡ s → ⊥) → othersIn m a (i + 1) s ≡ othersIn m a i s ++ (getD m (a + i) 0 ∷ [])
-  others-other h = rw add-one (rw (ne-eqb _ _ h))
-
-  pub others-same : getD m (senders + i) 0 ≡ s → othersIn m a (i + 1) s ≡ othersIn m a i s
-  others-same h = rw add-one (rw (eq-eqb _ _ h))
-
-  pub others-length : (getD m (senders + i) 0 ≡ s → ⊥) → length (othersIn m a (i + 1) s) ≡ length (othersIn m a i s) + 1
-  others-length h = rw (others-other h) (omega (arith, snoc-length (othersIn m a i s) (getD m (a + i) 0)))
-
-  pub others-front : (z out : List ℕ) (j x : ℕ) → (getD m (senders + i) 0 ≡ s → ⊥) → j ≡ length (othersIn m a i s) → j < length z
-      → out ≡ front (othersIn m a i s) z → x ≡ getD m (a + i) 0 → set out j x ≡ front (othersIn m a (i + 1) s) z
-  others-front z out j x h e g eo ex =
-      let g′ : length (othersIn m a i s) < length z = omega arith in
-      rw (others-other h, eo, e, ex) (front-more (othersIn m a i s) z (getD m (a + i) 0) g′)
-
--- ---- what a sieve gives
-
-module _ (m : List ℕ) (a n s : ℕ) (r : Sieved) (e : r ≡ sievedIn m a n s) where
-  pub sieved-count : r .n ≡ length (othersIn m a n s)
-  unfolding sievedIn
-  sieved-count = ap (λ (x : Sieved). x .n) e
-
-  pub sieved-take : take (r .n) (r .values) ≡ othersIn m a n s
-  unfolding sievedIn
-  sieved-take = ap (λ (x : Sieved). take (x .n) (x .values)) e ∙ take-at (othersIn m a n s) _ _ refl
-
-  pub sieved-long : r .n ≡ length (take (r .n) (r .values))
-  sieved-long = sieved-count ∙ sym (ap length sieved-take)
-
-  pub sieved-fits : r .n ≤ length (r .values)
-  unfolding sievedIn
-  sieved-fits = rw e (omega (arith, length-append (othersIn m a n s) (drop (length (othersIn m a n s)) (replicate memorySize 0))))
+pub freed-length : (w : List ℕ) (s n : ℕ) → length (freedIn w s n) ≡ length w
+unfolding freedIn
+freed-length w s zero = refl
+freed-length w s (suc n) = pick-all (λ (v : List ℕ). length v ≡ length w) (eqb (getD (freedIn w s n) (senderAt n) 0) s)
+    (λ e. length-set (freedIn w s n) (usedAt n) 0 ∙ freed-length w s n) (λ e. freed-length w s n)

@@ -1,62 +1,46 @@
--- The memory's words, and what its functions find and leave in them. Definitions only.
--- Word 0 is the number of remembered keys; then come 64 senders and 64 sequences, the oldest key first.
-use mathlib.Core.Bool.{Bool, true, false, _&&_, _||_}
-use mathlib.Core.List.{List, [], _∷_, _++_}
-use Prim.Native.Nat.{ℕ, zero, suc, _+_, _-_, min}
-use lib.ListN.{length, getD, set, drop, replicate}
-use lib.Dec.{eqb, ltb}
-use Rattle.wire.specs.Choice.{pick}
-use Rattle.wire.specs.Overlay.{overlay}
-use Rattle.steps.specs.Limits.{memorySize}
-use Rattle.memory.specs.declared.Sieved.{Sieved}
+-- The memory's words, and the memory of the step list that they show. Definitions only.
+-- First come the senders of the 16 places, then how many sequences count at each, then the turns, then 32 sequences for each place.
+use mathlib.Core.Path.{_≡_}
+use mathlib.Core.List.{List}
+use Prim.Native.Nat.{ℕ, _+_, _*_}
+use lib.ListN.{length, getD}
+use Rattle.words.specs.Builds.{build}
+use Rattle.steps.specs.Limits.{sendersMost, keysEach}
+use Rattle.steps.specs.Memory.{Place, Memory}
 
--- where the senders begin
-abbrev pub senders : ℕ
-senders = 1
+-- where the words of place i stand
+abbrev pub senderAt : ℕ → ℕ
+senderAt i = i
 
--- where the sequences begin
-abbrev pub sequences : ℕ
-sequences = 65
+abbrev pub usedAt : ℕ → ℕ
+usedAt i = sendersMost + i
+
+abbrev pub turnsAt : ℕ
+turnsAt = 2 * sendersMost
+
+abbrev pub turnAt : ℕ → ℕ
+turnAt i = turnsAt + i
+
+abbrev pub sequencesAt : ℕ → ℕ
+sequencesAt i = 3 * sendersMost + keysEach * i
 
 -- how many words a memory has
 abbrev pub memoryWords : ℕ
-memoryWords = 129
+memoryWords = sequencesAt sendersMost
 
--- some number below n passes
-abbrev pub someBelow : (ℕ → Bool) → ℕ → Bool
-someBelow p zero = false
-someBelow p (suc n) = someBelow p n || p n
+-- ---- what they show
 
--- key i is that of the sender s and the sequence q
-abbrev pub keyAt : List ℕ → ℕ → ℕ → ℕ → Bool
-keyAt m s q i = eqb (getD m (senders + i) 0) s && eqb (getD m (sequences + i) 0) q
+abbrev pub sequencesIn : List ℕ → ℕ → List ℕ
+sequencesIn w i = build keysEach (λ j. getD w (sequencesAt i + j) 0)
 
--- the first n numbers from a on have each taken the next one's place
-unfoldable pub shiftedIn : List ℕ → ℕ → ℕ → List ℕ
-shiftedIn m a zero = m
-shiftedIn m a (suc n) = set (shiftedIn m a n) (a + n) (getD (shiftedIn m a n) (a + n + 1) 0)
+abbrev pub placeIn : List ℕ → ℕ → Place
+placeIn w i = record { sender = getD w (senderAt i) 0; used = getD w (usedAt i) 0; turn = getD w (turnAt i) 0; sequences = sequencesIn w i }
 
--- one key more; of 64 the oldest is dropped
-unfoldable pub rememberedIn : List ℕ → ℕ → ℕ → List ℕ
-rememberedIn m s q =
-    pick (ltb (getD m 0 0) memorySize)
-    (set (set (set m (senders + getD m 0 0) s) (sequences + getD m 0 0) q) 0 (getD m 0 0 + 1))
-    (set (shiftedIn (set (shiftedIn m senders (memorySize - 1)) (senders + memorySize - 1) s) sequences (memorySize - 1)) (sequences + memorySize - 1) q)
+unfoldable pub memoryIn : List ℕ → Memory
+memoryIn w = build sendersMost (placeIn w)
 
--- of the numbers from a on those of the first n keys whose sender is another, in their order
-abbrev pub othersIn : List ℕ → ℕ → ℕ → ℕ → List ℕ
-othersIn m a zero s = []
-othersIn m a (suc n) s = pick (eqb (getD m (senders + n) 0) s) (othersIn m a n s) (othersIn m a n s ++ (getD m (a + n) 0 ∷ []))
-
--- with zeros after them, 64 in all
-abbrev pub front : List ℕ → List ℕ → List ℕ
-front k z = k ++ drop (length k) z
-
-unfoldable pub sievedIn : List ℕ → ℕ → ℕ → ℕ → Sieved
-sievedIn m a n s = record { values = front (othersIn m a n s) (replicate memorySize 0); n = length (othersIn m a n s) }
-
--- the sender's keys are dropped, and the others move up in their order
-unfoldable pub forgottenIn : List ℕ → ℕ → List ℕ
-forgottenIn m s =
-    let n = min (getD m 0 0) memorySize in
-    set (overlay (overlay m senders (othersIn m senders n s)) sequences (othersIn m sequences n s)) 0 (length (othersIn m senders n s))
+-- the words w were lent, and w′ are left: they show the memory m. A slice of another length is no memory, and stays as it is.
+pub record Left (w : List ℕ) (m : Memory) (w′ : List ℕ) : Type 0 where
+  pub shows : length w ≡ memoryWords → memoryIn w′ ≡ m
+  pub words : length w′ ≡ length w
+  pub still : (length w ≡ memoryWords → ⊥) → w′ ≡ w

@@ -1,118 +1,235 @@
-// The memory of delivered keys: 129 words, the last of a receiver's state. Every function is total over any slice.
+// The memory of delivered keys: the last words of a receiver's state. 16 places for senders, each with its last 32 sequences.
+// Every public function is total over any slice.
+use words::Ranked;
 ghost use mathlib.Core.Path.{_≡_};
-ghost use Prim.Native.Nat.{_-_, _≤_, _<_, min};
-ghost use lib.ListN.{getD};
-ghost use Rattle.steps.specs.Limits.{memorySize};
-ghost use Rattle.memory.specs.Words.{senders, sequences, someBelow, keyAt, shiftedIn, rememberedIn, sievedIn, forgottenIn};
+ghost use Prim.Native.Nat.{_≤_, _<_, _-_};
+ghost use lib.ListN.{length, getD};
+ghost use Rattle.steps.specs.Limits.{sendersMost, keysEach};
+ghost use Rattle.steps.specs.Search.{first};
+ghost use Rattle.steps.specs.Memory.{keyOf, isOf, vacant, remembered, has, orElse, placeFor, countOf, isRemembered, forgetKeys, memoryOk};
+ghost use Rattle.steps.specs.Memory as steps;
+ghost use Rattle.memory.specs.Words.{sequencesAt, placeIn, memoryIn, Left};
+ghost use Rattle.memory.specs.Parts.{turnRanks, settledIn, shiftedIn, addedIn, freedAt, freedIn};
 
-// How many keys are remembered.
-pub const MEMORY_SIZE: usize = 64;
-// Where their senders begin, after the word that says how many there are.
-const SENDERS: usize = 1;
-// Where their sequences begin.
-const SEQUENCES: usize = 65;
+// For how many senders keys are remembered, and how many for each.
+pub const SENDERS_MOST: usize = 16;
+
+pub const KEYS_EACH: usize = 32;
+// Where the words of the places stand: senders, how many sequences count, turns, and sequences.
+const USED: usize = SENDERS_MOST;
+
+const TURNS: usize = 2 * SENDERS_MOST;
+
+const SEQUENCES: usize = 3 * SENDERS_MOST;
 // The words of a memory.
-pub const MEMORY_WORDS: usize = 129;
+pub const WORDS: usize = SEQUENCES + KEYS_EACH * SENDERS_MOST;
 
-// How many of the keys count: at most as many as there is room for.
-fn used(memory: &[u64]) -> usize
-    ensures { λ r. ⌜ (r ≡ min (getD (now (memory .entry)) 0 0) memorySize) × (r ≤ memorySize) ⌝ }
+// The turns are ranks of their own: no other word says whether a place has one.
+fn turns() -> Ranked
+    ensures { λ r. ⌜ r ≡ turnRanks ⌝ }
 {
-    wire::least(words::word(memory, 0) as usize, MEMORY_SIZE)
+    Ranked {
+        first: TURNS,
+        stride: 1,
+        mark: 0,
+        rank: 0,
+    }
 }
 
-fn is_key(memory: &[u64], i: usize, sender: u64, sequence: u64) -> bool
-    requires { ⌜ i < memorySize ⌝ }
-    ensures { λ r. ⌜ r ≡ keyAt (now (memory .entry)) sender sequence i ⌝ }
+// ---- a place is found
+
+fn is_of(memory: &[u64], i: usize, sender: u64) -> bool
+    requires { ⌜ i < sendersMost ⌝ }
+    ensures { λ r. ⌜ r ≡ isOf sender (placeIn (now (memory .entry)) i) ⌝ }
 {
-    // Keys differ in their sequence more often than in their sender.
-    if words::word(memory, SEQUENCES + i) != sequence {
+    // Most places are another's.
+    if words::word(memory, i) != sender {
         return false;
     }
-    words::word(memory, SENDERS + i) == sender
+    words::word(memory, USED + i) != 0
 }
 
-// The key is remembered.
-pub fn is_remembered(memory: &[u64], sender: u64, sequence: u64) -> bool
-    ensures { λ r. ⌜ r ≡ someBelow (keyAt (now (memory .entry)) sender sequence) (min (getD (now (memory .entry)) 0 0) memorySize) ⌝ }
+// The sender's place, or 16.
+fn own_place(memory: &[u64], sender: u64) -> usize
+    ensures { λ r. ⌜ r ≡ orElse (first (isOf sender) (memoryIn (now (memory .entry)))) sendersMost ⌝ }
 {
-    let n = used(memory);
     let mut i: usize = 0;
-    while i < n {
-        if is_key(memory, i, sender, sequence) {
-            return true;
+    while i < SENDERS_MOST {
+        if is_of(memory, i, sender) {
+            return i;
         }
         i += 1;
+    }
+    SENDERS_MOST
+}
+
+// The first free place, or 16.
+fn free_place(memory: &[u64]) -> usize
+    ensures { λ r. ⌜ r ≡ orElse (first vacant (memoryIn (now (memory .entry)))) sendersMost ⌝ }
+{
+    let mut i: usize = 0;
+    while i < SENDERS_MOST {
+        if words::word(memory, USED + i) == 0 {
+            return i;
+        }
+        i += 1;
+    }
+    SENDERS_MOST
+}
+
+// The sequence counts at place i.
+fn has_key(memory: &[u64], i: usize, sequence: u64) -> bool
+    requires { ⌜ i < sendersMost ⌝ }
+    ensures { λ r. ⌜ r ≡ has (remembered (placeIn (now (memory .entry)) i)) sequence ⌝ }
+{
+    let n = wire::least(words::word(memory, USED + i) as usize, KEYS_EACH);
+    let a = SEQUENCES + KEYS_EACH * i;
+    let mut j: usize = 0;
+    while j < n {
+        if words::word(memory, a + j) == sequence {
+            return true;
+        }
+        j += 1;
     }
     false
 }
 
-// Each of the numbers from a on but the last takes the next one's place.
+// The key is remembered.
+pub fn is_remembered(memory: &[u64], sender: u64, sequence: u64) -> bool
+    ensures { λ r. ⌜ r ≡ isRemembered (memoryIn (now (memory .entry))) (keyOf sender sequence) ⌝ }
+{
+    let i = own_place(memory, sender);
+    if i < SENDERS_MOST {
+        return has_key(memory, i, sequence);
+    }
+    false
+}
+
+// ---- a key is remembered
+
+// The place for a delivery: the sender's own, else a free one, else that of the sender whose latest delivery lies furthest back.
+fn place_for(memory: &[u64], sender: u64) -> usize
+    ensures { λ r. ⌜ r ≡ placeFor (memoryIn (now (memory .entry))) sender ⌝ }
+{
+    let own = own_place(memory, sender);
+    if own < SENDERS_MOST {
+        return own;
+    }
+    let free = free_place(memory);
+    if free < SENDERS_MOST {
+        return free;
+    }
+    words::lowest_ranked(memory, turns(), SENDERS_MOST)
+}
+
+// How many sequences of the sender count at place i.
+fn count_of(memory: &[u64], i: usize, sender: u64) -> u64
+    requires { ⌜ i < sendersMost ⌝ }
+    ensures { λ r. ⌜ r ≡ countOf sender (placeIn (now (memory .entry)) i) ⌝ }
+{
+    if is_of(memory, i, sender) {
+        return words::word(memory, USED + i);
+    }
+    0
+}
+
+// Each of the 32 numbers from a on but the last takes the next one's place.
 fn shift(memory: &mut [u64], a: usize)
-    requires { ⌜ a ≤ sequences ⌝ }
-    ensures { λ _. ⌜ now (memory .exit) ≡ shiftedIn (now (memory .entry)) a (memorySize - 1) ⌝ }
+    requires { ⌜ a ≤ sequencesAt (sendersMost - 1) ⌝ }
+    ensures { λ _. ⌜ now (memory .exit) ≡ shiftedIn (now (memory .entry)) a (keysEach - 1) ⌝ }
 {
     let mut i: usize = 0;
-    while i < MEMORY_SIZE - 1 {
+    while i < KEYS_EACH - 1 {
         let x = words::word(&*memory, a + i + 1);
         words::put_word(&mut *memory, a + i, x);
         i += 1;
     }
 }
 
-// One more key; of 64 the oldest is dropped.
-pub fn remember(memory: &mut [u64], sender: u64, sequence: u64)
-    ensures { λ _. ⌜ now (memory .exit) ≡ rememberedIn (now (memory .entry)) sender sequence ⌝ }
+// Place i has n sequences and one more; of 32 the oldest is dropped.
+fn add(memory: &mut [u64], i: usize, n: u64, sequence: u64)
+    requires { ⌜ i < sendersMost ⌝ }
+    ensures { λ _. ⌜ now (memory .exit) ≡ addedIn (now (memory .entry)) i n sequence ⌝ }
 {
-    let n = words::word(&*memory, 0);
-    if n < MEMORY_SIZE as u64 {
-        let i = n as usize;
-        words::put_word(&mut *memory, SENDERS + i, sender);
-        words::put_word(&mut *memory, SEQUENCES + i, sequence);
-        words::put_word(&mut *memory, 0, n + 1);
+    let a = SEQUENCES + KEYS_EACH * i;
+    if n < KEYS_EACH as u64 {
+        words::put_word(&mut *memory, a + n as usize, sequence);
+        words::put_word(&mut *memory, USED + i, n + 1);
         return;
     }
-    shift(&mut *memory, SENDERS);
-    words::put_word(&mut *memory, SENDERS + MEMORY_SIZE - 1, sender);
-    shift(&mut *memory, SEQUENCES);
-    words::put_word(&mut *memory, SEQUENCES + MEMORY_SIZE - 1, sequence);
+    shift(&mut *memory, a);
+    words::put_word(&mut *memory, a + (KEYS_EACH - 1), sequence);
 }
 
-struct Sieved {
-    values: [u64; 64],
-    n: usize,
-}
-
-// Of the numbers from a on those of the first n keys whose sender is another, in their order, with zeros after them.
-fn sieve(memory: &[u64], a: usize, n: usize, sender: u64) -> Sieved
-    requires { ⌜ (a ≤ sequences) × (n ≤ memorySize) ⌝ }
-    ensures { λ r. ⌜ r ≡ sievedIn (now (memory .entry)) a n sender ⌝ }
+// Place i is the sender's, and its delivery the latest of all.
+fn settle(memory: &mut [u64], i: usize, sender: u64)
+    requires { ⌜ i < sendersMost ⌝ }
+    ensures { λ _. ⌜ now (memory .exit) ≡ settledIn (now (memory .entry)) i sender ⌝ }
 {
-    let mut out = [0u64; 64];
-    let mut j: usize = 0;
+    let t = words::word(&*memory, TURNS + i);
+    words::lower_ranks(&mut *memory, turns(), SENDERS_MOST, t);
+    words::put_word(&mut *memory, TURNS + i, SENDERS_MOST as u64 - 1);
+    words::put_word(memory, i, sender);
+}
+
+// One more key: its sender's delivery is the latest of all.
+pub fn remember(memory: &mut [u64], sender: u64, sequence: u64)
+    ensures { λ _. ⌜ Left (now (memory .entry)) (steps.remember (memoryIn (now (memory .entry))) (keyOf sender sequence)) (now (memory .exit)) ⌝ }
+{
+    if memory.len() != WORDS {
+        return;
+    }
+    let i = place_for(&*memory, sender);
+    let n = count_of(&*memory, i, sender);
+    settle(&mut *memory, i, sender);
+    add(memory, i, n, sequence);
+}
+
+// ---- a sender is forgotten
+
+// Place i is freed where it is the sender's.
+fn free_at(memory: &mut [u64], i: usize, sender: u64)
+    requires { ⌜ i < sendersMost ⌝ }
+    ensures { λ _. ⌜ now (memory .exit) ≡ freedAt (now (memory .entry)) sender i ⌝ }
+{
+    if words::word(&*memory, i) != sender {
+        return;
+    }
+    words::put_word(memory, USED + i, 0);
+}
+
+fn free_all(memory: &mut [u64], sender: u64)
+    ensures { λ _. ⌜ now (memory .exit) ≡ freedIn (now (memory .entry)) sender sendersMost ⌝ }
+{
     let mut i: usize = 0;
-    while i < n {
-        if words::word(memory, SENDERS + i) != sender {
-            out[j] = words::word(memory, a + i);
-            j += 1;
+    while i < SENDERS_MOST {
+        free_at(&mut *memory, i, sender);
+        i += 1;
+    }
+}
+
+// The sender's place is free.
+pub fn forget(memory: &mut [u64], sender: u64)
+    ensures { λ _. ⌜ Left (now (memory .entry)) (forgetKeys (memoryIn (now (memory .entry))) sender) (now (memory .exit)) ⌝ }
+{
+    if memory.len() != WORDS {
+        return;
+    }
+    free_all(memory, sender);
+}
+
+// ---- refusal 9
+
+// Not over 16 senders, for which alone there are places, and not over 32 keys for one.
+pub fn in_order(memory: &[u64]) -> bool
+    ensures { λ r. ⌜ r ≡ memoryOk (memoryIn (now (memory .entry))) ⌝ }
+{
+    let mut i: usize = 0;
+    while i < SENDERS_MOST {
+        if (KEYS_EACH as u64) < words::word(memory, USED + i) {
+            return false;
         }
         i += 1;
     }
-    Sieved { values: out, n: j }
-}
-
-// The sender's keys are dropped; the others keep their order.
-pub fn forget(memory: &mut [u64], sender: u64)
-    ensures { λ _. ⌜ now (memory .exit) ≡ forgottenIn (now (memory .entry)) sender ⌝ }
-{
-    let n = used(&*memory);
-    let from = sieve(&*memory, SENDERS, n, sender);
-    let numbers = sieve(&*memory, SEQUENCES, n, sender);
-    let a = from.values;
-    let b = numbers.values;
-    let left = from.n;
-    let also = numbers.n;
-    words::put_words(&mut *memory, SENDERS, &a[..left]);
-    words::put_words(&mut *memory, SEQUENCES, &b[..also]);
-    words::put_word(&mut *memory, 0, left as u64);
+    true
 }

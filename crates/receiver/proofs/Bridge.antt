@@ -14,7 +14,7 @@ use Rattle.wire.specs.Choice.{pick}
 use Rattle.wire.specs.Overlay.{overlay}
 use Rattle.wire.proofs.Overlays.{overlay-at, length-overlay}
 use Rattle.datagram.specs.Limits.{maxName, maxFragments}
-use Rattle.steps.specs.Limits.{slotCount, ledgerLength, slotSizeOf, memorySize}
+use Rattle.steps.specs.Limits.{slotCount, ledgerLength, slotSizeOf}
 use Rattle.steps.specs.Search.{first, allBelow, count}
 use Rattle.steps.specs.Held.{noneHeld, hold}
 use Rattle.steps.specs.declared.Key.{Key}
@@ -24,10 +24,9 @@ use Rattle.steps.specs.Slots as step
 use Rattle.steps.specs.Receive.{Machine, withSlots, slotOk, sound}
 use Rattle.steps.proofs.Tables.{all-cong, count-same}
 use Rattle.steps.proofs.Stores.{write-out}
-use Rattle.memory.specs.Words.{memoryWords}
-use Rattle.memory.specs.Keys.{build, memoryIn}
-use Rattle.memory.proofs.Builds.{length-build, getD-build, build-is}
-use Rattle.memory.proofs.Keys.{used-is}
+use Rattle.words.specs.Builds.{build}
+use Rattle.words.proofs.Builds.{length-build, getD-build, build-is}
+use Rattle.memory.specs.Words.{memoryWords, memoryIn}
 use Rattle.slots.specs.declared.Found.{Found}
 use Rattle.slots.specs.declared.Found.the-variants.{At, Nothing}
 use Rattle.slots.specs.Words.{blockWords, blockAt, at, senderWord, sequenceWord, sizeWord, countWord, turnWord, heldWord, firstBelow, orZero, freeIn, busyIn, keyIn, turnIn, lowestTurn, up, lowered, soundIn}
@@ -115,19 +114,16 @@ oldest-slot w n =
 
 -- ---- refusal 9
 
-pub known-word : (w : List ℕ) → memoryOf w .used ≡ getD w memoryAt 0
-known-word w = used-is (drop memoryAt w) ∙ getD-drop memoryAt w 0 0
-
 and-regroup : (a b c : Bool) → (a && (b && c)) ≡ ((a && b) && c)
 and-regroup true b c = refl
 and-regroup false b c = refl
 
 pub ready-sound : (w n : List ℕ) (store ledger : ℕ) → isReady w (length n) store ledger ≡ (shaped w n && sound (view w n) store ledger)
-unfolding isReady sound memoryOk
+unfolding isReady sound
 ready-sound w n store ledger =
     let slots : allBelow slotCount (λ s. slotOk (getD w 1 0) (slotAt (slotsOf w n) s)) ≡ allBelow slotCount (soundIn w (getD w 1 0)) =
     all-cong slotCount (λ i. slotOk (getD w 1 0) (slotAt (slotsOf w n) i)) (soundIn w (getD w 1 0)) (λ i h. ap (slotOk (getD w 1 0)) (slot-at w n i h) ∙ rw (word w i countWord (omega arith), word w i sizeWord (omega arith)) (go (eqb (at w i countWord) 0) _)) in
-    rw (slots, known-word w) (and-regroup (eqb (length w) stateWords) (eqb (length n) nameBytes) (eqb store (getD w 0 0) && (eqb ledger ledgerLength && (eqb (getD w 1 0) (slotSizeOf store) && (allBelow slotCount (soundIn w (getD w 1 0)) && leb (getD w memoryAt 0) memorySize)))))
+    rw slots (and-regroup (eqb (length w) stateWords) (eqb (length n) nameBytes) (eqb store (getD w 0 0) && (eqb ledger ledgerLength && (eqb (getD w 1 0) (slotSizeOf store) && (allBelow slotCount (soundIn w (getD w 1 0)) && memoryOk (memoryOf w))))))
   where
     go : (b c : Bool) → (not (not b) || c) ≡ (b || c)
     go true c = refl

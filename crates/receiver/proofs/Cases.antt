@@ -18,10 +18,10 @@ use Rattle.datagram.specs.Said.{Fragment, fragmentIn, says}
 use Rattle.datagram.specs.Said as said
 use Rattle.datagram.specs.declared.Header.{Header}
 use Rattle.datagram.specs.declared.Read.the-variants.{Good}
-use Rattle.steps.specs.Limits.{slotCount, ledgerLength, memorySize}
+use Rattle.steps.specs.Limits.{slotCount, ledgerLength}
 use Rattle.steps.specs.Search.{allBelow}
 use Rattle.steps.specs.Held.{heldWords, isHeld}
-use Rattle.steps.specs.Memory.{keyOf, Memory, isRemembered}
+use Rattle.steps.specs.Memory.{keyOf, Memory, isRemembered, memoryOk}
 use Rattle.steps.specs.Slots.{Slot, slotAt, findOpen, padded, filled, allHeld}
 use Rattle.steps.specs.Receive.{Machine, withSlots, row, offsetOf, lengthOf, placeOf, sameMessage, sameFragment, agrees, agreesWithAll, Verdict, again, begin, refuse, step2, step3, decide}
 use Rattle.steps.proofs.Tables.{all-cong}
@@ -155,7 +155,7 @@ held-all w n w1 n1 s x a e c r h ea ee k ec er =
 -- ---- what stays while slots change
 
 pub known-after : (w n w1 n1 : List ℕ) (slots : List Slot) → Shows (withSlots (view w n) slots (memoryOf w)) w1 n1 → Known w → Known w1
-known-after w n w1 n1 slots k e = subst (λ (m : Memory). m .used ≤ memorySize) (sym (ap (λ (m : Machine). m .memory) (k .machine))) e
+known-after w n w1 n1 slots k e = subst (λ (m : Memory). memoryOk m ≡ true) (sym (ap (λ (m : Machine). m .memory) (k .machine))) e
 
 pub room-after : (w n w1 n1 : List ℕ) (slots : List Slot) → Shows (withSlots (view w n) slots (memoryOf w)) w1 n1 → getD w 1 0 ≤ maxPayload → getD w1 1 0 ≤ maxPayload
 room-after w n w1 n1 slots k e = subst (λ (x : ℕ). x ≤ maxPayload) (sym (ap (λ (m : Machine). m .slotSize) (k .machine))) e

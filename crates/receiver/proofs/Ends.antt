@@ -13,7 +13,7 @@ use Rattle.datagram.specs.Limits.{maxName, maxFragments}
 use Rattle.datagram.specs.Read.{partOf}
 use Rattle.datagram.specs.Said.{Fragment, fragmentIn}
 use Rattle.datagram.specs.declared.Header.{Header}
-use Rattle.steps.specs.Limits.{slotCount, memorySize}
+use Rattle.steps.specs.Limits.{slotCount}
 use Rattle.steps.specs.declared.Key.{Key}
 use Rattle.steps.specs.declared.Emptied.{Emptied}
 use Rattle.steps.specs.declared.Emptied.the-variants.{Nobody, Was}
@@ -25,8 +25,7 @@ use Rattle.steps.specs.Slots.{Slot, slotAt, findOpen, findFree, oldest, noName,
 use Rattle.steps.specs.Receive.{Machine, After, withSlots, stay, storeWith, ledgerWith, step2, step5, deliveredSmall, beginAt, act}
 use Rattle.steps.proofs.Branches.{step5-delivered, step5-kept}
 use Rattle.steps.proofs.Seats.{set-there, seat-free, seat-full}
-use Rattle.memory.specs.Words.{someBelow, keyAt}
-use Rattle.memory.proofs.Keys.{known-key}
+use Rattle.memory.specs.Words.{memoryIn}
 use Rattle.slots.specs.declared.Found.{Found}
 use Rattle.slots.specs.declared.Found.the-variants.{At, Nothing}
 use Rattle.slots.specs.Words.{blockAt, at, senderWord, sequenceWord, sizeWord, keyIn, freeIn, turnIn, lowestTurn, firstBelow, orZero}
@@ -47,10 +46,10 @@ use Rattle.receiver.proofs.Cases.{key-is, size-is, name-is}
 module _ (w n : List ℕ) (sender x q : ℕ) (ex : x ≡ q) where
   -- by the memory lent as a part
   pub remembered-is : length w ≡ stateWords → Known w → (m : List ℕ) (r : Bool) → m ≡ take (length w - memoryAt) (drop memoryAt w)
-      → r ≡ someBelow (keyAt m sender x) (min (getD m 0 0) memorySize) → isRemembered (memoryOf w) (keyOf sender q) ≡ r
+      → r ≡ isRemembered (memoryIn m) (keyOf sender x) → isRemembered (memoryOf w) (keyOf sender q) ≡ r
   remembered-is e k m r em er =
       let p : m ≡ drop memoryAt w = em ∙ memory-part w e in
-      sym (er ∙ (λ i. someBelow (keyAt (p i) sender (ex i)) (min (getD (p i) 0 0) memorySize)) ∙ known-key (drop memoryAt w) sender q k)
+      sym (er ∙ (λ i. isRemembered (memoryIn (p i)) (keyOf sender (ex i))))
 
   pub open-is : (f : Found) → f ≡ firstBelow (keyIn w sender x) slotCount → findOpen (slotsOf w n) (keyOf sender q) ≡ optionOf f
   open-is f ef = open-slot w n sender q ∙ ap optionOf (sym (ef ∙ ap (λ (y : ℕ). firstBelow (keyIn w sender y) slotCount) ex))

@@ -7,7 +7,7 @@ use Prim.Native.Nat.{ℕ, zero, suc, _+_, _<_}
 use native.Mathlib.Omega.{arith}
 use Rattle.wire.specs.Choice.{pick}
 use Rattle.steps.specs.Search.{first}
-use Rattle.memory.specs.Keys.{build}
+use Rattle.words.specs.Builds.{build}
 use Rattle.slots.specs.declared.Found.{Found}
 use Rattle.slots.specs.declared.Found.the-variants.{At, Nothing}
 use Rattle.slots.specs.Words.{orHere, orZero, firstBelow}

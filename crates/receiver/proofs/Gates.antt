@@ -21,7 +21,7 @@ use Rattle.datagram.specs.declared.Read.{Read}
 use Rattle.datagram.specs.declared.Read.the-variants as read
 use Rattle.datagram.proofs.Names.{name-short}
 use Rattle.datagram.proofs.Places.{Inside, SmallForm, FragmentForm, accepted-good, part-length}
-use Rattle.steps.specs.Limits.{slotCount, ledgerLength, slotSizeOf, memorySize}
+use Rattle.steps.specs.Limits.{slotCount, ledgerLength, slotSizeOf}
 use Rattle.steps.specs.Search.{allBelow}
 use Rattle.steps.specs.declared.Answer.{Answer}
 use Rattle.steps.specs.declared.Answer.the-variants.{Refused, Kept, Repeat, Delivered}
@@ -39,13 +39,13 @@ use Rattle.receiver.specs.Parts.{isReady, Shaped, Known, Told, stayed, p
 use Rattle.receiver.specs.Calls.{received, Leaves, Receives}
 use Rattle.receiver.specs.declared.Outcome.{Outcome}
 use Rattle.receiver.specs.declared.Verdict as code
-use Rattle.receiver.proofs.Bridge.{known-word, ready-sound}
+use Rattle.receiver.proofs.Bridge.{ready-sound}
 use Rattle.receiver.proofs.Unique.{words-same, names-same}
 
 -- ---- refusal 9, test by test
 
 pub ready-given : (w : List ℕ) (names store ledger : ℕ) → length w ≡ stateWords → names ≡ nameBytes → store ≡ getD w 0 0 → ledger ≡ ledgerLength → getD w 1 0 ≡ slotSizeOf store
-    → isReady w names store ledger ≡ (allBelow slotCount (soundIn w (getD w 1 0)) && leb (getD w memoryAt 0) memorySize)
+    → isReady w names store ledger ≡ (allBelow slotCount (soundIn w (getD w 1 0)) && memoryOk (memoryOf w))
 unfolding isReady
 ready-given w names store ledger a b c d e = rw (eq-eqb _ _ a, eq-eqb _ _ b, eq-eqb _ _ c, eq-eqb _ _ d, eq-eqb _ _ e)
 
@@ -126,7 +126,7 @@ module _ (w n store ledger : List ℕ) (sender : ℕ) (d : List ℕ) where
 
     pub ready-known : Known w
     unfolding sound memoryOk
-    ready-known = leb-true _ _ (and-r (allBelow slotCount (λ s. slotOk (getD w 1 0) (slotAt (slotsOf w n) s))) _ (and-r (eqb (getD w 1 0) (slotSizeOf (length store))) _ (and-r (eqb (length ledger) ledgerLength) _ (and-r (eqb (length store) (getD w 0 0)) _ is-sound))))
+    ready-known = (and-r (allBelow slotCount (λ s. slotOk (getD w 1 0) (slotAt (slotsOf w n) s))) _ (and-r (eqb (getD w 1 0) (slotSizeOf (length store))) _ (and-r (eqb (length ledger) ledgerLength) _ (and-r (eqb (length store) (getD w 0 0)) _ is-sound))))
 
     pub ready-step : received w n store ledger sender d ≡ receive (view w n) store ledger sender (said (getD w 1 0) maxFragments d)
     unfolding received

@@ -18,18 +18,16 @@ use Rattle.datagram.specs.Limits.{maxName, maxPayload}
 use Rattle.datagram.specs.Read.{partOf}
 use Rattle.datagram.specs.Said.{Fragment, fragmentIn}
 use Rattle.datagram.specs.declared.Header.{Header}
-use Rattle.steps.specs.Limits.{slotCount, memorySize}
+use Rattle.steps.specs.Limits.{slotCount}
 use Rattle.steps.specs.Search.{count}
 use Rattle.steps.specs.Held.{heldWords, noneHeld, hold}
 use Rattle.steps.specs.declared.Key.{Key}
-use Rattle.steps.specs.Memory.{keyOf, remember, forgetKeys}
+use Rattle.steps.specs.Memory.{keyOf, Memory, remember}
 use Rattle.steps.specs.Slots.{Slot, noName, padded, noSlot, slotAt, openCount, lower, release, filled}
 use Rattle.steps.specs.Receive.{Machine, withSlots}
 use Rattle.steps.proofs.Helds.{hold-length}
 use Rattle.steps.proofs.Stores.{write-out}
-use Rattle.memory.specs.Words.{memoryWords, rememberedIn, forgottenIn}
-use Rattle.memory.specs.Keys.{memoryIn}
-use Rattle.memory.proofs.Keys.{used-is, remembered-memory, remembered-length, forgotten-memory, forgotten-length}
+use Rattle.memory.specs.Words.{memoryWords, memoryIn, Left}
 use Rattle.slots.specs.Words.{blockWords, blockAt, at, turnWord, heldWord, busyIn, lowered}
 use Rattle.slots.proofs.Loops.{lowered-length}
 use Rattle.receiver.specs.View.{memoryAt, stateWords, nameBytes, block, nameIn, slotIn, slotOf, slotsOf, memoryOf, view}
@@ -176,15 +174,20 @@ module _ (w : List ℕ) (e : length w ≡ stateWords) where
     pub back-length : length w1 ≡ stateWords
     back-length = ap length back ∙ length-overlay w memoryAt m ∙ e
 
-  pub recalled : (a q : ℕ) (m w1 : List ℕ) → m ≡ rememberedIn (take (length w - memoryAt) (drop memoryAt w)) a q
+  -- what the crate `memory` left there
+  pub left-there : (f : Memory → Memory) (m w1 : List ℕ) → Left (take (length w - memoryAt) (drop memoryAt w)) (f (memoryIn (take (length w - memoryAt) (drop memoryAt w)))) m
+      → w1 ≡ take memoryAt w ++ (m ++ drop (length w - memoryAt) (drop memoryAt w))
+      → ((n : List ℕ) → view w1 n ≡ withSlots (view w n) (slotsOf w n) (f (memoryOf w))) × (length w1 ≡ stateWords)
+  left-there f m w1 L ew =
+      let p : length (take (length w - memoryAt) (drop memoryAt w)) ≡ memoryWords = ap length memory-part ∙ memory-long in
+      let l : length m ≡ memoryWords = L .words ∙ p in
+      (λ n. given-back m w1 l ew n ∙ ap (withSlots (view w n) (slotsOf w n)) (L .shows p ∙ ap (λ (x : List ℕ). f (memoryIn x)) memory-part), back-length m w1 l ew)
+
+  pub recalled : (a q : ℕ) (m w1 : List ℕ) → Left (take (length w - memoryAt) (drop memoryAt w)) (remember (memoryIn (take (length w - memoryAt) (drop memoryAt w))) (keyOf a q)) m
       → w1 ≡ take memoryAt w ++ (m ++ drop (length w - memoryAt) (drop memoryAt w)) → Recalls w (keyOf a q) w1
-  recalled a q m w1 em ew =
-      let r : m ≡ rememberedIn (drop memoryAt w) a q = em ∙ ap (λ (x : List ℕ). rememberedIn x a q) memory-part in
-      let l : length m ≡ memoryWords = ap length r ∙ remembered-length (drop memoryAt w) a q ∙ memory-long in
-      record {
-        machine = λ n. given-back m w1 l ew n ∙ ap (withSlots (view w n) (slotsOf w n)) (ap memoryIn r ∙ remembered-memory (drop memoryAt w) a q memory-long);
-        words = back-length m w1 l ew;
-      }
+  recalled a q m w1 L ew =
+      let r = left-there (λ (x : Memory). remember x (keyOf a q)) m w1 L ew in
+      record { machine = r .0; words = r .1 }
 
 -- ---- where a slot's part of the store begins
 

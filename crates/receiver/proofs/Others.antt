@@ -14,22 +14,20 @@ use Rattle.wire.specs.Choice.{pick}
 use Rattle.wire.specs.Overlay.{overlay}
 use Rattle.wire.proofs.Choices.{and-false}
 use Rattle.wire.proofs.Overlays.{length-overlay}
-use Rattle.steps.specs.Limits.{slotCount, slotSizeOf, memorySize}
+use Rattle.steps.specs.Limits.{slotCount, slotSizeOf}
 use Rattle.steps.specs.Held.{noneHeld}
 use Rattle.steps.specs.Memory.{keyOf, Memory, emptyMemory, forgetKeys, memoryOk}
 use Rattle.steps.specs.Slots.{Slot, busy, slotAt, noSlot, release, releaseOf}
 use Rattle.steps.specs.Receive.{Machine, withSlots, opened, forget}
-use Rattle.memory.specs.Words.{memoryWords, forgottenIn}
-use Rattle.memory.specs.Keys.{memoryIn}
-use Rattle.memory.proofs.Keys.{used-is, forgotten-memory, forgotten-length}
+use Rattle.words.specs.Builds.{build}
+use Rattle.memory.specs.Words.{memoryWords, memoryIn, Left}
 use Rattle.slots.specs.Words.{at, senderWord, countWord}
 use Rattle.receiver.specs.View.{memoryAt, stateWords, nameBytes, slotsOf, memoryOf, view, shaped}
 use Rattle.receiver.specs.Parts.{Shaped, Known, Shows, releaseFor}
 use Rattle.receiver.specs.Calls.{Changes, Opens, Forgets, forgotten}
 use Rattle.receiver.specs.declared.Call.the-variants as call
 use Rattle.receiver.proofs.Windows.{overlay-whole}
-use Rattle.receiver.proofs.Bridge.{known-word}
-use Rattle.receiver.proofs.Moves.{memory-part, memory-long, given-back, back-length}
+use Rattle.receiver.proofs.Moves.{memory-part, left-there}
 use Rattle.receiver.proofs.Cases.{sender-is, count-is}
 
 -- ---- one slot
@@ -62,6 +60,10 @@ released-more w n w1 n1 w2 n2 from i A B = record {
 
 -- ---- refusals
 
+-- asked of the memory lent as a part
+pub in-order-is : (w : List ℕ) → length w ≡ stateWords → (r : Bool) → r ≡ memoryOk (memoryIn (take (length w - memoryAt) (drop memoryAt w))) → r ≡ memoryOk (memoryOf w)
+in-order-is w a r e = e ∙ ap (λ (x : List ℕ). memoryOk (memoryIn x)) (memory-part w a)
+
 module _ (w n : List ℕ) where
   unshaped : length w ≢ stateWords → shaped w n ≡ false
   unshaped d = rw (ne-eqb _ _ d)
@@ -83,17 +85,9 @@ module _ (w n : List ℕ) where
   unfolding forgotten
   names-forgets from d = rw (nameless d) (refuses (view w n) (some 9) refl refl)
 
-  over : memorySize < getD w memoryAt 0 → memoryOk (memoryOf w) ≡ false
-  unfolding memoryOk
-  over d = rw (known-word w) (lt-leb _ _ d)
-
-  within : getD w memoryAt 0 ≤ memorySize → memoryOk (memoryOf w) ≡ true
-  unfolding memoryOk
-  within d = rw (known-word w) (le-leb _ _ d)
-
-  pub memory-forgets : (from : ℕ) → length w ≡ stateWords → length n ≡ nameBytes → memorySize < getD w memoryAt 0 → Forgets w n from (call.Refused 9) w n
+  pub memory-forgets : (from : ℕ) → length w ≡ stateWords → length n ≡ nameBytes → memoryOk (memoryOf w) ≡ false → Forgets w n from (call.Refused 9) w n
   unfolding forgotten forget
-  memory-forgets from a b d = rw (whole a b, over d) (refuses (view w n) (some 9) refl refl)
+  memory-forgets from a b d = rw (whole a b, d) (refuses (view w n) (some 9) refl refl)
 
   pub words-opens : (k : ℕ) → length w ≢ stateWords → Opens w n k (call.Refused 9) w n
   words-opens k d = rw (unshaped d) (refuses (view w n) (some 9) refl refl)
@@ -107,22 +101,16 @@ never-some : (X : Type 0) (k : ℕ) → _≡_ {A = Option ℕ} none (some k) →
 never-some X k q = let z : _≡_ {A = ℕ} 0 1 = cc in absurd (let h : ⊥ = omega arith in h)
 
 module _ (w n : List ℕ) (a : length w ≡ stateWords) (b : length n ≡ nameBytes) where
-  pub forgets : (from : ℕ) (w1 n1 m w2 : List ℕ) → getD w memoryAt 0 ≤ memorySize → Shows (withSlots (view w n) (releaseOf from slotCount (slotsOf w n)) (memoryOf w)) w1 n1
-      → m ≡ forgottenIn (take (length w1 - memoryAt) (drop memoryAt w1)) from → w2 ≡ take memoryAt w1 ++ (m ++ drop (length w1 - memoryAt) (drop memoryAt w1))
-      → Forgets w n from call.Done w2 n1
+  pub forgets : (from : ℕ) (w1 n1 m w2 : List ℕ) → memoryOk (memoryOf w) ≡ true → Shows (withSlots (view w n) (releaseOf from slotCount (slotsOf w n)) (memoryOf w)) w1 n1
+      → Left (take (length w1 - memoryAt) (drop memoryAt w1)) (forgetKeys (memoryIn (take (length w1 - memoryAt) (drop memoryAt w1))) from) m
+      → w2 ≡ take memoryAt w1 ++ (m ++ drop (length w1 - memoryAt) (drop memoryAt w1)) → Forgets w n from call.Done w2 n1
   unfolding forgotten forget
-  forgets from w1 n1 m w2 k A em ew =
-      let l1 : length w1 ≡ stateWords = A .shape .words in
-      let r : m ≡ forgottenIn (drop memoryAt w1) from = em ∙ ap (λ (x : List ℕ). forgottenIn x from) (memory-part w1 l1) in
-      let l : length m ≡ memoryWords = ap length r ∙ forgotten-length (drop memoryAt w1) from ∙ memory-long w1 l1 in
-      let same : memoryOf w1 ≡ memoryOf w = ap (λ (x : Machine). x .memory) (A .machine) in
-      let few : getD (drop memoryAt w1) 0 0 ≤ memorySize = subst (λ (x : ℕ). x ≤ memorySize) (sym (sym (used-is (drop memoryAt w1)) ∙ ap (λ (x : Memory). x .used) same ∙ known-word w)) k in
-      rw (whole w n a b, within w n k) (record {
+  forgets from w1 n1 m w2 k A L ew =
+      let r = left-there w1 (A .shape .words) (λ (x : Memory). forgetKeys x from) m w2 L ew in
+      rw (whole w n a b, k) (record {
         gave = refl;
-        machine = given-back w1 l1 m w2 l ew n1
-            ∙ ap (withSlots (view w1 n1) (slotsOf w1 n1)) (ap memoryIn r ∙ forgotten-memory (drop memoryAt w1) from (memory-long w1 l1) few)
-            ∙ ap (λ (x : Machine). withSlots x (x .slots) (forgetKeys (x .memory) from)) (A .machine);
-        words = back-length w1 l1 m w2 l ew ∙ sym a;
+        machine = r .0 n1 ∙ ap (λ (x : Machine). withSlots x (x .slots) (forgetKeys (x .memory) from)) (A .machine);
+        words = r .1 ∙ sym a;
         bytes = A .shape .bytes ∙ sym b;
         still = λ j q. never-some _ j q;
       })

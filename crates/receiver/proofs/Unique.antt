@@ -15,7 +15,7 @@ use Rattle.steps.specs.Held.{heldWords}
 use Rattle.steps.specs.Slots.{Slot, slotAt}
 use Rattle.steps.specs.Receive.{Machine}
 use Rattle.memory.specs.Words.{memoryWords}
-use Rattle.memory.proofs.Keys.{memory-injective}
+use Rattle.memory.proofs.Views.{memory-injective}
 use Rattle.slots.specs.Words.{blockWords, blockAt, heldWord}
 use Rattle.receiver.specs.View.{memoryAt, stateWords, nameBytes, block, nameIn, slotOf, view}
 use Rattle.receiver.specs.Parts.{Shaped}

@@ -14,7 +14,7 @@ use Rattle.datagram.specs.Said.{Fragment, fragmentIn}
 use Rattle.datagram.specs.declared.Header.{Header}
 use Rattle.datagram.specs.declared.Read.{Read}
 use Rattle.datagram.specs.declared.Read.the-variants as read
-use Rattle.steps.specs.Limits.{slotCount, ledgerLength, slotSizeOf, memorySize}
+use Rattle.steps.specs.Limits.{slotCount, ledgerLength, slotSizeOf}
 use Rattle.steps.specs.Search.{allBelow}
 use Rattle.steps.specs.Held.{noneHeld}
 use Rattle.steps.specs.declared.Key.{Key}
@@ -23,13 +23,13 @@ use Rattle.steps.specs.declared.Emptied.the-variants.{Nobody}
 use Rattle.steps.specs.declared.PayloadAt.the-variants.{InStore, InDatagram}
 use Rattle.steps.specs.declared.Answer.{Answer}
 use Rattle.steps.specs.declared.Answer.the-variants.{Refused, Delivered}
-use Rattle.steps.specs.Memory.{keyOf, remember}
+use Rattle.steps.specs.Memory.{keyOf, remember, memoryOk}
 use Rattle.steps.specs.Slots.{Slot, busy, slotAt, release, openCount, noName, padded}
 use Rattle.steps.specs.Receive.{Machine, withSlots, offsetOf, lengthOf, placeOf, Verdict, refuse, again, deliver, join, begin}
 use Rattle.slots.specs.Words.{soundIn}
 use Rattle.slots.specs.declared.Found.{Found}
 use Rattle.slots.specs.declared.Found.the-variants as found
-use Rattle.receiver.specs.View.{memoryAt, stateWords, nameBytes, slotsOf, slotOf, memoryOf, view}
+use Rattle.receiver.specs.View.{stateWords, nameBytes, slotsOf, slotOf, memoryOf, view}
 use Rattle.receiver.specs.declared.Outcome.{Outcome}
 use Rattle.receiver.specs.declared.Verdict as code
 use Rattle.receiver.specs.declared.Verdict.the-variants as verdict
@@ -45,7 +45,7 @@ isReady w names store ledger =
     && (eqb ledger ledgerLength
     && (eqb (getD w 1 0) (slotSizeOf store)
     && (allBelow slotCount (soundIn w (getD w 1 0))
-    && leb (getD w memoryAt 0) memorySize)))))
+    && memoryOk (memoryOf w))))))
 
 -- ---- what is needed
 
@@ -53,9 +53,9 @@ pub record Shaped (w n : List ℕ) : Type 0 where
   pub words : length w ≡ stateWords
   pub bytes : length n ≡ nameBytes
 
--- not over 64 keys are remembered
+-- not over 16 senders are remembered, nor over 32 keys for one
 abbrev pub Known : List ℕ → Type 0
-Known w = memoryOf w .used ≤ memorySize
+Known w = memoryOk (memoryOf w) ≡ true
 
 -- of a header that the reader accepted
 pub record Told (d : List ℕ) (h : Header) : Type 0 where

@@ -11,8 +11,8 @@ use Rattle.steps.specs.Held.{heldWords}
 use Rattle.steps.specs.Memory.{keyOf, Memory}
 use Rattle.steps.specs.Slots.{Slot}
 use Rattle.steps.specs.Receive.{Machine}
-use Rattle.memory.specs.Words.{memoryWords}
-use Rattle.memory.specs.Keys.{build, memoryIn}
+use Rattle.words.specs.Builds.{build}
+use Rattle.memory.specs.Words.{memoryWords, memoryIn}
 use Rattle.slots.specs.Words.{blockWords, blockAt, senderWord, sequenceWord, sizeWord, countWord, turnWord, heldWord}
 
 -- where the memory begins

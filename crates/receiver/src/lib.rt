@@ -27,7 +27,7 @@ ghost use Rattle.receiver.specs.Calls.{Leaves, Receives, Opens, Forgets}
 // Where the memory of keys begins in the state, after the slots.
 pub const MEMORY: usize = 74;
 // The words of a state, and the bytes of its names.
-pub const STATE_WORDS: usize = 203;
+pub const STATE_WORDS: usize = MEMORY + memory::WORDS;
 
 pub const NAME_BYTES: usize = 504;
 // The ledger's numbers: offset and length of each fragment of a slot, and of all.
@@ -111,7 +111,7 @@ fn is_ready(state: &[u64], names: usize, store: usize, ledger: usize) -> bool
     if !slots::all_sound(state, room) {
         return false;
     }
-    state[MEMORY] <= memory::MEMORY_SIZE as u64
+    memory::in_order(&state[MEMORY..])
 }
 
 // ---- what changes in the state
@@ -505,7 +505,7 @@ pub fn open(state: &mut [u64], names: &mut [u8], store_len: usize) -> Call
     if names.len() != NAME_BYTES {
         return Call::Refused(9);
     }
-    let zeros = [0u64; 203];
+    let zeros = [0u64; STATE_WORDS];
     let blank = [0u8; 504];
     words::put_words(&mut *state, 0, &zeros);
     words::put_word(&mut *state, 0, store_len as u64);
@@ -550,7 +550,7 @@ pub fn forget(state: &mut [u64], names: &mut [u8], sender: u64) -> Call
     if names.len() != NAME_BYTES {
         return Call::Refused(9);
     }
-    if (memory::MEMORY_SIZE as u64) < state[MEMORY] {
+    if !memory::in_order(&state[MEMORY..]) {
         return Call::Refused(9);
     }
     release_all(&mut *state, &mut *names, sender);

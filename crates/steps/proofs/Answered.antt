@@ -9,19 +9,27 @@ use Rattle.datagram.specs.Name.{goodName, untilZero, nameLength}
 use Rattle.datagram.specs.Read.{readSmall, goodForm, formed, readFragment, readDatagram}
 use Rattle.datagram.specs.Said.{said}
 use Rattle.steps.specs.Held.{noneHeld, isHeld, hold}
-use Rattle.steps.specs.Memory.{among, emptyMemory, isRemembered, remember, rememberAll, others, forgetKeys, memoryOk}
+use Rattle.steps.specs.Memory.{among, emptyMemory, isRemembered, remember, rememberAll, placeFor, withKey, forgetKeys, memoryOk}
 use Rattle.steps.specs.Slots.{oldest, openCount, lower, release, releaseOf, seat, opening, filled}
 use Rattle.steps.specs.Receive.{opened, stay, sameFragment, agrees, step3, decide, step5, act, receive, sound, step, forget}
 use Rattle.steps.specs.Runs.{run}
-use Rattle.steps.specs.Worked.{inFours, A-of, B-of, Case, hears, cases, slotSizes, pastMemory, forgottenKeys, openAfter, memoryTold}
+use Rattle.steps.specs.Worked.{inFours, A-of, B-of, Case, hears, cases, slotSizes, pastMemory, besideMast, seventeenth, forgottenKeys, placeFreed, openAfter, memoryTold}
 
 pub worked-cases : map hears cases ≡ map (λ (c : Case). c .answered) cases
-unfolding hears inFours run zipWith A-of B-of step sound receive decide act stay step3 step5 sameFragment agrees seat oldest release lower opening openCount filled opened emptyMemory isRemembered remember memoryOk among isHeld hold noneHeld said readDatagram readSmall readFragment formed goodForm nameLength goodName untilZero be overlay
+unfolding hears inFours run zipWith A-of B-of step sound receive decide act stay step3 step5 sameFragment agrees seat oldest release lower opening openCount filled opened emptyMemory isRemembered remember placeFor withKey memoryOk among isHeld hold noneHeld said readDatagram readSmall readFragment formed goodForm nameLength goodName untilZero be overlay
 worked-cases = refl
 
 pub slot-sizes : slotSizes ≡ 0 ∷ 1 ∷ 262_143 ∷ 262_144 ∷ 262_144 ∷ []
 slot-sizes = refl
 
-pub memory-cases : memoryTold ≡ (false ∷ true ∷ true ∷ []) ∷ (false ∷ true ∷ false ∷ []) ∷ (false ∷ true ∷ []) ∷ []
-unfolding pastMemory forgottenKeys openAfter rememberAll others forgetKeys forget releaseOf B-of step sound receive decide act stay step3 step5 sameFragment agrees seat oldest release lower opening openCount filled opened emptyMemory isRemembered remember memoryOk among isHeld hold noneHeld said readDatagram readSmall readFragment formed goodForm nameLength goodName untilZero be overlay
+pub memory-cases :
+    memoryTold
+    ≡ (false ∷ true ∷ true ∷ [])
+    ∷ (true ∷ false ∷ [])
+    ∷ (true ∷ false ∷ true ∷ true ∷ [])
+    ∷ (false ∷ true ∷ false ∷ [])
+    ∷ (true ∷ false ∷ true ∷ [])
+    ∷ (false ∷ true ∷ [])
+    ∷ []
+unfolding pastMemory besideMast seventeenth forgottenKeys placeFreed openAfter rememberAll forgetKeys forget releaseOf B-of step sound receive decide act stay step3 step5 sameFragment agrees seat oldest release lower opening openCount filled opened emptyMemory isRemembered remember placeFor withKey memoryOk among isHeld hold noneHeld said readDatagram readSmall readFragment formed goodForm nameLength goodName untilZero be overlay
 memory-cases = refl

@@ -2,6 +2,7 @@ pub mod Answered
 pub mod Tables
 pub mod Helds
 pub mod Memories
+pub mod Latest
 pub mod Stores
 pub mod Seats
 pub mod Branches

@@ -6,9 +6,12 @@ use Rattle.datagram.specs.Limits.{maxPayload, maxFragments}
 abbrev pub slotCount : ℕ
 slotCount = 8
 
--- how many delivered keys are remembered
-abbrev pub memorySize : ℕ
-memorySize = 64
+-- for how many senders delivered keys are remembered, and how many for each
+abbrev pub sendersMost : ℕ
+sendersMost = 16
+
+abbrev pub keysEach : ℕ
+keysEach = 32
 
 -- offset and length for each fragment of each slot: 4,096 numbers
 abbrev pub ledgerLength : ℕ

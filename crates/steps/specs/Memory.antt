@@ -1,12 +1,15 @@
--- The keys of messages, and the memory of delivered ones: the last 64, in order of delivery. Definitions only.
+-- The keys of messages, and the memory of delivered ones: for each of 16 senders the last 32, in order of delivery. Definitions only.
 -- Everything else knows the memory by these names and their laws: another memory replaces this file and shows the laws again.
-use mathlib.Core.Bool.{Bool, true, false, _&&_, _||_}
-use mathlib.Core.List.{List, [], _∷_, _++_}
-use Prim.Native.Nat.{ℕ, zero, suc, _<_}
+use mathlib.Core.Path.{_≡_}
+use mathlib.Core.Bool.{Bool, true, false, not, _&&_, _||_}
+use mathlib.Core.Option.{Option, none, some}
+use mathlib.Core.List.{List, [], _∷_, _++_, map}
+use Prim.Native.Nat.{ℕ, zero, suc, _+_, _-_, _≤_, _<_}
 use lib.Dec.{eqb, leb, ltb}
-use lib.ListN.{length, set, take, drop, replicate}
+use lib.ListN.{length, getD, set, take, drop, replicate}
 use Rattle.wire.specs.Choice.{pick}
-use Rattle.steps.specs.Limits.{memorySize}
+use Rattle.steps.specs.Limits.{sendersMost, keysEach}
+use Rattle.steps.specs.Search.{allBelow, one, first}
 pub use Rattle.steps.specs.declared.Key.{Key}
 
 abbrev pub keyOf : ℕ → ℕ → Key
@@ -22,43 +25,106 @@ unfoldable pub among : List Key → Key → Bool
 among [] k = false
 among (x ∷ xs) k = sameKey x k || among xs k
 
--- 64 entries, of which the first `used` count, the oldest first
-pub record Memory : Type 0 where
-  pub entries : List Key
-  pub used : ℕ
+-- ---- a sender's place
 
--- the remembered keys
-abbrev pub remembered : Memory → List Key
-remembered m = take (m .used) (m .entries)
+-- its sequences, of which the first `used` count, the oldest first; and its turn: the lower, the further back its latest delivery lies
+pub record Place : Type 0 where
+  pub sender : ℕ
+  pub used : ℕ
+  pub turn : ℕ
+  pub sequences : List ℕ
+
+abbrev pub noPlace : Place
+noPlace = record { sender = 0; used = 0; turn = 0; sequences = replicate keysEach 0 }
+
+-- a place is free when nothing counts in it
+abbrev pub vacant : Place → Bool
+vacant p = eqb (p .used) 0
+
+abbrev pub isOf : ℕ → Place → Bool
+isOf from p = not (vacant p) && eqb (p .sender) from
+
+-- what is remembered there
+abbrev pub remembered : Place → List ℕ
+remembered p = take (p .used) (p .sequences)
+
+abbrev pub has : List ℕ → ℕ → Bool
+has [] q = false
+has (x ∷ xs) q = eqb x q || has xs q
+
+-- ---- the memory: 16 places
+
+abbrev pub Memory : Type 0
+Memory = List Place
 
 unfoldable pub emptyMemory : Memory
-emptyMemory = record { entries = replicate memorySize noKey; used = 0 }
+emptyMemory = replicate sendersMost noPlace
+
+abbrev pub placeAt : Memory → ℕ → Place
+placeAt m i = getD m i noPlace
+
+-- what is remembered of a sender; of two places the first counts
+abbrev pub keptAt : Memory → Option ℕ → List ℕ
+keptAt m none = []
+keptAt m (some i) = remembered (placeAt m i)
 
 unfoldable pub isRemembered : Memory → Key → Bool
-isRemembered m k = among (remembered m) k
+isRemembered m k = has (keptAt m (first (isOf (k .sender)) m)) (k .sequence)
 
--- a key more; of 64 the oldest goes. An entry that does not count stays as it is.
+-- ---- a key is remembered
+
+-- of the first n places the one with the lowest turn; of two the first
+abbrev pub furthestBack : Memory → ℕ → ℕ
+furthestBack m zero = 0
+furthestBack m (suc n) = pick (ltb (placeAt m n .turn) (placeAt m (furthestBack m n) .turn)) n (furthestBack m n)
+
+abbrev pub orElse : Option ℕ → ℕ → ℕ
+orElse none j = j
+orElse (some i) j = i
+
+-- the place for a delivery of that sender: its own, else a free one, else that of the sender whose latest delivery lies furthest back
+unfoldable pub placeFor : Memory → ℕ → ℕ
+placeFor m from = orElse (first (isOf from) m) (orElse (first vacant m) (furthestBack m sendersMost))
+
+-- how many keys of that sender count there: where it is another's, none
+abbrev pub countOf : ℕ → Place → ℕ
+countOf from p = pick (isOf from p) (p .used) 0
+
+-- n sequences and one more; of 32 the oldest goes. A sequence that does not count stays as it is.
+abbrev pub pushed : List ℕ → ℕ → ℕ → List ℕ
+pushed l n q = pick (ltb n keysEach) (set l n q) (drop 1 l ++ q ∷ [])
+
+-- the place with that key: its delivery is the latest of all
+unfoldable pub withKey : Key → Place → Place
+withKey k p =
+    let n : ℕ = countOf (k .sender) p in
+    record {
+      sender = k .sender;
+      used = pick (ltb n keysEach) (suc n) n;
+      turn = sendersMost - 1;
+      sequences = pushed (p .sequences) n (k .sequence);
+    }
+
+-- a place of turn t is the latest now: each turn above t moves down by one
+abbrev pub sunk : ℕ → Place → Place
+sunk t p = record { sender = p .sender; used = p .used; turn = pick (ltb t (p .turn)) (p .turn - 1) (p .turn); sequences = p .sequences }
+
 unfoldable pub remember : Memory → Key → Memory
 remember m k =
-    pick (ltb (m .used) memorySize)
-    (record { entries = set (m .entries) (m .used) k; used = suc (m .used) })
-    (record { entries = drop 1 (m .entries) ++ k ∷ []; used = m .used })
+    let i : ℕ = placeFor m (k .sender) in
+    set (map (sunk (placeAt m i .turn)) m) i (withKey k (placeAt m i))
 
--- the keys of other senders
-unfoldable pub others : ℕ → List Key → List Key
-others from [] = []
-others from (x ∷ xs) = pick (eqb (x .sender) from) (others from xs) (x ∷ others from xs)
+-- ---- a sender is forgotten: its place is free
 
--- the keys of that sender go, and the rest move up in their order. The entries behind them stay as they are.
+abbrev pub freed : ℕ → Place → Place
+freed from p = record { sender = p .sender; used = pick (eqb (p .sender) from) 0 (p .used); turn = p .turn; sequences = p .sequences }
+
 unfoldable pub forgetKeys : Memory → ℕ → Memory
-forgetKeys m from = record {
-  entries = others from (remembered m) ++ drop (length (others from (remembered m))) (m .entries);
-  used = length (others from (remembered m));
-}
+forgetKeys m from = map (freed from) m
 
--- not over 64 remembered keys
+-- not over 16 senders, and not over 32 keys for one
 unfoldable pub memoryOk : Memory → Bool
-memoryOk m = leb (m .used) memorySize
+memoryOk m = leb (length m) sendersMost && allBelow (length m) (λ i. leb (placeAt m i .used) keysEach)
 
 -- ---- for the promise of order
 
@@ -67,11 +133,38 @@ unfoldable pub rememberAll : List Key → Memory
 rememberAll [] = emptyMemory
 rememberAll (k ∷ ks) = remember (rememberAll ks) k
 
--- how many of these deliveries, the latest first, came since that of k
+-- the senders of these deliveries, each once, by their latest: at each delivery, where they are over 16, the one furthest back goes
+abbrev pub without : List ℕ → ℕ → List ℕ
+without [] x = []
+without (y ∷ l) x = pick (eqb y x) (without l x) (y ∷ without l x)
+
+unfoldable pub latest : List Key → List ℕ
+latest [] = []
+latest (k ∷ ks) = take sendersMost (k .sender ∷ without (latest ks) (k .sender))
+
+-- how many of these deliveries, the latest first, came of k's own sender since that of k
 unfoldable pub since : List Key → Key → ℕ
 since [] k = 0
-since (x ∷ ks) k = pick (sameKey x k) 0 (suc (since ks k))
+since (x ∷ ks) k = pick (sameKey x k) 0 (one (eqb (x .sender) (k .sender)) + since ks k)
 
--- 64 others have not been delivered since k was
+-- 32 others of its own sender have not been delivered since k was
 abbrev pub Lately : List Key → Key → Type 0
-Lately ks k = since ks k < memorySize
+Lately ks k = since ks k < keysEach
+
+-- a sender has a place
+abbrev pub isThere : Option ℕ → Bool
+isThere none = false
+isThere (some i) = true
+
+unfoldable pub isKnown : Memory → ℕ → Bool
+isKnown m from = isThere (first (isOf from) m)
+
+-- these keys are of at most 16 senders
+pub record FewSenders (ks : List Key) : Type 0 where
+  pub senders : List ℕ
+  pub few : length senders ≤ sendersMost
+  pub all : (k : Key) → among ks k ≡ true → has senders (k .sender) ≡ true
+
+pub record Recent (ks : List Key) (k : Key) : Type 0 where
+  pub lately : Lately ks k
+  pub few : FewSenders ks

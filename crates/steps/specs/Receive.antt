@@ -213,7 +213,7 @@ receive m store ledger sender r = act m store ledger (keyOf sender (sequenceOf r
 abbrev pub slotOk : ℕ → Slot → Bool
 slotOk C slot = not (busy slot) || (leb (slot .size) C && leb (slot .count) maxFragments)
 
--- The store has its length of opening, the ledger 4,096 numbers, C is the store's, every slot is in order, and not over 64 keys are remembered.
+-- The store has its length of opening, the ledger 4,096 numbers, C is the store's, every slot is in order, and not over 16 senders are remembered, nor over 32 keys for one.
 unfoldable pub sound : Machine → ℕ → ℕ → Bool
 sound m storeLength ledgerSize =
     eqb storeLength (m .storeLength)
@@ -235,7 +235,7 @@ pub record Forgot : Type 0 where
   pub machine : Machine
   pub refusal : Option ℕ
 
--- That sender's slots are freed and its remembered keys dropped; the rest keep their order. Only a state with over 64 remembered keys is refused, by 9.
+-- That sender's slots are freed and its remembered keys dropped; the rest keep their order. Only a state with over 16 remembered senders, or over 32 keys for one, is refused, by 9.
 unfoldable pub forget : Machine → ℕ → Forgot
 forget m sender =
     pick (memoryOk (m .memory))

@@ -5,7 +5,7 @@ use mathlib.Core.List.{List, [], _∷_, _++_, map}
 use Prim.Native.Nat.{ℕ, zero, suc}
 use lib.ListN.{replicate}
 use Rattle.steps.specs.Limits.{ledgerLength, slotSizeOf}
-use Rattle.steps.specs.Memory.{Key, keyOf, isRemembered, rememberAll, forgetKeys}
+use Rattle.steps.specs.Memory.{Key, keyOf, isRemembered, remember, rememberAll, forgetKeys}
 use Rattle.steps.specs.Slots.{busy, slotAt}
 use Rattle.steps.specs.Receive.{opened, step, forget}
 use Rattle.steps.specs.Answers.{Reply, refusedBy, kept, repeat, delivered}
@@ -99,24 +99,41 @@ cases =
     ∷ eight (headOf 8 5 0 0 1 (0x50 ∷ 0 ∷ 0x41 ∷ []) ∷ A-of 0 ∷ []) (only (refusedBy 6) ∷ only ABC ∷ [])
     ∷ []
 
--- ---- slot sizes, 65 deliveries, and forget
+-- ---- slot sizes; what is remembered after deliveries, the latest first, and of a sender that is forgotten
 
 -- the slot sizes of stores of 7, 8, 2,097,151, 2,097,152 and 2,097,160 bytes
 abbrev pub slotSizes : List ℕ
 slotSizes = map slotSizeOf (7 ∷ 8 ∷ 2_097_151 ∷ 2_097_152 ∷ 2_097_160 ∷ [])
 
--- the keys of sender 0 with sequences below n, the latest first
-abbrev pub keysBelow : ℕ → List Key
-keysBelow zero = []
-keysBelow (suc n) = keyOf 0 n ∷ keysBelow n
+-- the keys of sender 0 with sequences below n, then other deliveries before them
+abbrev pub keysBelow : ℕ → List Key → List Key
+keysBelow zero before = before
+keysBelow (suc n) before = keyOf 0 n ∷ keysBelow n before
 
--- after 65 deliveries the first is not remembered any more; the second and the last are
+-- a key of each of the senders below n
+abbrev pub eachBelow : ℕ → List Key
+eachBelow zero = []
+eachBelow (suc n) = keyOf n 7 ∷ eachBelow n
+
+-- after 33 deliveries of a sender the first is not remembered any more; the second and the last are
 unfoldable pub pastMemory : List Bool
-pastMemory = map (isRemembered (rememberAll (keysBelow 65))) (keyOf 0 0 ∷ keyOf 0 1 ∷ keyOf 0 64 ∷ [])
+pastMemory = map (isRemembered (rememberAll (keysBelow 33 []))) (keyOf 0 0 ∷ keyOf 0 1 ∷ keyOf 0 32 ∷ [])
+
+-- a tile's key is remembered after 200 deliveries of another sender; a key of its sequence is not found under the other
+unfoldable pub besideMast : List Bool
+besideMast = map (isRemembered (rememberAll (keysBelow 200 (keyOf 9 250 ∷ [])))) (keyOf 9 250 ∷ keyOf 0 250 ∷ [])
+
+-- 16 senders have spoken, and the first again: the 17th drops the second, whose latest delivery lies furthest back
+unfoldable pub seventeenth : List Bool
+seventeenth = map (isRemembered (rememberAll (keyOf 16 7 ∷ keyOf 0 8 ∷ eachBelow 16))) (keyOf 0 7 ∷ keyOf 1 7 ∷ keyOf 2 7 ∷ keyOf 16 7 ∷ [])
 
 -- a sender is forgotten, another is not
 unfoldable pub forgottenKeys : List Bool
 forgottenKeys = map (isRemembered (forgetKeys (rememberAll (keyOf 1 5 ∷ keyOf 2 6 ∷ keyOf 1 7 ∷ [])) 1)) (keyOf 1 5 ∷ keyOf 2 6 ∷ keyOf 1 7 ∷ [])
+
+-- of 16 senders one is forgotten: its place is free, and a 17th drops nobody
+unfoldable pub placeFreed : List Bool
+placeFreed = map (isRemembered (remember (forgetKeys (rememberAll (eachBelow 16)) 3) (keyOf 16 7))) (keyOf 0 7 ∷ keyOf 3 7 ∷ keyOf 16 7 ∷ [])
 
 -- slot 0 is open for sender 0: is it still, once a sender is forgotten?
 unfoldable pub openAfter : ℕ → Bool
@@ -124,4 +141,4 @@ openAfter sender =
     busy (slotAt (forget (step (opened 32) (replicate 32 9) (replicate ledgerLength 7) 0 (B-of 7) .machine) sender .machine .slots) 0)
 
 abbrev pub memoryTold : List (List Bool)
-memoryTold = pastMemory ∷ forgottenKeys ∷ (openAfter 0 ∷ openAfter 1 ∷ []) ∷ []
+memoryTold = pastMemory ∷ besideMast ∷ seventeenth ∷ forgottenKeys ∷ placeFreed ∷ (openAfter 0 ∷ openAfter 1 ∷ []) ∷ []

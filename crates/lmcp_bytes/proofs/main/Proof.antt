@@ -1,8 +1,8 @@
--- `lmcp_bytes::main` lends arrays as slices, each as long as it says: by a law, since they are too long to count. Assumes nothing.
+-- Arrays are lent as slices, each as long as it says: by a law, since they are too long to count. Assumes nothing.
 use mathlib.Core.Path.{_≡_, sym}
 use Prim.Native.Nat.{ℕ}
-use lib.IntN.{ℤ, pos}
 use lib.ListN.{length, replicate, length-replicate}
+use lib.IntN.{ℤ, pos}
 use Rattle.lmcp_bytes.proofs.main.Statement.{statement}
 use Rattle.lmcp_bytes.proofs.main.Tie as tie
 

@@ -1,23 +1,29 @@
--- The loop ends: it passes the numbers one by one. Assumes nothing.
+-- The numbers of a body. The loop's invariant: the i numbers passed are stored. Assumes nothing.
 use mathlib.Core.Path.{_≡_, refl, sym, ap, _∙_}
-use Prim.Native.Nat.{ℕ, _+_, _-_, _*_, _≤_, _<_}
-use lib.ListN.{length}
+use mathlib.Core.List.{List}
+use Prim.Native.Nat.{ℕ, _+_, _-_, _*_, _/_, _≤_}
+use lib.IntN.{ℤ}
+use lib.ListN.{length, drop, set, length-set}
+use lib.Seq.{sets, length-sets}
 use native.Mathlib.Omega.{arith}
+use mir.Syntax.{w64}
+use mir.Val.{toZ, ofZ}
+use mir.ValLaws.{toZ-ofZ}
+use Rattle.wire.specs.Signed.{signed}
+use Rattle.lmcp_bytes.specs.Lines.{numbersOf}
+use Rattle.lmcp_bytes.proofs.Taken.{taken-one}
 use borrow.Author.Needs.{needs}
 use Rattle.lmcp_bytes.proofs.take_list.Statement.{statement}
 use Rattle.lmcp_bytes.proofs.take_list.Tie as tie
 
 abbrev Inv-loop : tie.InvT-loop
-Inv-loop body list₀ n most i₀ list i = (i ≤ most) × (length list ≡ length list₀)
+Inv-loop body list₀ n i₀ list i = (i ≤ n) × (length list ≡ length list₀) × (list ≡ sets list₀ 0 (numbersOf i body))
 
 abbrev μ-loop : tie.MeasureT-loop
-μ-loop body list₀ n most i₀ list i = most - i
-
-least-requires : tie.Need-least-requires Inv-loop μ-loop
-least-requires c κs = search needs
+μ-loop body list₀ n i₀ list i = n - i
 
 loop-holds : tie.Need-loop-holds Inv-loop μ-loop
-loop-holds c = search needs
+loop-holds c = (omega arith, refl, refl)
 
 mul-number : tie.Need-mul-number Inv-loop μ-loop
 mul-number c = search needs
@@ -41,13 +47,25 @@ loop-less : tie.Need-loop-less Inv-loop μ-loop
 loop-less c = search needs
 
 loop-again : tie.Need-loop-again Inv-loop μ-loop
-loop-again c = search needs
+loop-again c =
+    let s = c in
+    let k = c .before in
+    let l = k .before .before in
+    let b = l .before .before .args .body .now in
+    let z : ℤ = toZ w64 (ofZ w64 (s .signed-of .result)) in
+    let e = toZ-ofZ w64 (s .signed-of .result) (record { sfits = s .signed-of .ok }) ∙ s .signed-of .ensures ∙ ap (signed 64) (k .number .ensures .value) in
+    let q = ap (λ (x : List ℤ). set x (l .loop .i) z) (l .loop .inv .2) ∙ taken-one (l .before .before .args .list .now) (l .loop .i) b z e in
+    (omega arith, ap length q ∙ length-sets (l .before .before .args .list .now) 0 (numbersOf (l .loop .i + 1) b), q)
 
 same-length : tie.Need-same-length Inv-loop μ-loop
 same-length c = search needs
 
 returns : tie.Need-returns Inv-loop μ-loop
-returns c = search needs
+returns c =
+    let l = c .before in
+    let a = l .before .before .args in
+    let e : l .loop .i ≡ length (a .body .now) / 8 = omega arith in
+    (refl, l .loop .inv .2 ∙ ap (λ (k : ℕ). sets (a .list .now) 0 (numbersOf k (a .body .now))) e)
 
 pub take-list-spec : {M : Type 1} → statement M
 take-list-spec =
@@ -55,7 +73,6 @@ take-list-spec =
     (tie.spec
     Inv-loop
     μ-loop
-    least-requires
     loop-holds
     mul-number
     number-requires

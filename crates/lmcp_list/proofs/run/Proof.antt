@@ -7,10 +7,10 @@ use Rattle.lmcp_list.proofs.run.Statement.{statement}
 use Rattle.lmcp_list.proofs.run.Tie as tie
 
 abbrev Inv-loop : tie.InvT-loop
-Inv-loop buf₀ list₀ out₀ input₀ at₀ n₀ t12 t13 buf list out input at n = (length buf ≡ length buf₀) × ((length list ≡ length list₀) × (length out ≡ length out₀))
+Inv-loop buf₀ list₀ out₀ input₀ at₀ n₀ buf list out input at n = (length buf ≡ length buf₀) × ((length list ≡ length list₀) × (length out ≡ length out₀))
 
 abbrev μ-loop : tie.MeasureT-loop
-μ-loop buf₀ list₀ out₀ input₀ at₀ n₀ t12 t13 buf list out input at n = 18446744073709551615 - n
+μ-loop buf₀ list₀ out₀ input₀ at₀ n₀ buf list out input at n = 18446744073709551615 - n
 
 loop-holds : tie.Need-loop-holds Inv-loop μ-loop
 loop-holds c = search needs
@@ -20,30 +20,6 @@ next-record-requires c κs = search needs
 
 enum-known-next : tie.Need-enum-known-next Inv-loop μ-loop
 enum-known-next c = search needs
-
-part-requires : tie.Need-part-requires Inv-loop μ-loop
-part-requires c κs = search needs
-
-read-message-requires : tie.Need-read-message-requires Inv-loop μ-loop
-read-message-requires c κs = search needs
-
-add-n : tie.Need-add-n Inv-loop μ-loop
-add-n c = search needs
-
-put-line-requires : tie.Need-put-line-requires Inv-loop μ-loop
-put-line-requires c κs = search needs
-
-loop-less : tie.Need-loop-less Inv-loop μ-loop
-loop-less c = search needs
-
-loop-again : tie.Need-loop-again Inv-loop μ-loop
-loop-again c = search needs
-
-enum-told : tie.Need-enum-told Inv-loop μ-loop
-enum-told c = search needs
-
-slice-aggregate-finish : tie.Need-slice-aggregate-finish Inv-loop μ-loop
-slice-aggregate-finish c = search needs
 
 finish-requires : tie.Need-finish-requires Inv-loop μ-loop
 finish-requires c κs = search needs
@@ -60,14 +36,20 @@ same-length-3 c = search needs
 returns : tie.Need-returns Inv-loop μ-loop
 returns c = search needs
 
-enum-told-2 : tie.Need-enum-told-2 Inv-loop μ-loop
-enum-told-2 c = search needs
+add-n : tie.Need-add-n Inv-loop μ-loop
+add-n c = search needs
 
-slice-aggregate-finish-2 : tie.Need-slice-aggregate-finish-2 Inv-loop μ-loop
-slice-aggregate-finish-2 c = search needs
+part-requires : tie.Need-part-requires Inv-loop μ-loop
+part-requires c κs = search needs
 
-finish-requires-2 : tie.Need-finish-requires-2 Inv-loop μ-loop
-finish-requires-2 c κs = search needs
+one-more-requires : tie.Need-one-more-requires Inv-loop μ-loop
+one-more-requires c κs = search needs
+
+loop-less : tie.Need-loop-less Inv-loop μ-loop
+loop-less c = search needs
+
+loop-again : tie.Need-loop-again Inv-loop μ-loop
+loop-again c = search needs
 
 same-length-4 : tie.Need-same-length-4 Inv-loop μ-loop
 same-length-4 c = search needs
@@ -81,18 +63,6 @@ same-length-6 c = search needs
 returns-2 : tie.Need-returns-2 Inv-loop μ-loop
 returns-2 c = search needs
 
-same-length-7 : tie.Need-same-length-7 Inv-loop μ-loop
-same-length-7 c = search needs
-
-same-length-8 : tie.Need-same-length-8 Inv-loop μ-loop
-same-length-8 c = search needs
-
-same-length-9 : tie.Need-same-length-9 Inv-loop μ-loop
-same-length-9 c = search needs
-
-returns-3 : tie.Need-returns-3 Inv-loop μ-loop
-returns-3 c = search needs
-
 pub run-spec : {M : Type 1} → statement M
 run-spec =
     tie.close
@@ -102,27 +72,17 @@ run-spec =
     loop-holds
     next-record-requires
     enum-known-next
-    part-requires
-    read-message-requires
-    add-n
-    put-line-requires
-    loop-less
-    loop-again
-    enum-told
-    slice-aggregate-finish
     finish-requires
     same-length
     same-length-2
     same-length-3
     returns
-    enum-told-2
-    slice-aggregate-finish-2
-    finish-requires-2
+    add-n
+    part-requires
+    one-more-requires
+    loop-less
+    loop-again
     same-length-4
     same-length-5
     same-length-6
-    returns-2
-    same-length-7
-    same-length-8
-    same-length-9
-    returns-3)
+    returns-2)

@@ -1,63 +1,32 @@
 -- `memory::forget` meets its contract. Assumes nothing.
-use mathlib.Core.Path.{_∙_}
+use mathlib.Core.Path.{_≡_, sym, _∙_, ap}
 use borrow.Author.Needs.{needs}
-use Rattle.memory.specs.Words.{senders, sequences, forgottenIn}
-use Rattle.memory.proofs.Loops.{sieved-count, sieved-take, sieved-long, sieved-fits}
+use lib.ListN.{length}
+use Rattle.steps.specs.Limits.{sendersMost}
+use Rattle.memory.specs.Words.{memoryIn}
+use Rattle.memory.proofs.Loops.{freed-length}
+use Rattle.memory.proofs.Views.{stays, left, forgotten-memory}
 use Rattle.memory.proofs.forget.Statement.{statement}
 use Rattle.memory.proofs.forget.Tie as tie
-
-used-requires : tie.Need-used-requires
-used-requires c κs = search needs
-
-sieve-requires : tie.Need-sieve-requires
-sieve-requires c κs = search needs
-
-sieve-requires-2 : tie.Need-sieve-requires-2
-sieve-requires-2 c κs = search needs
-
-array-share-prefix-a : tie.Need-array-share-prefix-a
-array-share-prefix-a c = sieved-fits (c .before .before .before .before .before .before .before .before .before .before .args .memory .now) senders (c .before .before .before .before .before .before .before .used .result) (c .before .before .before .before .before .before .before .before .before .before .args .sender) _ (c .before .before .before .before .before .sieve .ensures)
-
-slice-aggregate-put-words : tie.Need-slice-aggregate-put-words
-slice-aggregate-put-words c = sieved-long (c .before .before .before .before .before .before .before .before .before .before .before .args .memory .now) senders (c .before .before .before .before .before .before .before .before .used .result) (c .before .before .before .before .before .before .before .before .before .before .before .args .sender) _ (c .before .before .before .before .before .before .sieve .ensures)
-
-put-words-requires : tie.Need-put-words-requires
-put-words-requires c κs = search needs
-
-array-share-prefix-b : tie.Need-array-share-prefix-b
-array-share-prefix-b c = sieved-fits (c .before .before .before .before .before .before .before .before .before .before .before .before .before .before .before .args .memory .now) sequences (c .before .before .before .before .before .before .before .before .before .before .before .before .used .result) (c .before .before .before .before .before .before .before .before .before .before .before .before .before .before .before .args .sender) _ (c .before .before .before .before .before .before .before .before .sieve2 .ensures)
-
-slice-aggregate-put-words-2 : tie.Need-slice-aggregate-put-words-2
-slice-aggregate-put-words-2 c = sieved-long (c .before .before .before .before .before .before .before .before .before .before .before .before .before .before .before .before .args .memory .now) sequences (c .before .before .before .before .before .before .before .before .before .before .before .before .before .used .result) (c .before .before .before .before .before .before .before .before .before .before .before .before .before .before .before .before .args .sender) _ (c .before .before .before .before .before .before .before .before .before .sieve2 .ensures)
-
-put-words-requires-2 : tie.Need-put-words-requires-2
-put-words-requires-2 c κs = search needs
-
-put-word-requires : tie.Need-put-word-requires
-put-word-requires c κs = search needs
 
 same-length : tie.Need-same-length
 same-length c = search needs
 
 returns : tie.Need-returns
-unfolding forgottenIn
-returns c =
-    rw (← c .before .before .before .before .before .before .before .before .before .before .before .before .before .before .before .before .before .before .before .before .used .ensures .0)
-    (c .before .before .put-word .ensures ∙ (rw (c .before .before .before .before .before .before .put-words2 .ensures, c .before .before .before .before .before .before .before .before .before .before .before .put-words .ensures, sieved-take (c .before .before .before .before .before .before .before .before .before .before .before .before .before .before .before .before .before .before .before .before .before .before .before .args .memory .now) senders (c .before .before .before .before .before .before .before .before .before .before .before .before .before .before .before .before .before .before .before .before .used .result) (c .before .before .before .before .before .before .before .before .before .before .before .before .before .before .before .before .before .before .before .before .before .before .before .args .sender) _ (c .before .before .before .before .before .before .before .before .before .before .before .before .before .before .before .before .before .before .sieve .ensures), sieved-take (c .before .before .before .before .before .before .before .before .before .before .before .before .before .before .before .before .before .before .before .before .before .before .before .args .memory .now) sequences (c .before .before .before .before .before .before .before .before .before .before .before .before .before .before .before .before .before .before .before .before .used .result) (c .before .before .before .before .before .before .before .before .before .before .before .before .before .before .before .before .before .before .before .before .before .before .before .args .sender) _ (c .before .before .before .before .before .before .before .before .before .before .before .before .before .before .before .before .sieve2 .ensures), sieved-count (c .before .before .before .before .before .before .before .before .before .before .before .before .before .before .before .before .before .before .before .before .before .before .before .args .memory .now) senders (c .before .before .before .before .before .before .before .before .before .before .before .before .before .before .before .before .before .before .before .before .used .result) (c .before .before .before .before .before .before .before .before .before .before .before .before .before .before .before .before .before .before .before .before .before .before .before .args .sender) _ (c .before .before .before .before .before .before .before .before .before .before .before .before .before .before .before .before .before .before .sieve .ensures))))
+returns c = stays (c .before .before .args .memory .now) _ (c .if1 .taken)
+
+free-all-requires : tie.Need-free-all-requires
+free-all-requires c κs = search needs
+
+same-length-2 : tie.Need-same-length
+same-length-2 c = search needs
+
+returns-2 : tie.Need-returns-2
+returns-2 c =
+    let a = c .before .before .before .before .before .before .args in
+    let e = c .before .before .before .before .if1 .left in
+    let u = c .before .before .free-all .ensures in
+    left (a .memory .now) _ _ e (ap memoryIn u ∙ forgotten-memory (a .memory .now) (a .sender) e) (ap length u ∙ freed-length (a .memory .now) (a .sender) sendersMost)
 
 pub forget-spec : {M : Type 1} → statement M
-forget-spec =
-    tie.close
-    (tie.spec
-    used-requires
-    sieve-requires
-    sieve-requires-2
-    array-share-prefix-a
-    slice-aggregate-put-words
-    put-words-requires
-    array-share-prefix-b
-    slice-aggregate-put-words-2
-    put-words-requires-2
-    put-word-requires
-    same-length
-    returns)
+forget-spec = tie.close (tie.spec returns free-all-requires same-length returns-2)

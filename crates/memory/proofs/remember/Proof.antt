@@ -1,97 +1,52 @@
 -- `memory::remember` meets its contract. Assumes nothing.
-use mathlib.Core.Path.{_∙_}
-use Prim.Native.Nat.{_≤_, _<_}
-use lib.ListN.{getD}
-use borrow.Author.Tests.{lt-ltb, le-ltb}
+use mathlib.Core.Path.{_≡_, sym, _∙_, ap}
+use Prim.Native.Nat.{ℕ}
 use borrow.Author.Needs.{needs}
-use Rattle.steps.specs.Limits.{memorySize}
-use Rattle.memory.specs.Words.{rememberedIn}
+use lib.ListN.{length}
+use Rattle.memory.specs.Words.{memoryWords, memoryIn}
+use Rattle.memory.specs.Parts.{settledIn, addedIn}
+use Rattle.memory.proofs.Views.{stays, left, for-inside, remembered-memory, remembered-length}
 use Rattle.memory.proofs.remember.Statement.{statement}
 use Rattle.memory.proofs.remember.Tie as tie
 
-word-requires : tie.Need-word-requires
-word-requires c κs = search needs
+returns : tie.Need-returns
+returns c = stays (c .before .before .args .memory .now) _ (c .if1 .taken)
 
-add-put-word : tie.Need-add-put-word
-add-put-word c = search needs
+place-for-requires : tie.Need-place-for-requires
+place-for-requires c κs = search needs
 
-put-word-requires : tie.Need-put-word-requires
-put-word-requires c κs = search needs
+count-of-requires : tie.Need-count-of-requires
+count-of-requires c κs = for-inside (c .before .before .before .before .before .args .memory .now) (c .before .before .before .before .before .args .sender) _ (c .before .place-for .ensures)
 
-add-put-word-2 : tie.Need-add-put-word-2
-add-put-word-2 c = search needs
+settle-requires : tie.Need-settle-requires
+settle-requires c κs = for-inside (c .before .before .before .before .before .before .before .args .memory .now) (c .before .before .before .before .before .before .before .args .sender) _ (c .before .before .before .place-for .ensures)
 
-put-word-requires-2 : tie.Need-put-word-requires-2
-put-word-requires-2 c κs = search needs
-
-add-put-word-3 : tie.Need-add-put-word-3
-add-put-word-3 c = search needs
-
-put-word-requires-3 : tie.Need-put-word-requires-3
-put-word-requires-3 c κs = search needs
+add-requires : tie.Need-add-requires
+add-requires c κs = for-inside (c .before .before .before .before .before .before .before .before .before .before .before .args .memory .now) (c .before .before .before .before .before .before .before .before .before .before .before .args .sender) _ (c .before .before .before .before .before .before .before .place-for .ensures)
 
 same-length : tie.Need-same-length
 same-length c = search needs
 
-returns : tie.Need-returns
-unfolding rememberedIn
-returns c =
-    let h : getD (c .before .before .before .before .before .before .before .before .before .before .before .before .before .before .before .before .args .memory .now) 0 0 < memorySize = rw (c .before .before .before .before .before .before .before .before .before .before .before .before .before .word .ensures) at (c .before .before .before .before .before .before .before .before .before .before .before .before .if1 .taken) in
-    c .before .before .put-word3 .ensures ∙ (rw (c .before .before .before .before .before .before .put-word2 .ensures, c .before .before .before .before .before .before .before .before .before .before .put-word .ensures, c .before .before .before .before .before .before .before .before .before .before .before .before .before .word .ensures, lt-ltb _ _ h))
-
-shift-requires : tie.Need-shift-requires
-shift-requires c κs = search needs
-
-add-put-word-4 : tie.Need-add-put-word-4
-add-put-word-4 c = search needs
-
-sub-put-word : tie.Need-sub-put-word
-sub-put-word c = search needs
-
-put-word-requires-4 : tie.Need-put-word-requires-4
-put-word-requires-4 c κs = search needs
-
-shift-requires-2 : tie.Need-shift-requires-2
-shift-requires-2 c κs = search needs
-
-add-put-word-5 : tie.Need-add-put-word-5
-add-put-word-5 c = search needs
-
-sub-put-word-2 : tie.Need-sub-put-word-2
-sub-put-word-2 c = search needs
-
-put-word-requires-5 : tie.Need-put-word-requires-5
-put-word-requires-5 c κs = search needs
-
-same-length-2 : tie.Need-same-length-2
-same-length-2 c = search needs
-
 returns-2 : tie.Need-returns-2
-unfolding rememberedIn
 returns-2 c =
-    let h : memorySize ≤ getD (c .before .before .before .before .before .before .before .before .before .before .before .before .before .before .before .before .before .before .before .before .args .memory .now) 0 0 = rw (c .before .before .before .before .before .before .before .before .before .before .before .before .before .before .before .before .before .word .ensures) at (c .before .before .before .before .before .before .before .before .before .before .before .before .before .before .before .before .if1 .left) in
-    c .before .before .put-word5 .ensures ∙ (rw (c .before .before .before .before .before .before .shift2 .ensures, c .before .before .before .before .before .before .before .before .before .before .put-word4 .ensures, c .before .before .before .before .before .before .before .before .before .before .before .before .before .before .shift .ensures, le-ltb _ _ h))
+    let w = c .before .before .before .before .before .before .before .before .before .before .before .before .before .before .args .memory .now in
+    let s = c .before .before .before .before .before .before .before .before .before .before .before .before .before .before .args .sender in
+    let q = c .before .before .before .before .before .before .before .before .before .before .before .before .before .before .args .sequence in
+    let e = c .before .before .before .before .before .before .before .before .before .before .before .before .if1 .left in
+    let i = c .before .before .before .before .before .before .before .before .before .before .place-for .result in
+    let n = c .before .before .before .before .before .before .before .before .count-of .result in
+    let p = c .before .before .before .before .before .before .before .before .before .before .place-for .ensures in
+    let u = c .before .before .add .ensures ∙ ap (λ v. addedIn v i n q) (c .before .before .before .before .before .before .settle .ensures) in
+    left w _ _ e (ap memoryIn u ∙ remembered-memory w e s q i n p (c .before .before .before .before .before .before .before .before .count-of .ensures)) (ap length u ∙ remembered-length w e s q i n (for-inside w s i p) ∙ sym e)
 
 pub remember-spec : {M : Type 1} → statement M
 remember-spec =
     tie.close
     (tie.spec
-    word-requires
-    add-put-word
-    put-word-requires
-    add-put-word-2
-    put-word-requires-2
-    add-put-word-3
-    put-word-requires-3
-    same-length
     returns
-    shift-requires
-    add-put-word-4
-    sub-put-word
-    put-word-requires-4
-    shift-requires-2
-    add-put-word-5
-    sub-put-word-2
-    put-word-requires-5
-    same-length-2
+    place-for-requires
+    count-of-requires
+    settle-requires
+    add-requires
+    same-length
     returns-2)

@@ -4,17 +4,18 @@ use Prim.Native.Nat.{_-_, _≤_}
 use native.Mathlib.Omega.{arith}
 use lib.ListN.{length}
 use borrow.Author.Needs.{needs}
-use Rattle.steps.specs.Limits.{memorySize}
-use Rattle.memory.specs.Words.{sequences, shiftedIn}
+use Rattle.steps.specs.Limits.{sendersMost, keysEach}
+use Rattle.memory.specs.Words.{sequencesAt}
+use Rattle.memory.specs.Parts.{shiftedIn}
 use Rattle.memory.proofs.Loops.{shifted-none, shifted-more, shifted-length}
 use Rattle.memory.proofs.shift.Statement.{statement}
 use Rattle.memory.proofs.shift.Tie as tie
 
 abbrev Inv-loop : tie.InvT-loop
-Inv-loop memory₀ a i₀ memory i = (i ≤ memorySize - 1) × (a ≤ sequences) × (memory ≡ shiftedIn memory₀ a i)
+Inv-loop memory₀ a i₀ memory i = (i ≤ keysEach - 1) × (a ≤ sequencesAt (sendersMost - 1)) × (memory ≡ shiftedIn memory₀ a i)
 
 abbrev μ-loop : tie.MeasureT-loop
-μ-loop memory₀ a i₀ memory i = memorySize - 1 - i
+μ-loop memory₀ a i₀ memory i = keysEach - 1 - i
 
 loop-holds : tie.Need-loop-holds Inv-loop μ-loop
 loop-holds c = (omega arith, c .before .pre, shifted-none (c .before .args .memory .now) (c .before .args .a))
@@ -52,7 +53,7 @@ same-length c = ap length (c .before .loop .inv .2) ∙ shifted-length (c .befor
 
 returns : tie.Need-returns Inv-loop μ-loop
 returns c =
-    let e : c .before .loop .i ≡ memorySize - 1 = omega arith in
+    let e : c .before .loop .i ≡ keysEach - 1 = omega arith in
     rw e at (c .before .loop .inv .2)
 
 pub shift-spec : {M : Type 1} → statement M

@@ -4,6 +4,7 @@ use borrow.Author.Tests.{eq-eqb, ne-eqb, not-true, not-false}
 use borrow.Author.Needs.{needs}
 use Rattle.receiver.specs.Parts.{isReady}
 use Rattle.receiver.proofs.Gates.{ready-given}
+use Rattle.receiver.proofs.Others.{in-order-is}
 use Rattle.receiver.proofs.is_ready.Statement.{statement}
 use Rattle.receiver.proofs.is_ready.Tie as tie
 
@@ -44,13 +45,24 @@ returns-6 c =
     let a = c .before .before .before .before .before .before .before .before .before .before .before .args in
     sym (ready-given (a .state .now) (a .names) (a .store) (a .ledger) (c .before .before .before .before .before .before .before .before .before .if1 .left) (c .before .before .before .before .before .before .before .before .if2 .left) (c .before .before .before .before .before .before .if3 .left) (c .before .before .before .before .before .if4 .left) (c .before .before .if5 .left ∙ c .before .before .before .slot-size .ensures) ∙ rw (sym (c .before .all-sound .ensures) ∙ not-true _ (c .if6 .taken)))
 
-shared-slice-read-result : tie.Need-shared-slice-read-result
-shared-slice-read-result c = search needs
+sub-in-order : tie.Need-sub-in-order
+sub-in-order c = search needs
+
+part-in-order-start : tie.Need-part-in-order-start
+part-in-order-start c = search needs
+
+part-in-order-end : tie.Need-part-in-order-end
+part-in-order-end c = search needs
+
+in-order-requires : tie.Need-in-order-requires
+in-order-requires c κs = search needs
 
 returns-7 : tie.Need-returns-7
 returns-7 c =
-    let a = c .before .before .before .before .before .before .before .before .before .before .before .before .args in
-    sym (ready-given (a .state .now) (a .names) (a .store) (a .ledger) (c .before .before .before .before .before .before .before .before .before .before .if1 .left) (c .before .before .before .before .before .before .before .before .before .if2 .left) (c .before .before .before .before .before .before .before .if3 .left) (c .before .before .before .before .before .before .if4 .left) (c .before .before .before .if5 .left ∙ c .before .before .before .before .slot-size .ensures) ∙ rw (sym (c .before .before .all-sound .ensures) ∙ not-false _ (c .before .if6 .left)))
+    let a = c .before .before .before .before .before .before .before .before .before .before .before .before .before .args in
+    let e = c .before .before .before .before .before .before .before .before .before .before .before .if1 .left in
+    sym (ready-given (a .state .now) (a .names) (a .store) (a .ledger) e (c .before .before .before .before .before .before .before .before .before .before .if2 .left) (c .before .before .before .before .before .before .before .before .if3 .left) (c .before .before .before .before .before .before .before .if4 .left) (c .before .before .before .before .if5 .left ∙ c .before .before .before .before .before .slot-size .ensures)
+    ∙ rw (sym (c .before .before .before .all-sound .ensures) ∙ not-false _ (c .before .before .if6 .left)) (sym (in-order-is (a .state .now) e _ (c .in-order .ensures))))
 
 pub is-ready-spec : {M : Type 1} → statement M
 is-ready-spec =
@@ -66,5 +78,8 @@ is-ready-spec =
     returns-5
     all-sound-requires
     returns-6
-    shared-slice-read-result
+    sub-in-order
+    part-in-order-start
+    part-in-order-end
+    in-order-requires
     returns-7)

@@ -1,0 +1,57 @@
+-- `memory::free_all` meets its contract. The loop's invariant: the i places passed are freed where they are the sender's. Assumes nothing.
+use mathlib.Core.Path.{_≡_, _∙_, ap}
+use Prim.Native.Nat.{ℕ, _+_, _-_, _≤_, _<_}
+use native.Mathlib.Omega.{arith}
+use borrow.Author.Needs.{needs}
+use lib.ListN.{length}
+use Rattle.steps.specs.Limits.{sendersMost, keysEach}
+use Rattle.memory.specs.Parts.{freedIn}
+use Rattle.memory.proofs.Loops.{freed-none, freed-more, freed-length}
+use Rattle.memory.proofs.free_all.Statement.{statement}
+use Rattle.memory.proofs.free_all.Tie as tie
+
+abbrev Inv-loop : tie.InvT-loop
+Inv-loop memory₀ sender i₀ memory i = (i ≤ sendersMost) × (memory ≡ freedIn memory₀ sender i)
+
+abbrev μ-loop : tie.MeasureT-loop
+μ-loop memory₀ sender i₀ memory i = sendersMost - i
+
+loop-holds : tie.Need-loop-holds Inv-loop μ-loop
+loop-holds c = (omega arith, freed-none (c .before .args .memory .now) (c .before .args .sender))
+
+free-at-requires : tie.Need-free-at-requires Inv-loop μ-loop
+free-at-requires c κs = search needs
+
+add-i : tie.Need-add-i Inv-loop μ-loop
+add-i c = search needs
+
+loop-less : tie.Need-loop-less Inv-loop μ-loop
+loop-less c = search needs
+
+loop-again : tie.Need-loop-again Inv-loop μ-loop
+loop-again c =
+    let a = c .before .before .before .before .before .before .before .args in
+    let l = c .before .before .before .before .before .loop in
+    (omega arith, freed-more (a .memory .now) (l .memory) _ (a .sender) (l .i) (l .inv .1) (c .before .before .free-at .ensures))
+
+same-length : tie.Need-same-length Inv-loop μ-loop
+same-length c = ap length (c .before .loop .inv .1) ∙ freed-length (c .before .before .before .args .memory .now) (c .before .before .before .args .sender) (c .before .loop .i)
+
+returns : tie.Need-returns Inv-loop μ-loop
+returns c =
+    let e : c .before .loop .i ≡ sendersMost = omega arith in
+    rw e at (c .before .loop .inv .1)
+
+pub free-all-spec : {M : Type 1} → statement M
+free-all-spec =
+    tie.close
+    (tie.spec
+    Inv-loop
+    μ-loop
+    loop-holds
+    free-at-requires
+    add-i
+    loop-less
+    loop-again
+    same-length
+    returns)

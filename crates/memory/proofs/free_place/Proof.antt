@@ -1,0 +1,65 @@
+-- `memory::free_place` meets its contract. The loop's invariant: none of the i places passed is free. Assumes nothing.
+use mathlib.Core.Path.{_≡_, sym, _∙_}
+use mathlib.Core.Bool.{false}
+use Prim.Native.Nat.{ℕ, _+_, _-_, _≤_, _<_}
+use native.Mathlib.Omega.{arith}
+use borrow.Author.Needs.{needs}
+use borrow.Author.Tests.{eq-eqb, ne-eqb}
+use borrow.Author.Count.{below-more}
+use Rattle.steps.specs.Limits.{sendersMost, keysEach}
+use Rattle.steps.specs.Memory.{vacant}
+use Rattle.memory.specs.Words.{placeIn}
+use Rattle.memory.proofs.Loops.{found-at, found-none}
+use Rattle.memory.proofs.free_place.Statement.{statement}
+use Rattle.memory.proofs.free_place.Tie as tie
+
+abbrev Inv-loop : tie.InvT-loop
+Inv-loop memory i₀ i = (i ≤ sendersMost) × ((j : ℕ) → j < i → vacant (placeIn memory j) ≡ false)
+
+abbrev μ-loop : tie.MeasureT-loop
+μ-loop memory i₀ i = sendersMost - i
+
+loop-holds : tie.Need-loop-holds Inv-loop μ-loop
+loop-holds c = (omega arith, λ j h. absurd (let z : ⊥ = omega arith in z))
+
+add-word : tie.Need-add-word Inv-loop μ-loop
+add-word c = search needs
+
+word-requires : tie.Need-word-requires Inv-loop μ-loop
+word-requires c κs = search needs
+
+returns : tie.Need-returns Inv-loop μ-loop
+returns c =
+    let l = c .before .before .before .loop in
+    found-at vacant (c .before .before .before .before .before .args .memory .now) (l .i) (omega arith) (l .inv .1) (eq-eqb _ _ (sym (c .before .word .ensures) ∙ c .if1 .taken))
+
+add-i : tie.Need-add-i Inv-loop μ-loop
+add-i c = search needs
+
+loop-less : tie.Need-loop-less Inv-loop μ-loop
+loop-less c = search needs
+
+loop-again : tie.Need-loop-again Inv-loop μ-loop
+loop-again c =
+    let l = c .before .before .before .loop in
+    (omega arith, below-more (λ (j : ℕ). vacant (placeIn (c .before .before .before .before .before .args .memory .now) j) ≡ false) (l .i) (l .inv .1) (ne-eqb _ _ (λ q. c .if1 .left (c .before .word .ensures ∙ q))))
+
+returns-2 : tie.Need-returns-2 Inv-loop μ-loop
+returns-2 c =
+    let l = c .before .loop in
+    found-none vacant (c .before .before .before .args .memory .now) (λ j h. l .inv .1 j (omega arith))
+
+pub free-place-spec : {M : Type 1} → statement M
+free-place-spec =
+    tie.close
+    (tie.spec
+    Inv-loop
+    μ-loop
+    loop-holds
+    add-word
+    word-requires
+    returns
+    add-i
+    loop-less
+    loop-again
+    returns-2)

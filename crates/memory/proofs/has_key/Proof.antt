@@ -1,0 +1,89 @@
+-- `memory::has_key` meets its contract. The loop's invariant: none of the j sequences passed is the one. Assumes nothing.
+use mathlib.Core.Path.{_≡_, refl, sym, _∙_, ap}
+use mathlib.Core.Bool.{Bool, false}
+use Prim.Native.Nat.{ℕ, _+_, _-_, _≤_, _<_}
+use Prim.Native.Nat.{min}
+use native.Mathlib.Omega.{arith}
+use borrow.Author.Needs.{needs}
+use lib.ListN.{length, getD, take}
+use Rattle.steps.specs.Limits.{sendersMost, keysEach}
+use Rattle.steps.specs.Memory.{has}
+use Rattle.memory.specs.Words.{usedAt, sequencesIn}
+use Rattle.memory.proofs.Loops.{key-hit, key-more, key-missed}
+use Rattle.memory.proofs.has_key.Statement.{statement}
+use Rattle.memory.proofs.has_key.Tie as tie
+
+abbrev Inv-loop : tie.InvT-loop
+Inv-loop memory i sequence n a j₀ j = (j ≤ n) × (n ≤ keysEach) × (has (take j (sequencesIn memory i)) sequence ≡ false)
+
+abbrev μ-loop : tie.MeasureT-loop
+μ-loop memory i sequence n a j₀ j = n - j
+
+add-word : tie.Need-add-word Inv-loop μ-loop
+add-word c = search needs
+
+word-requires : tie.Need-word-requires Inv-loop μ-loop
+word-requires c κs = search needs
+
+least-requires : tie.Need-least-requires Inv-loop μ-loop
+least-requires c κs = search needs
+
+mul-a : tie.Need-mul-a Inv-loop μ-loop
+mul-a c = search needs
+
+add-a : tie.Need-add-a Inv-loop μ-loop
+add-a c = search needs
+
+loop-holds : tie.Need-loop-holds Inv-loop μ-loop
+loop-holds c = (omega arith, omega (arith, c .least .ensures), refl)
+
+add-word-2 : tie.Need-add-word-2 Inv-loop μ-loop
+add-word-2 c = search needs
+
+word-requires-2 : tie.Need-word-requires-2 Inv-loop μ-loop
+word-requires-2 c κs = search needs
+
+returns : tie.Need-returns Inv-loop μ-loop
+returns c =
+    let a = c .before .before .before .before .before .before .before .args in
+    let l = c .before .before .before .loop in
+    sym (key-hit (a .memory .now) (a .i) (a .sequence) (c .before .before .before .before .least .result) (c .before .before .before .before .least .ensures ∙ ap (λ (k : ℕ). min k keysEach) (c .before .before .before .before .before .word .ensures)) (l .j) (omega arith) (sym (c .before .word2 .ensures) ∙ c .if1 .taken))
+
+add-j : tie.Need-add-j Inv-loop μ-loop
+add-j c = search needs
+
+loop-less : tie.Need-loop-less Inv-loop μ-loop
+loop-less c = search needs
+
+loop-again : tie.Need-loop-again Inv-loop μ-loop
+loop-again c =
+    let a = c .before .before .before .before .before .before .before .args in
+    let l = c .before .before .before .loop in
+    (omega arith, l .inv .1, key-more (a .memory .now) (a .i) (a .sequence) (c .before .before .before .before .least .result) (c .before .before .before .before .least .ensures ∙ ap (λ (k : ℕ). min k keysEach) (c .before .before .before .before .before .word .ensures)) (l .j) (omega arith) (l .inv .2) (λ q. c .if1 .left (c .before .word2 .ensures ∙ q)))
+
+returns-2 : tie.Need-returns-2 Inv-loop μ-loop
+returns-2 c =
+    let a = c .before .before .before .before .before .args in
+    let l = c .before .loop in
+    let e : l .j ≡ c .before .before .least .result = omega arith in
+    sym (key-missed (a .memory .now) (a .i) (a .sequence) (c .before .before .least .result) (c .before .before .least .ensures ∙ ap (λ (k : ℕ). min k keysEach) (c .before .before .before .word .ensures)) (rw e at (l .inv .2)))
+
+pub has-key-spec : {M : Type 1} → statement M
+has-key-spec =
+    tie.close
+    (tie.spec
+    Inv-loop
+    μ-loop
+    add-word
+    word-requires
+    least-requires
+    mul-a
+    add-a
+    loop-holds
+    add-word-2
+    word-requires-2
+    returns
+    add-j
+    loop-less
+    loop-again
+    returns-2)

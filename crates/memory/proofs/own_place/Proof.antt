@@ -1,0 +1,63 @@
+-- `memory::own_place` meets its contract. The loop's invariant: none of the i places passed is the sender's. Assumes nothing.
+use mathlib.Core.Path.{_≡_, sym, _∙_}
+use mathlib.Core.Bool.{false}
+use Prim.Native.Nat.{ℕ, _+_, _-_, _≤_, _<_}
+use native.Mathlib.Omega.{arith}
+use borrow.Author.Needs.{needs}
+use borrow.Author.Count.{below-more}
+use Rattle.steps.specs.Limits.{sendersMost, keysEach}
+use Rattle.steps.specs.Memory.{isOf}
+use Rattle.memory.specs.Words.{placeIn}
+use Rattle.memory.proofs.Loops.{found-at, found-none}
+use Rattle.memory.proofs.own_place.Statement.{statement}
+use Rattle.memory.proofs.own_place.Tie as tie
+
+abbrev Inv-loop : tie.InvT-loop
+Inv-loop memory sender i₀ i = (i ≤ sendersMost) × ((j : ℕ) → j < i → isOf sender (placeIn memory j) ≡ false)
+
+abbrev μ-loop : tie.MeasureT-loop
+μ-loop memory sender i₀ i = sendersMost - i
+
+loop-holds : tie.Need-loop-holds Inv-loop μ-loop
+loop-holds c = (omega arith, λ j h. absurd (let z : ⊥ = omega arith in z))
+
+is-of-requires : tie.Need-is-of-requires Inv-loop μ-loop
+is-of-requires c κs = search needs
+
+returns : tie.Need-returns Inv-loop μ-loop
+returns c =
+    let a = c .before .before .before .before .before .args in
+    let l = c .before .before .before .loop in
+    found-at (isOf (a .sender)) (a .memory .now) (l .i) (omega arith) (l .inv .1) (sym (c .before .is-of .ensures) ∙ c .if1 .taken)
+
+add-i : tie.Need-add-i Inv-loop μ-loop
+add-i c = search needs
+
+loop-less : tie.Need-loop-less Inv-loop μ-loop
+loop-less c = search needs
+
+loop-again : tie.Need-loop-again Inv-loop μ-loop
+loop-again c =
+    let a = c .before .before .before .before .before .args in
+    let l = c .before .before .before .loop in
+    (omega arith, below-more (λ (j : ℕ). isOf (a .sender) (placeIn (a .memory .now) j) ≡ false) (l .i) (l .inv .1) (sym (c .before .is-of .ensures) ∙ c .if1 .left))
+
+returns-2 : tie.Need-returns-2 Inv-loop μ-loop
+returns-2 c =
+    let a = c .before .before .before .args in
+    let l = c .before .loop in
+    found-none (isOf (a .sender)) (a .memory .now) (λ j h. l .inv .1 j (omega arith))
+
+pub own-place-spec : {M : Type 1} → statement M
+own-place-spec =
+    tie.close
+    (tie.spec
+    Inv-loop
+    μ-loop
+    loop-holds
+    is-of-requires
+    returns
+    add-i
+    loop-less
+    loop-again
+    returns-2)
