@@ -218,5 +218,8 @@ enum ref_seen ref_watch(struct ref_watch *w, u64 sender, u32 sequence, u64 *by) 
         return REF_FORWARD;
     }
     *by = 4294967296ULL - ahead;
-    return REF_LATE;
+    if (*by <= MOST_LATE) return REF_LATE;
+    *by = sequence;
+    w->last[i] = sequence;
+    return REF_RESTARTED;
 }

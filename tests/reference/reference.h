@@ -114,9 +114,9 @@ void ref_forget(struct ref_receiver *r, u64 sender);
 
 /* ---- the watch, of at most 16 senders in order of first number */
 
-enum { WATCHED = 16 };
+enum { WATCHED = 16, MOST_LATE = 1024 };
 
-enum ref_seen { REF_FIRST, REF_FORWARD, REF_SAME, REF_LATE, REF_FULL };
+enum ref_seen { REF_FIRST, REF_FORWARD, REF_SAME, REF_LATE, REF_RESTARTED, REF_FULL };
 
 struct ref_watch {
     u64 used;   /* how many senders it claims */
@@ -124,7 +124,7 @@ struct ref_watch {
     u32 last[WATCHED];
 };
 
-/* by: the missing numbers of Forward, how late of Late, 14 of REF_FULL, else 0 */
+/* by: the missing numbers of Forward, how late of Late, the new number of Restarted, 14 of REF_FULL, else 0 */
 enum ref_seen ref_watch(struct ref_watch *w, u64 sender, u32 sequence, u64 *by);
 
 /* ---- LMCP */

@@ -11,7 +11,7 @@ static u8 store[STORE];
 static struct ref_watch watch;
 static int watching;   /* the stream is for gaps */
 
-enum { KEPT = FIRST_KIND, DELIVERED, DELIVERED_SMALL, REPEAT, KEPT_EMPTIED, DELIVERED_EMPTIED, FIRST = FIRST_KIND, FORWARD, SAME, LATE };
+enum { KEPT = FIRST_KIND, DELIVERED, DELIVERED_SMALL, REPEAT, KEPT_EMPTIED, DELIVERED_EMPTIED, FIRST = FIRST_KIND, FORWARD, SAME, LATE, RESTARTED };
 
 static void expect_receiver(struct stream *s, const u8 *d, u64 length) {
     struct ref_answer a = ref_receive(&receiver, 0, d, length);
@@ -45,6 +45,7 @@ static void expect_watch(struct stream *s, const u8 *d, u64 length) {
     case REF_FORWARD: fprintf(s->expected, "%llu forward %llu\n", s->number, by); break;
     case REF_SAME: fprintf(s->expected, "%llu same\n", s->number); break;
     case REF_LATE: fprintf(s->expected, "%llu late %llu\n", s->number, by); break;
+    case REF_RESTARTED: fprintf(s->expected, "%llu restarted %llu\n", s->number, by); break;
     case REF_FULL: break; /* one sender never fills it */
     }
 }
@@ -336,7 +337,7 @@ static void leaps(struct stream *s, int datagrams) {
     static u8 d[ROOM];
     u32 last = (u32) random_64();
     for (int i = 0; i < datagrams; i++) {
-        u32 leap = (u32) ONE_OF(0, 1, 1, 1, 2, 3, 1000, 0x7ffffffe, 0x7fffffff, 0x80000000, 0x80000001, 0xfffffffe, 0xffffffff);
+        u32 leap = (u32) ONE_OF(0, 1, 1, 1, 2, 3, 1000, 0xfffffc00, 0xfffffbff, 0x7ffffffe, 0x7fffffff, 0x80000000, 0x80000001, 0xfffffffe, 0xffffffff);
         u32 sequence = last + (chance(90) ? leap : (u32) random_64());
         u64 length = small(sequence, below(6), d);
         if (chance(10)) length = damage(d, length);

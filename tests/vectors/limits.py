@@ -43,7 +43,7 @@ def watch_line(claims, last, sender, number):
     if not 1 <= sender <= claims:
         return "first" if claims < 16 else "refused 14"
     d = (number - last + 2**31) % 2**32 - 2**31
-    return f"forward {d - 1}" if d > 0 else "same" if d == 0 else f"late {-d}"
+    return f"forward {d - 1}" if d > 0 else "same" if d == 0 else f"late {-d}" if -d <= 1024 else f"restarted {number}"
 
 
 def open_line(words, names, store):
@@ -81,9 +81,9 @@ def cases():
     d += [(CUT, t, 64, 0, 95, 0, 65507), (CUT, t, 0, 262145, 96, 0, 65507), (CUT, t, 4, 262145, 96, 0, 65507), (CUT, t, 4, 19452, 96, 300, 65507), (CUT, t, 4, 9, 96, 1, 0)]
     # the parts of small ones and of fragments, whole and with the end cut off, down to no datagram
     d += [(PARTS, t, 4, 3, 96, 0, f) for f in (65507, 15, 14, 13, 12, 8, 7, 0)] + [(PARTS, t, 1, 90, 96, k, 65507) for k in (0, 1)] + [(PARTS, t, 1, 90, 96, 1, f) for f in (36, 35, 19)]
-    # the watch: 15, 16 and 17 claimed, senders in and out of it, the turn of the signed difference
+    # the watch: 15, 16 and 17 claimed, senders in and out of it, the turn of the signed difference, late by 1,024 and 1,025
     d += [(WATCH, w, 5, s, 6) for w in (0, 1, 15, 16, 17, 2**32, 2**64 - 1) for s in (1, 15, 16, 17)]
-    d += [(WATCH, 16, last, 16, n) for last, n in [(5, 5), (5, 4), (5, 3), (5, 2**31 + 4), (5, 2**31 + 5), (5, 2**31 + 6), (2**32 - 1, 1), (0, 2**31), (0, 2**32 - 1), (2**31, 0)]]
+    d += [(WATCH, 16, last, 16, n) for last, n in [(5, 5), (5, 4), (5, 3), (5, 2**31 + 4), (5, 2**31 + 5), (5, 2**31 + 6), (2**32 - 1, 1), (0, 2**31), (0, 2**32 - 1), (2**31, 0), (2000, 976), (2000, 975)]]
     # slot sizes of stores at which they turn; what is lent one too short and one too long, one by one
     d += [(OPEN, RIGHT, RIGHT, s) for s in (0, 7, 8, 15, 16, 65535, 65536, 2097151, 2097152, 2097160, 2**63)]
     d += [(OPEN, w, n, 64) for w, n in [(FEW, RIGHT), (MANY, RIGHT), (RIGHT, FEW), (RIGHT, MANY)]]

@@ -19,6 +19,9 @@ class Watch:
         if d > 0:
             self.last[sender] = new
             return f"forward {d - 1}"
+        if -d > 1024:
+            self.last[sender] = new
+            return f"restarted {new}"
         return "same" if d == 0 else f"late {-d}"
 
 

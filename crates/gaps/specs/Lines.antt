@@ -8,7 +8,7 @@ use Rattle.datagram.specs.Limits.{maxPayload, maxFragments}
 use Rattle.datagram.specs.Read.{readDatagram}
 use Rattle.watch.specs.declared.Watch.{Watch}
 use Rattle.watch.specs.declared.Seen.{Seen}
-use Rattle.watch.specs.Noted.{Noted, first, forward, same, late, refused, notes}
+use Rattle.watch.specs.Noted.{Noted, first, forward, same, late, restarted, refused, notes}
 use Rattle.watch.specs.Watching.{asked, after}
 use Rattle.text.specs.Text.{decimal}
 
@@ -25,12 +25,13 @@ pub record Judged (w : Watch) (d : List ℕ) (r : Seen) : Type 0 where
   pub answer : notes (r .answer) ≡ saidOf w (readDatagram maxPayload maxFragments d)
   pub watch : r .watch ≡ afterOf w (readDatagram maxPayload maxFragments d)
 
--- " first", " forward 3", " same", " late 2" or " refused 4", and the end of the line
+-- " first", " forward 3", " same", " late 2", " restarted 7" or " refused 4", and the end of the line
 abbrev pub answerText : Noted → List ℕ
 answerText first = 32 ∷ 102 ∷ 105 ∷ 114 ∷ 115 ∷ 116 ∷ 10 ∷ []
 answerText (forward missing) = (32 ∷ 102 ∷ 111 ∷ 114 ∷ 119 ∷ 97 ∷ 114 ∷ 100 ∷ 32 ∷ []) ++ decimal missing ++ 10 ∷ []
 answerText same = 32 ∷ 115 ∷ 97 ∷ 109 ∷ 101 ∷ 10 ∷ []
 answerText (late by) = (32 ∷ 108 ∷ 97 ∷ 116 ∷ 101 ∷ 32 ∷ []) ++ decimal by ++ 10 ∷ []
+answerText (restarted number) = (32 ∷ 114 ∷ 101 ∷ 115 ∷ 116 ∷ 97 ∷ 114 ∷ 116 ∷ 101 ∷ 100 ∷ 32 ∷ []) ++ decimal number ++ 10 ∷ []
 answerText (refused number) = (32 ∷ 114 ∷ 101 ∷ 102 ∷ 117 ∷ 115 ∷ 101 ∷ 100 ∷ 32 ∷ []) ++ decimal number ++ 10 ∷ []
 
 -- line n

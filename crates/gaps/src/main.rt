@@ -38,6 +38,12 @@ fn pour_answer(out: &mut [u8], at: usize, answer: Answer) -> usize
         ),
         Answer::Same => output::pour(out, at, b" same\n"),
         Answer::Late(by) => output::pour_counted_line(out, at, b" late ", by as u64),
+        Answer::Restarted(number) => output::pour_counted_line(
+            out,
+            at,
+            b" restarted ",
+            number as u64,
+        ),
         Answer::Refused(number) => output::pour_counted_line(out, at, b" refused ", number as u64),
     }
 }

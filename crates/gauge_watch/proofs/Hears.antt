@@ -39,7 +39,7 @@ module _ (g : Gauge) (p : Packet) where
   unfolding notedOf
   noted-other h = rw (h, and-false (g .started))
 
-  pub noted-same : g .started ≡ true → same (p .session) (g .session) ≡ true → notedOf g p ≡ told (difference (p .sequence) (g .last))
+  pub noted-same : g .started ≡ true → same (p .session) (g .session) ≡ true → notedOf g p ≡ told (p .sequence) (difference (p .sequence) (g .last))
   unfolding notedOf
   noted-same h e = rw (h, e)
 

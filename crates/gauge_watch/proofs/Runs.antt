@@ -8,9 +8,10 @@ use lib.ListN.{length, replicate}
 use Rattle.wire.specs.Same.{same}
 use Rattle.wire.specs.Sum.{sum}
 use Rattle.wire.proofs.Parts.{same-refl}
-use Rattle.watch.specs.Noted.{Noted, first, forward}
+use Rattle.watch.specs.Noted.{Noted, first, forward, restarted}
 use Rattle.watch.specs.Watching.{moves}
 use Rattle.watch.specs.Difference.{difference, told}
+use Rattle.watch.proofs.Tells.{restarted-number}
 use Rattle.watch.proofs.Runs.{step-told, forward-distance}
 use Rattle.moss.specs.Packet.{Given, gives, refuses, Packet, packetOf}
 use Rattle.gauge_watch.specs.declared.Gauge.{Gauge}
@@ -26,17 +27,27 @@ expects-next p = record { started = refl; session = refl; counter = omega arith;
 
 module _ {g : Gauge} {s : List ℕ} {e : ℕ} (at : Expects g s e) where
   -- a packet of the session goes by the difference to the last number
-  asked-same : (b : List ℕ) (p : Packet) → packetOf b ≡ gives p → p .session ≡ s → asked g (packetOf b) ≡ told (difference (p .sequence) (g .last))
+  asked-same : (b : List ℕ) (p : Packet) → packetOf b ≡ gives p → p .session ≡ s → asked g (packetOf b) ≡ told (p .sequence) (difference (p .sequence) (g .last))
   asked-same b p r f =
       let q : same (p .session) (g .session) ≡ true = ap (λ (l : List ℕ). same l (g .session)) (f ∙ sym (at .session)) ∙ same-refl (g .session) in
       ap (asked g) r ∙ noted-same g p (at .started) q
 
-  -- where it is answered Forward, the message after it is expected next
+  -- where the watch moves, the message after it is expected next
+  after-moved : (b : List ℕ) (p : Packet) (answer : Noted) → packetOf b ≡ gives p → p .session ≡ s → asked g (packetOf b) ≡ answer → moves answer ≡ true
+      → Expects (after g (packetOf b)) s (nextAfter p)
+  after-moved b p answer r f n m =
+      let t : after g (packetOf b) ≡ movedTo p = ap (after g) r ∙ after-moves g p (ap moves (sym (ap (asked g) r) ∙ n) ∙ m) in
+      subst (λ (x : Gauge). Expects x s (nextAfter p)) (sym t) (subst (λ (l : List ℕ). Expects (movedTo p) l (nextAfter p)) f (expects-next p))
+
   after-forward : (b : List ℕ) (p : Packet) (m : ℕ) → packetOf b ≡ gives p → p .session ≡ s → asked g (packetOf b) ≡ forward m
       → Expects (after g (packetOf b)) s (nextAfter p)
-  after-forward b p m r f n =
-      let t : after g (packetOf b) ≡ movedTo p = ap (after g) r ∙ after-moves g p (ap moves (sym (ap (asked g) r) ∙ n)) in
-      subst (λ (x : Gauge). Expects x s (nextAfter p)) (sym t) (subst (λ (l : List ℕ). Expects (movedTo p) l (nextAfter p)) f (expects-next p))
+  after-forward b p m r f n = after-moved b p (forward m) r f n refl
+
+  -- a restart is told with the packet's sequence, and the message after it is expected next, as after a First
+  pub after-restart : (b : List ℕ) (p : Packet) (m : ℕ) → packetOf b ≡ gives p → p .session ≡ s → asked g (packetOf b) ≡ restarted m
+      → (m ≡ p .sequence) × Expects (after g (packetOf b)) s (nextAfter p)
+  after-restart b p m r f n =
+      (restarted-number (p .sequence) (difference (p .sequence) (g .last)) m (sym (asked-same b p r f) ∙ n), after-moved b p (restarted m) r f n refl)
 
   -- x messages left out are reported as x missing
   follows-forward : {x : ℕ} {b : List ℕ} → Follows s e x b → asked g (packetOf b) ≡ forward x
@@ -44,7 +55,7 @@ module _ {g : Gauge} {s : List ℕ} {e : ℕ} (at : Expects g s e) where
       let last = g .last in
       let n : f .packet .sequence ≡ (last + (x + 1)) % 2 ^ 32 = f .sequence ∙ (let z : (e + x) % 2 ^ 32 ≡ (last + (x + 1)) % 2 ^ 32 = omega (arith, at .next) in z) in
       asked-same b (f .packet) (f .reads) (f .session)
-      ∙ ap (λ (q : ℕ). told (difference q last)) n
+      ∙ ap (λ (q : ℕ). told q (difference q last)) n
       ∙ step-told last (x + 1) (at .counter) (omega arith) (omega (arith, f .few))
       ∙ ap forward (omega arith)
 
@@ -66,15 +77,25 @@ map-none (suc k) = ap (λ (t : List Noted). forward 0 ∷ t) (map-none k)
 pub nothing-missing : (g : Gauge) (s : List ℕ) (e k : ℕ) (bs : List (List ℕ)) → Expects g s e → LeavesOut s e (replicate k 0) bs → notedAll g bs ≡ replicate k (forward 0)
 nothing-missing g s e k bs at l = left-out g s e (replicate k 0) bs at l ∙ map-none k
 
+-- a packet that moves the gauge, First, Forward or Restarted alike, and what follows it: each is followed as after a First
+pub from-moved : (g : Gauge) (b : List ℕ) (p : Packet) (answer : Noted) (xs : List ℕ) (bs : List (List ℕ)) → packetOf b ≡ gives p → notedOf g p ≡ answer
+    → moves answer ≡ true → LeavesOut (p .session) (nextAfter p) xs bs → notedAll g (b ∷ bs) ≡ answer ∷ map forward xs
+from-moved g b p answer xs bs r n m l =
+    let t : after g (packetOf b) ≡ movedTo p = ap (after g) r ∙ after-moves g p (ap moves n ∙ m) in
+    let at : Expects (after g (packetOf b)) (p .session) (nextAfter p) = subst (λ (x : Gauge). Expects x (p .session) (nextAfter p)) (sym t) (expects-next p) in
+    let q : asked g (packetOf b) ≡ answer = ap (asked g) r ∙ n in
+    let u = left-out (after g (packetOf b)) (p .session) (nextAfter p) xs bs at l in
+    λ i. q i ∷ u i
+
 -- a packet of another session, or the first of all, is First, and what follows it is followed
 pub from-first : (g : Gauge) (b : List ℕ) (p : Packet) (xs : List ℕ) (bs : List (List ℕ)) → packetOf b ≡ gives p → notedOf g p ≡ first
     → LeavesOut (p .session) (nextAfter p) xs bs → notedAll g (b ∷ bs) ≡ first ∷ map forward xs
-from-first g b p xs bs r n l =
-    let t : after g (packetOf b) ≡ movedTo p = ap (after g) r ∙ after-moves g p (ap moves n) in
-    let at : Expects (after g (packetOf b)) (p .session) (nextAfter p) = subst (λ (x : Gauge). Expects x (p .session) (nextAfter p)) (sym t) (expects-next p) in
-    let q : asked g (packetOf b) ≡ first = ap (asked g) r ∙ n in
-    let u = left-out (after g (packetOf b)) (p .session) (nextAfter p) xs bs at l in
-    λ i. q i ∷ u i
+from-first g b p xs bs r n l = from-moved g b p first xs bs r n refl l
+
+-- across a restart: Restarted with the packet's sequence, and then what was left out, as after a First
+pub from-restart : (g : Gauge) (b : List ℕ) (p : Packet) (m : ℕ) (xs : List ℕ) (bs : List (List ℕ)) → packetOf b ≡ gives p → notedOf g p ≡ restarted m
+    → LeavesOut (p .session) (nextAfter p) xs bs → notedAll g (b ∷ bs) ≡ restarted m ∷ map forward xs
+from-restart g b p m xs bs r n l = from-moved g b p (restarted m) xs bs r n refl l
 
 cons-eq : {x : Noted} {a b : List Noted} {y : Noted} → _≡_ {A = List Noted} (x ∷ a) (y ∷ b) → (x ≡ y) × (a ≡ b)
 cons-eq e = (cc, cc)

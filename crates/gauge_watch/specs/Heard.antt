@@ -1,4 +1,4 @@
--- What the gauge's watch notes of a packet, and the gauge afterwards: request L4. Definitions only.
+-- What the gauge's watch notes of a packet, and the gauge afterwards: requests L4 and L5. Definitions only.
 use mathlib.Core.Path.{_≡_}
 use mathlib.Core.Bool.{Bool, true, false, _&&_}
 use mathlib.Core.List.{List}
@@ -24,7 +24,7 @@ goesOn g session = g .started && same session (g .session)
 
 -- the watch is asked about the packet's sequence; a new session starts a new watch
 unfoldable pub notedOf : Gauge → Packet → Noted
-notedOf g p = pick (goesOn g (p .session)) (told (difference (p .sequence) (g .last))) first
+notedOf g p = pick (goesOn g (p .session)) (told (p .sequence) (difference (p .sequence) (g .last))) first
 
 -- sequence plus count less one, wrapping
 abbrev pub lastOf : ℕ → ℕ → ℕ

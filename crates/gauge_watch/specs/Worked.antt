@@ -2,7 +2,7 @@
 use mathlib.Core.List.{List, [], _∷_, _++_}
 use Prim.Native.Nat.{ℕ}
 use lib.ListN.{replicate}
-use Rattle.watch.specs.Noted.{Noted, first, forward, same, late, refused}
+use Rattle.watch.specs.Noted.{Noted, first, forward, same, late, restarted, refused}
 use Rattle.gauge_watch.specs.declared.Gauge.{Gauge}
 
 -- a packet of 19 + n bytes: its length field, ten session bytes s, the low byte of its sequence, its type, its blocks
@@ -12,6 +12,10 @@ packet n s q kind blocks = 0 ∷ 0 ∷ 0 ∷ n ∷ replicate 10 s ++ 0 ∷ 0 ∷
 -- the number before 0
 abbrev wrapping : ℕ → List ℕ → List ℕ
 wrapping n blocks = 0 ∷ 0 ∷ 0 ∷ n ∷ replicate 10 0x41 ++ 0xff ∷ 0xff ∷ 0xff ∷ 0xff ∷ 0x55 ∷ blocks
+
+-- with one byte more of its sequence
+abbrev further : ℕ → ℕ → ℕ → ℕ → ℕ → List ℕ → List ℕ
+further n s h q kind blocks = 0 ∷ 0 ∷ 0 ∷ n ∷ replicate 10 s ++ 0 ∷ 0 ∷ h ∷ q ∷ kind ∷ blocks
 
 abbrev pub come : List (List ℕ)
 come =
@@ -34,6 +38,11 @@ come =
     ∷ packet 21 0x42 9 0x55 (0 ∷ 0 ∷ [])
     ∷ packet 21 0x42 10 0x55 (0 ∷ 0 ∷ [])
     ∷ packet 19 0x41 4 0x48 []
+    -- far ahead, back by 1,024, back by 1,025: a restart, and a heartbeat after it
+    ∷ further 21 0x41 8 0 0x55 (0 ∷ 0 ∷ [])
+    ∷ further 21 0x41 4 0 0x55 (0 ∷ 0 ∷ [])
+    ∷ further 21 0x41 3 0xff 0x55 (0 ∷ 0 ∷ [])
+    ∷ further 19 0x41 4 0 0x48 []
     ∷ []
 
 abbrev pub gives : List Noted
@@ -53,4 +62,8 @@ gives =
     ∷ first
     ∷ forward 0
     ∷ first
+    ∷ forward 2044
+    ∷ late 1024
+    ∷ restarted 1023
+    ∷ forward 0
     ∷ []

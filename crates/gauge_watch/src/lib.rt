@@ -57,7 +57,8 @@ fn ask(g: Gauge, p: &[u8], header: Header) -> Answer
     if !wire::same_at(p, header.session, &session) {
         return Answer::First;
     }
-    watch::tell(watch::sequence_difference(header.sequence, g.last))
+    let number = header.sequence;
+    watch::tell(number, watch::sequence_difference(number, g.last))
 }
 
 // Asks, and moves the gauge where the watch moves.

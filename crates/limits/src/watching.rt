@@ -19,6 +19,7 @@ pub(crate) fn seen(out: &mut [u8], at: usize, case: &[u8]) -> usize {
         Answer::Forward(n) => output::pour_counted(out, at, b"forward ", n as u64),
         Answer::Same => output::pour(out, at, b"same"),
         Answer::Late(n) => output::pour_counted(out, at, b"late ", n as u64),
+        Answer::Restarted(n) => output::pour_counted(out, at, b"restarted ", n as u64),
         Answer::Refused(n) => output::pour_counted(out, at, b"refused ", n as u64),
     }
 }

@@ -58,7 +58,7 @@ cases =
     ∷ m 8 (cutting 147) (cut′ (fragments (71 ∷ 76 ∷ [])))
     ∷ m 8 (cutting 148) (cut′ (fragments (71 ∷ 76 ∷ 1 ∷ [])))
     ∷ m 9 (watching (0xffffffff ∷ 1 ∷ [])) (seen (watched.first ∷ watched.forward 1 ∷ []))
-    ∷ m 10 (watching (0 ∷ 0x80000000 ∷ [])) (seen (watched.first ∷ watched.late 2_147_483_648 ∷ []))
+    ∷ m 10 (watching (0 ∷ 0x80000000 ∷ [])) (seen (watched.first ∷ watched.restarted 2_147_483_648 ∷ []))
     ∷ m 11 (opening (ping 0x03 0x7b)) (numbers (run.got (pos 1 ∷ pos 1 ∷ []) []))
     -- last byte 7c; checksum zero
     ∷ m 12 (opening (ping 0x03 0x7c)) (numbers (run.refused 22))

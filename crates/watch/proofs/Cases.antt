@@ -6,7 +6,7 @@ use lib.ListN.{set, getD}
 use borrow.Author.Tests.{lt-ltb, le-ltb, le-leb, lt-leb}
 use Rattle.watch.specs.declared.Watch.{Watch}
 use Rattle.watch.specs.Limits.{maxSenders, noRoom}
-use Rattle.watch.specs.Noted.{Noted, first, same, late, refused}
+use Rattle.watch.specs.Noted.{Noted, first, same, late, restarted, refused}
 use Rattle.watch.specs.Difference.{difference, told}
 use Rattle.watch.specs.Senders.{senderPlace, setLast, moved}
 use Rattle.watch.specs.Watching.{asked, askedAt, moves, after}
@@ -22,7 +22,7 @@ module _ (w : Watch) (sender number : ℕ) where
   moved-claims h = rw (lt-leb (w .count) maxSenders h)
 
   module _ (at : ℕ) (sound : w .count ≤ maxSenders) (here : at ≡ senderPlace w sender) where
-    pub asked-known : at < w .count → asked w sender number ≡ told (difference number (getD (w .lasts) at 0))
+    pub asked-known : at < w .count → asked w sender number ≡ told number (difference number (getD (w .lasts) at 0))
     unfolding asked askedAt
     asked-known h = rw (← here, le-leb (w .count) maxSenders sound, lt-ltb at (w .count) h)
 
@@ -66,6 +66,10 @@ module _ (w : Watch) (sender number : ℕ) where
 
   pub late-stays : (by : ℕ) → asked w sender number ≡ late by → after w sender number ≡ w
   late-stays by e = sym (after-stays (late by) (sym e) refl)
+
+  -- a restart moves it to the new number
+  pub restarted-moves : (m : ℕ) → asked w sender number ≡ restarted m → after w sender number ≡ moved w sender number
+  restarted-moves m e = sym (after-moves (restarted m) (sym e) refl)
 
   pub refused-stays : (by : ℕ) → asked w sender number ≡ refused by → after w sender number ≡ w
   refused-stays by e = sym (after-stays (refused by) (sym e) refl)

@@ -1,6 +1,7 @@
 -- A run of one sender's numbers: s+1, s+2, .. misses nothing, for as long as one likes and across the wrap, and what any run of Forwards
 -- reports missing is the distance gone less the arrivals. Assumes nothing.
 use mathlib.Core.Path.{_≡_, refl, ap, sym, _∙_, subst}
+use mathlib.Core.Bool.{Bool, true, false}
 use mathlib.Core.List.{List, [], _∷_, map}
 use Prim.Native.Nat.{ℕ, zero, suc, _+_, _-_, _%_, _^_, _≤_, _<_}
 use native.Mathlib.Numerals.{add-one}
@@ -8,44 +9,51 @@ use native.Mathlib.Omega.{arith}
 use lib.ListN.{length, take, set, getD, replicate, length-set}
 use lib.Seq.{set-getD, getD-take, getD-set-same, take-suc-set, length-take-le}
 use lib.IntN.{ℤ, pos, negsuc}
+use lib.Dec.{leb}
+use Rattle.wire.specs.Choice.{pick}
 use Rattle.wire.specs.Signed.{signed, unsigned}
 use Rattle.wire.specs.Sum.{sum}
 use Rattle.wire.proofs.Signs.{signed-low, unsigned-signed}
 use Rattle.watch.specs.declared.Watch.{Watch}
-use Rattle.watch.specs.Limits.{maxSenders}
-use Rattle.watch.specs.Noted.{Noted, first, forward}
+use Rattle.watch.specs.Limits.{maxSenders, mostLate}
+use Rattle.watch.specs.Noted.{Noted, first, forward, late, restarted}
 use Rattle.watch.specs.Difference.{difference, told}
 use Rattle.watch.specs.Senders.{empty, place, senderPlace, moved}
-use Rattle.watch.specs.Watching.{asked, after}
-use Rattle.watch.specs.Runs.{answers, shown, distance, final, Counters, Steps, Whole, Last}
+use Rattle.watch.specs.Watching.{asked, moves, after}
+use Rattle.watch.specs.Runs.{answers, afterAll, shown, distance, final, Counters, Steps, Whole, Last}
+use Rattle.watch.proofs.Tells.{restarted-number, back-restarts}
 use Rattle.watch.proofs.Places.{place-at, place-new}
 use Rattle.watch.proofs.Cases.{asked-known, asked-new, moved-known, moved-new, after-moves}
 
 -- ---- one step
 
 -- Forward says by how much
-told-forward : (d : ℤ) (m : ℕ) → told d ≡ forward m → d ≡ pos (suc m)
-told-forward (pos zero) m e = absurd (let z : _≡_ {A = ℕ} 0 1 = cc in omega arith)
-told-forward (pos (suc n)) m e = cc
-told-forward (negsuc n) m e = absurd (let z : _≡_ {A = ℕ} 0 1 = cc in omega arith)
+below-forward : (t : Bool) (k n m : ℕ) → pick t (late (suc n)) (restarted k) ≡ forward m → ⊥
+below-forward true k n m e = let z : _≡_ {A = ℕ} 0 1 = cc in omega arith
+below-forward false k n m e = let z : _≡_ {A = ℕ} 0 1 = cc in omega arith
+
+told-forward : (k : ℕ) (d : ℤ) (m : ℕ) → told k d ≡ forward m → d ≡ pos (suc m)
+told-forward k (pos zero) m e = absurd (let z : _≡_ {A = ℕ} 0 1 = cc in omega arith)
+told-forward k (pos (suc n)) m e = cc
+told-forward k (negsuc n) m e = absurd (below-forward (leb (suc n) mostLate) k n m e)
 
 -- so the counter went one further than is missing
-pub forward-distance : (n s m : ℕ) → told (difference n s) ≡ forward m → (n + (2 ^ 32 - s)) % 2 ^ 32 ≡ suc m
+pub forward-distance : (n s m : ℕ) → told n (difference n s) ≡ forward m → (n + (2 ^ 32 - s)) % 2 ^ 32 ≡ suc m
 forward-distance n s m e =
-    sym (unsigned-signed 32 ((n + (2 ^ 32 - s)) % 2 ^ 32) (omega arith)) ∙ ap (unsigned 32) (told-forward (difference n s) m e)
+    sym (unsigned-signed 32 ((n + (2 ^ 32 - s)) % 2 ^ 32) (omega arith)) ∙ ap (unsigned 32) (told-forward n (difference n s) m e)
 
 -- a step forward is one more than the numbers that it leaves out
-pub step-told : (s d : ℕ) → s < 2 ^ 32 → 1 ≤ d → d < 2 ^ 31 → told (difference ((s + d) % 2 ^ 32) s) ≡ forward (d - 1)
+pub step-told : (s d : ℕ) → s < 2 ^ 32 → 1 ≤ d → d < 2 ^ 31 → let n : ℕ = (s + d) % 2 ^ 32 in told n (difference n s) ≡ forward (d - 1)
 step-told s d h l k =
     let u : ((s + d) % 2 ^ 32 + (2 ^ 32 - s)) % 2 ^ 32 ≡ suc (d - 1) = omega arith in
-    ap told (ap (signed 32) u ∙ signed-low 32 (suc (d - 1)) (omega arith))
+    ap (told ((s + d) % 2 ^ 32)) (ap (signed 32) u ∙ signed-low 32 (suc (d - 1)) (omega arith))
 
 module _ {w : Watch} {sender s : ℕ} (last : Last w sender s) where
   -- what is asked of a sender that has a last number goes by the difference to it
-  asked-last : (n : ℕ) → asked w sender n ≡ told (difference n s)
+  asked-last : (n : ℕ) → asked w sender n ≡ told n (difference n s)
   asked-last n =
       asked-known w sender n (senderPlace w sender) (last .sound) refl (last .known)
-      ∙ ap (λ (x : ℕ). told (difference n x)) (last .last)
+      ∙ ap (λ (x : ℕ). told n (difference n x)) (last .last)
 
   stands : set (w .senders) (senderPlace w sender) sender ≡ w .senders
   stands =
@@ -59,10 +67,10 @@ module _ {w : Watch} {sender s : ℕ} (last : Last w sender s) where
       moved-known w sender n (senderPlace w sender) (last .sound) refl (omega (arith, last .sound, last .known)) (last .known)
       ∙ ap (λ (l : List ℕ). record { senders = l; lasts = set (w .lasts) (senderPlace w sender) n; count = w .count }) stands
 
-  -- after a Forward the last number is the new one
-  after-forward : (n m : ℕ) → n < 2 ^ 32 → asked w sender n ≡ forward m → Last (after w sender n) sender n
-  after-forward n m h e =
-      subst (λ (v : Watch). Last v sender n) (sym (moved-last n) ∙ after-moves w sender n (forward m) (sym e) refl)
+  -- where the watch moves, the last number is the new one
+  after-moved : (n : ℕ) (answer : Noted) → n < 2 ^ 32 → asked w sender n ≡ answer → moves answer ≡ true → Last (after w sender n) sender n
+  after-moved n answer h e m =
+      subst (λ (v : Watch). Last v sender n) (sym (moved-last n) ∙ after-moves w sender n answer (sym e) m)
       (record {
         whole = record { senders = last .whole .senders; lasts = length-set (w .lasts) (senderPlace w sender) n ∙ last .whole .lasts };
         sound = last .sound;
@@ -70,6 +78,13 @@ module _ {w : Watch} {sender s : ℕ} (last : Last w sender s) where
         last = getD-set-same (w .lasts) (senderPlace w sender) n 0 (omega (arith, last .known, last .sound, last .whole .lasts));
         counter = h;
       })
+
+  after-forward : (n m : ℕ) → n < 2 ^ 32 → asked w sender n ≡ forward m → Last (after w sender n) sender n
+  after-forward n m h e = after-moved n (forward m) h e refl
+
+  -- after a restart the counter is followed from the new number, as after a first one
+  pub after-restart : (n m : ℕ) → n < 2 ^ 32 → asked w sender n ≡ restarted m → (m ≡ n) × Last (after w sender n) sender n
+  after-restart n m h e = (restarted-number n (difference n s) m (sym (asked-last n) ∙ e), after-moved n (restarted m) h e refl)
 
 -- after a First the sender's last number is that number: it stands at the end of the list
 pub after-first : (w : Watch) (sender n : ℕ) → Whole w → w .count < maxSenders → senderPlace w sender ≡ w .count → n < 2 ^ 32
@@ -160,3 +175,32 @@ pub from-the-first : (sender s k : ℕ) → s < 2 ^ 32 → answers empty sender 
 from-the-first sender s k h =
     let f = after-first empty sender s (record { senders = refl; lasts = refl }) (omega arith) refl h in
     λ i. f .0 i ∷ none-missing (after empty sender s) sender s k (f .1) i
+
+-- ---- across a restart
+
+-- a counter that falls back by more than 1,024 and goes on from there: Restarted with the new number, and then nothing is missing
+pub from-the-restart : (w : Watch) (sender s d k : ℕ) → Last w sender s → mostLate < d → d ≤ 2 ^ 31
+    → let n : ℕ = (s + (2 ^ 32 - d)) % 2 ^ 32 in answers w sender (n ∷ shown n (replicate k 1)) ≡ restarted n ∷ replicate k (forward 0)
+from-the-restart w sender s d k last l h =
+    let n : ℕ = (s + (2 ^ 32 - d)) % 2 ^ 32 in
+    let e : asked w sender n ≡ restarted n = asked-last last n ∙ back-restarts s d (last .counter) l h in
+    let t = none-missing (after w sender n) sender n k (after-restart last n n (omega arith) e .1) in
+    λ i. e i ∷ t i
+
+-- the watch follows a run of Forwards to its final number
+pub run-last : (w : Watch) (sender s : ℕ) (l missing : List ℕ) → Last w sender s → Counters l → answers w sender l ≡ map forward missing → Last (afterAll w sender l) sender (final s l)
+run-last w sender s [] missing last good e = last
+run-last w sender s (n ∷ l) [] last good e = absurd (let z : _≡_ {A = ℕ} 0 1 = cc in omega arith)
+run-last w sender s (n ∷ l) (m ∷ missing) last good e =
+    let p = cons-eq e in
+    run-last (after w sender n) sender n l missing (after-forward last n m (good .0) (p .0)) (good .1) (p .1)
+
+-- Forwards, a restart at n, Forwards: what is reported missing on either side is the distance gone there less the arrivals; the way back
+-- is reported by nobody.
+pub across-restart : (w : Watch) (sender s n m : ℕ) (l k before behind : List ℕ) → Last w sender s → Counters l → n < 2 ^ 32 → Counters k
+    → answers w sender l ≡ map forward before → asked (afterAll w sender l) sender n ≡ restarted m
+    → answers (after (afterAll w sender l) sender n) sender k ≡ map forward behind → (Gone s l before × Gone n k behind) × (m ≡ n)
+across-restart w sender s n m l k before behind last good h more a r b =
+    let v : Watch = afterAll w sender l in
+    let there = after-restart (run-last w sender s l before last good a) n m h r in
+    ((run-missing w sender s l before last good a, run-missing (after v sender n) sender n k behind (there .1) more b), there .0)

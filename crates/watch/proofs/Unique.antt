@@ -4,10 +4,10 @@ use mathlib.Core.Path.{_≡_, refl, ap, sym, _∙_}
 use Prim.Native.Nat.{ℕ}
 use Rattle.wire.proofs.Once.{one-answer}
 use Rattle.watch.specs.declared.Answer.{Answer}
-use Rattle.watch.specs.declared.Answer.the-variants.{First, Forward, Same, Late, Refused}
+use Rattle.watch.specs.declared.Answer.the-variants.{First, Forward, Same, Late, Restarted, Refused}
 use Rattle.watch.specs.declared.Watch.{Watch}
 use Rattle.watch.specs.declared.Seen.{Seen}
-use Rattle.watch.specs.Noted.{Noted, first, forward, same, late, refused, notes}
+use Rattle.watch.specs.Noted.{Noted, first, forward, same, late, restarted, refused, notes}
 use Rattle.watch.specs.Watching.{Result}
 
 -- the case of the enum that means so
@@ -16,6 +16,7 @@ spoken first = First
 spoken (forward missing) = Forward missing
 spoken same = Same
 spoken (late by) = Late by
+spoken (restarted number) = Restarted number
 spoken (refused number) = Refused number
 
 spoken-notes : (r : Answer) → spoken (notes r) ≡ r
@@ -24,6 +25,7 @@ spoken-notes First = refl
 spoken-notes (Forward missing) = refl
 spoken-notes Same = refl
 spoken-notes (Late by) = refl
+spoken-notes (Restarted number) = refl
 spoken-notes (Refused number) = refl
 
 -- `ask` and `tell`

@@ -14,6 +14,11 @@ abbrev pub answers : Watch → ℕ → List ℕ → List Noted
 answers w sender [] = []
 answers w sender (n ∷ l) = asked w sender n ∷ answers (after w sender n) sender l
 
+-- the watch when these numbers have come
+abbrev pub afterAll : Watch → ℕ → List ℕ → Watch
+afterAll w sender [] = w
+afterAll w sender (n ∷ l) = afterAll (after w sender n) sender l
+
 -- a counter of 32 bits at s goes on by these steps: the numbers that it shows
 abbrev pub shown : ℕ → List ℕ → List ℕ
 shown s [] = []

@@ -8,7 +8,7 @@ use Rattle.wire.specs.Choice.{pick}
 use Rattle.watch.specs.declared.Watch.{Watch}
 use Rattle.watch.specs.declared.Seen.{Seen}
 use Rattle.watch.specs.Limits.{maxSenders, noRoom}
-use Rattle.watch.specs.Noted.{Noted, first, forward, same, late, refused, notes}
+use Rattle.watch.specs.Noted.{Noted, first, forward, same, late, restarted, refused, notes}
 use Rattle.watch.specs.Difference.{difference, told}
 use Rattle.watch.specs.Senders.{senderPlace, moved}
 
@@ -16,7 +16,7 @@ use Rattle.watch.specs.Senders.{senderPlace, moved}
 unfoldable pub askedAt : Watch → ℕ → ℕ → Noted
 askedAt w number at =
     pick (ltb at (w .count))
-    (told (difference number (getD (w .lasts) at 0)))
+    (told number (difference number (getD (w .lasts) at 0)))
     (pick (ltb at maxSenders) first (refused noRoom))
 
 unfoldable pub asked : Watch → ℕ → ℕ → Noted
@@ -28,6 +28,7 @@ moves first = true
 moves (forward missing) = true
 moves same = false
 moves (late by) = false
+moves (restarted number) = true
 moves (refused number) = false
 
 unfoldable pub after : Watch → ℕ → ℕ → Watch

@@ -3,7 +3,7 @@ use mathlib.Core.List.{List, [], _∷_, _++_, map}
 use Prim.Native.Nat.{ℕ}
 use lib.ListN.{replicate}
 use Rattle.watch.specs.declared.Watch.{Watch}
-use Rattle.watch.specs.Noted.{Noted, first, forward, same, late, refused}
+use Rattle.watch.specs.Noted.{Noted, first, forward, same, late, restarted, refused}
 use Rattle.watch.specs.Senders.{empty}
 use Rattle.watch.specs.Watching.{asked, after}
 
@@ -39,6 +39,8 @@ abbrev pub cases : List Case
 cases =
     -- Late and Same leave the watch at 5
     case empty (of 1 5 ∷ of 1 3 ∷ of 1 5 ∷ of 1 6 ∷ []) (first ∷ late 2 ∷ same ∷ forward 0 ∷ [])
+    -- Late by 1,024; by 1,025 it is a restart, from which the counter is followed
+    ∷ case empty (of 1 2000 ∷ of 1 976 ∷ of 1 975 ∷ of 1 976 ∷ of 1 974 ∷ []) (first ∷ late 1024 ∷ restarted 975 ∷ forward 0 ∷ late 2 ∷ [])
     -- sixteen senders, a seventeenth, and the sixteenth again
     ∷ case empty (map (λ (s : ℕ). of s 5) sixteen ++ of 17 5 ∷ of 16 7 ∷ []) (replicate 16 first ++ refused 14 ∷ forward 1 ∷ [])
     -- a watch that claims 16, and one that claims 17, asked of a sender that it has and of one that it has not

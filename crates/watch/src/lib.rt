@@ -14,6 +14,9 @@ ghost use Rattle.watch.specs.Watching.{asked, moves, Result};
 // How many senders a watch has room for.
 pub const SENDERS: usize = 16;
 
+// Late by as much stays Late; by more it is a restart.
+pub const MOST_LATE: u32 = 1024;
+
 // Refusal 14: a 17th sender, or a watch that claims more than 16.
 pub const NO_ROOM: u32 = 14;
 
@@ -24,12 +27,13 @@ pub struct Watch {
     pub count: usize,
 }
 
-// What the watch says of a number: how many are missing before it, or by how many it is late.
+// What the watch says of a number: how many are missing before it, by how many it is late, or that the sender restarted there.
 pub enum Answer {
     First,
     Forward(u32),
     Same,
     Late(u32),
+    Restarted(u32),
     Refused(u32),
 }
 
@@ -73,12 +77,16 @@ fn negated(d: i32) -> u32
     k + 1
 }
 
-// What a difference says.
-pub fn tell(d: i32) -> Answer
-    ensures { λ r. ⌜ notes r ≡ told d ⌝ }
+// What a difference says of a number.
+pub fn tell(number: u32, d: i32) -> Answer
+    ensures { λ r. ⌜ notes r ≡ told number d ⌝ }
 {
     if d < 0 {
-        return Answer::Late(negated(d));
+        let by = negated(d);
+        if by <= MOST_LATE {
+            return Answer::Late(by);
+        }
+        return Answer::Restarted(number);
     }
     let u = d as u32;
     if u == 0 {
@@ -112,7 +120,7 @@ pub fn ask(w: Watch, sender: u64, number: u32) -> Answer
     }
     let at = find(&w.senders, count, sender);
     if at < count {
-        return tell(sequence_difference(number, w.lasts[at]));
+        return tell(number, sequence_difference(number, w.lasts[at]));
     }
     if at < SENDERS {
         return Answer::First;
@@ -150,6 +158,7 @@ pub fn does_move(answer: Answer) -> bool
         Answer::Forward(_) => true,
         Answer::Same => false,
         Answer::Late(_) => false,
+        Answer::Restarted(_) => true,
         Answer::Refused(_) => false,
     }
 }

@@ -62,6 +62,18 @@ cast-pour-counted-line-3 c = search needs
 pour-counted-line-requires-3 : tie.Need-pour-counted-line-requires-3
 pour-counted-line-requires-3 c κs = search needs
 
+enum-known-answer-4 : tie.Need-enum-known-answer-4
+enum-known-answer-4 c = search needs
+
+slice-aggregate-pour-counted-line-4 : tie.Need-slice-aggregate-pour-counted-line-4
+slice-aggregate-pour-counted-line-4 c = search needs
+
+cast-pour-counted-line-4 : tie.Need-cast-pour-counted-line-4
+cast-pour-counted-line-4 c = search needs
+
+pour-counted-line-requires-4 : tie.Need-pour-counted-line-requires-4
+pour-counted-line-requires-4 c κs = search needs
+
 same-length : tie.Need-same-length
 same-length c = search needs
 
@@ -102,6 +114,14 @@ returns-5 c =
     let p = c .before .before in
     pours-is (p .pour-counted-line3 .ensures) (ap (λ (a : Answer). answerText (notes a)) (sym (p .before .before .before .before .answer3 .given .1)))
 
+same-length-6 : tie.Need-same-length-6
+same-length-6 c = search needs
+
+returns-6 : tie.Need-returns-6
+returns-6 c =
+    let p = c .before .before in
+    pours-is (p .pour-counted-line4 .ensures) (ap (λ (a : Answer). answerText (notes a)) (sym (p .before .before .before .before .answer4 .given .1)))
+
 pub pour-answer-spec : {M : Type 1} → statement M
 pour-answer-spec =
     tie.close
@@ -124,6 +144,10 @@ pour-answer-spec =
     slice-aggregate-pour-counted-line-3
     cast-pour-counted-line-3
     pour-counted-line-requires-3
+    enum-known-answer-4
+    slice-aggregate-pour-counted-line-4
+    cast-pour-counted-line-4
+    pour-counted-line-requires-4
     same-length
     returns
     same-length-2
@@ -133,4 +157,6 @@ pour-answer-spec =
     same-length-4
     returns-4
     same-length-5
-    returns-5)
+    returns-5
+    same-length-6
+    returns-6)

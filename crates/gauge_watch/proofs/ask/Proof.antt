@@ -63,8 +63,8 @@ returns-3 c =
     let h = its s in
     let e = session-compared (a .p .now) (a .g .session) (h .packet) (a .header) (h .is) (h .header) (ten f) in
     c .tell .ensures
-    ∙ ap told (toZ-ofZ w32 (d .result) (record { sfits = d .ok }) ∙ d .ensures)
-    ∙ ap (λ (x : Header). told (difference (x .sequence) (a .g .last))) (h .header)
+    ∙ ap (told (a .header .sequence)) (toZ-ofZ w32 (d .result) (record { sfits = d .ok }) ∙ d .ensures)
+    ∙ ap (λ (x : Header). told (x .sequence) (difference (x .sequence) (a .g .last))) (h .header)
     ∙ sym (ap (asked (a .g)) (h .is) ∙ noted-same (a .g) (h .packet) (not-false _ (f .if1 .left)) (sym e ∙ sym (k .same-at .ensures) ∙ not-false _ (t .if2 .left)))
 
 pub ask-spec : {M : Type 1} → statement M

@@ -33,7 +33,7 @@ returns-2 c =
     let a = s .before .args in
     let d = c .before .sequence-difference in
     c .tell .ensures
-    ∙ ap told (toZ-ofZ w32 (d .result) (record { sfits = d .ok }) ∙ d .ensures)
+    ∙ ap (told (a .number)) (toZ-ofZ w32 (d .result) (record { sfits = d .ok }) ∙ d .ensures)
     ∙ sym (asked-known (a .t1) (a .sender) (a .number) (f .find .result) (s .if1 .left) (f .find .ensures) (c .before .before .before .if2 .taken))
 
 returns-3 : tie.Need-returns-3

@@ -2,6 +2,7 @@
 use mathlib.Core.Path.{_≡_, sym, ap, _∙_, subst}
 use mathlib.Core.Bool.{true, false}
 use Prim.Native.Nat.{_-_}
+use native.Mathlib.Omega.{arith}
 use lib.IntN.{ℤ, pos, natAbs}
 use lib.Signed.{ltZ}
 use borrow.Author.Needs.{needs}
@@ -10,7 +11,7 @@ use mir.Val.{toZ, ofZ}
 use mir.ValLaws.{toZ-ofZ}
 use Rattle.wire.proofs.Signs.{counts}
 use Rattle.watch.specs.Noted.{late, forward}
-use Rattle.watch.proofs.Tells.{told-late, told-same, told-forward}
+use Rattle.watch.proofs.Tells.{told-late, told-restarted, told-same, told-forward}
 use Rattle.watch.proofs.tell.Statement.{statement}
 use Rattle.watch.proofs.tell.Tie as tie
 
@@ -23,10 +24,20 @@ negated-requires c κs = search needs
 
 returns : tie.Need-returns
 returns c =
-    let d = c .before .before .args .d in
-    let e = same (c .before .before) in
-    ap late (c .negated .ensures ∙ ap natAbs e)
-    ∙ sym (told-late d (subst (λ (z : ℤ). ltZ z (pos 0) ≡ true) e (c .before .if1 .taken)))
+    let k = c .before in
+    let s = k .before .before in
+    let d = s .args .d in
+    let e = k .negated .ensures ∙ ap natAbs (same s) in
+    ap late e
+    ∙ sym (told-late (s .args .number) d (subst (λ (z : ℤ). ltZ z (pos 0) ≡ true) (same s) (k .before .if1 .taken)) (omega (arith, e, c .if2 .taken)))
+
+returns-2 : tie.Need-returns-2
+returns-2 c =
+    let k = c .before in
+    let s = k .before .before in
+    let d = s .args .d in
+    let e = k .negated .ensures ∙ ap natAbs (same s) in
+    sym (told-restarted (s .args .number) d (subst (λ (z : ℤ). ltZ z (pos 0) ≡ true) (same s) (k .before .if1 .taken)) (omega (arith, e, c .if2 .left)))
 
 left : (c : tie.Else1) → ltZ (c .before .args .d) (pos 0) ≡ false
 left c = subst (λ (z : ℤ). ltZ z (pos 0) ≡ false) (same (c .before)) (c .if1 .left)
@@ -34,16 +45,19 @@ left c = subst (λ (z : ℤ). ltZ z (pos 0) ≡ false) (same (c .before)) (c .if
 cast-u : tie.Need-cast-u
 cast-u c = counts w32 (c .before .args .d) (c .before .fits .d) (left c)
 
-returns-2 : tie.Need-returns-2
-returns-2 c = sym (told-same (c .before .before .args .d) (sym (ap natAbs (same (c .before .before))) ∙ c .if2 .taken))
-
-sub-t5 : tie.Need-sub-t5
-sub-t5 c = search needs
-
 returns-3 : tie.Need-returns-3
 returns-3 c =
-    ap (λ (z : ℤ). forward (natAbs z - 1)) (same (c .before .before))
-    ∙ sym (told-forward (c .before .before .args .d) (left (c .before)) (λ e. c .if2 .left (ap natAbs (same (c .before .before)) ∙ e)))
+    let s = c .before .before in
+    sym (told-same (s .args .number) (s .args .d) (sym (ap natAbs (same s)) ∙ c .if3 .taken))
+
+sub-t7 : tie.Need-sub-t7
+sub-t7 c = search needs
+
+returns-4 : tie.Need-returns-4
+returns-4 c =
+    let s = c .before .before in
+    ap (λ (z : ℤ). forward (natAbs z - 1)) (same s)
+    ∙ sym (told-forward (s .args .number) (s .args .d) (left (c .before)) (λ e. c .if3 .left (ap natAbs (same s) ∙ e)))
 
 pub tell-spec : {M : Type 1} → statement M
-tell-spec = tie.close (tie.spec negated-requires returns cast-u returns-2 sub-t5 returns-3)
+tell-spec = tie.close (tie.spec negated-requires returns returns-2 cast-u returns-3 sub-t7 returns-4)

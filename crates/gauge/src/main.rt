@@ -1,0 +1,114 @@
+// What the tide gauge's packets say, and which messages were missed. Standard input holds MossUDP packets, each after a 2-byte big-endian
+// length; one gauge hears them all, and a line says what it notes of each.
+ghost use mathlib.Core.Path.{_≡_};
+ghost use Rattle.watch.specs.Noted.{notes};
+ghost use Rattle.moss.specs.Packet.{packetOf};
+ghost use Rattle.output.specs.Output.{Pours};
+ghost use Rattle.gauge.specs.Lines.{notedText, spaced, firstLengths, messagesText, line, Tells};
+use gauge_watch::Gauge;
+use moss::Read;
+use stream::Input;
+use stream::Kind;
+use stream::Next;
+use watch::Answer;
+
+// The type is the last byte of the header.
+const KIND_AT: usize = moss::HEAD - 1;
+
+// The gauge after a packet, and the place after its line.
+struct Step {
+    gauge: Gauge,
+    at: usize,
+}
+
+fn pour_noted(out: &mut [u8], at: usize, answer: Answer) -> usize
+    ensures { λ r. ⌜ Pours (now (out .entry)) at (notedText (notes answer)) (now (out .exit)) r ⌝ }
+{
+    match answer {
+        Answer::First => output::pour(out, at, b" first"),
+        Answer::Forward(missing) => output::pour_counted(out, at, b" forward ", missing as u64),
+        Answer::Same => output::pour(out, at, b" same"),
+        Answer::Late(by) => output::pour_counted(out, at, b" late ", by as u64),
+        Answer::Restarted(number) => output::pour_counted(out, at, b" restarted ", number as u64),
+        Answer::Refused(number) => output::pour_counted(out, at, b" refused ", number as u64),
+    }
+}
+
+// The lengths of the first messages of a packet, each after a space.
+fn pour_lengths(out: &mut [u8], at: usize, p: &[u8], count: usize) -> usize
+    ensures { λ r. ⌜ Pours (now (out .entry)) at (spaced (firstLengths (packetOf (now (p .entry))) count)) (now (out .exit)) r ⌝ }
+{
+    let mut next = at;
+    let mut i: usize = 0;
+    while i < count {
+        let m = moss::message(p, i);
+        next = output::pour_counted(out, next, b" ", m.len() as u64);
+        i += 1;
+    }
+    next
+}
+
+fn pour_messages(out: &mut [u8], at: usize, p: &[u8], kind: u8, count: usize) -> usize
+    ensures { λ r. ⌜ Pours (now (out .entry)) at (messagesText kind (firstLengths (packetOf (now (p .entry))) count)) (now (out .exit)) r ⌝ }
+{
+    if kind == moss::U {
+        let next = output::pour(out, at, b" messages");
+        return pour_lengths(out, next, p, count);
+    }
+    at
+}
+
+// Line n.
+fn pour_line(out: &mut [u8], at: usize, n: u64, p: &[u8], answer: Answer) -> usize
+    ensures { λ r. ⌜ Pours (now (out .entry)) at (line n (packetOf (now (p .entry))) (notes answer)) (now (out .exit)) r ⌝ }
+{
+    let a = output::pour_decimal(out, at, n);
+    let read = moss::read_packet(p);
+    let Read::Good(header) = read else {
+        let e = pour_noted(out, a, answer);
+        return output::pour(out, e, b"\n");
+    };
+    let b = output::pour(out, a, b" ");
+    let c = output::pour(out, b, wire::part(p, KIND_AT, 1));
+    let d = pour_noted(out, c, answer);
+    let e = pour_messages(out, d, p, header.kind, header.count);
+    output::pour(out, e, b"\n")
+}
+
+// Packet p is heard, and line n goes out.
+fn one_more(out: &mut [u8], at: usize, n: u64, g: Gauge, p: &[u8]) -> Step
+    ensures { λ r. ⌜ Tells g (now (p .entry)) n (now (out .entry)) at (now (out .exit)) r ⌝ }
+{
+    let heard = gauge_watch::see_packet(g, p);
+    let gauge = heard.gauge;
+    let answer = heard.answer;
+    let next = pour_line(out, at, n, p, answer);
+    Step { gauge, at: next }
+}
+
+// One line a packet, and the last line.
+fn run(buf: &mut [u8], out: &mut [u8]) {
+    let mut g = gauge_watch::new();
+    let mut input = Input { at: 0, end: 0 };
+    let mut at: usize = 0;
+    let mut n: u64 = 0;
+    while n < stream::MANY {
+        let next = stream::next_record(buf, input, Kind::Bytes2);
+        let Next::Record(from, len, left) = next else {
+            output::finish(out, at, n, next);
+            return;
+        };
+        n += 1;
+        input = left;
+        let step = one_more(out, at, n, g, wire::part(buf, from, len));
+        let gauge = step.gauge;
+        g = gauge;
+        at = step.at;
+    }
+}
+
+fn main() {
+    let mut buf = [0u8; 131072];
+    let mut out = [0u8; 65536];
+    run(&mut buf, &mut out);
+}

@@ -1,0 +1,89 @@
+// MossUDP packets from their parts. Standard input holds records, each after a 4-byte big-endian length: 10 session bytes, a 4-byte
+// sequence, a type byte, and the message blocks as they will lie; a line gives the bytes of each packet, or its refusal.
+ghost use mathlib.Core.Path.{_≡_};
+ghost use mathlib.Core.List.{[], _∷_, _++_};
+ghost use lib.ListN.{length, take, drop};
+ghost use Rattle.wire.specs.Bytes.{be};
+ghost use Rattle.moss.specs.Limits.{maxPacket};
+ghost use Rattle.text.specs.Text.{decimal, hex};
+ghost use Rattle.output.specs.Output.{Pours};
+ghost use Rattle.gauge_bytes.specs.Lines.{line};
+use moss::Written;
+use stream::Input;
+use stream::Kind;
+use stream::Next;
+
+// The bytes of a record before its blocks, and where its sequence and its type stand.
+const RECORD_HEAD: usize = moss::SESSION + 4 + 1;
+
+const SEQUENCE_AT: usize = moss::SESSION;
+
+const KIND_AT: usize = moss::SESSION + 4;
+
+// The number of four bytes at a place.
+fn word_at(b: &[u8], at: usize) -> u32
+    ensures { λ r. ⌜ r ≡ be 4 (drop at (now (b .entry))) ⌝ }
+{
+    wire::number(b, at, 4) as u32
+}
+
+fn pour_refused(out: &mut [u8], at: usize, number: u32) -> usize
+    ensures { λ r. ⌜ Pours (now (out .entry)) at ((32 ∷ 114 ∷ 101 ∷ 102 ∷ 117 ∷ 115 ∷ 101 ∷ 100 ∷ 32 ∷ []) ++ decimal number ++ 10 ∷ []) (now (out .exit)) r ⌝ }
+{
+    output::pour_counted_line(out, at, b" refused ", number as u64)
+}
+
+// The first n bytes of the packet, in hexadecimal.
+fn pour_bytes(out: &mut [u8], at: usize, packet: &[u8], n: usize) -> usize
+    ensures { λ r. ⌜ Pours (now (out .entry)) at ((32 ∷ 98 ∷ 121 ∷ 116 ∷ 101 ∷ 115 ∷ 32 ∷ []) ++ hex (take n (now (packet .entry))) ++ 10 ∷ []) (now (out .exit)) r ⌝ }
+{
+    let a = output::pour(out, at, b" bytes ");
+    let b = output::pour_hex(out, a, wire::part(packet, 0, n));
+    output::pour(out, b, b"\n")
+}
+
+// The packet of a record is written, and its line goes out. Answers the place after it.
+fn one_more(out: &mut [u8], at: usize, n: u64, packet: &mut [u8], b: &[u8]) -> usize
+    requires { ⌜ length (now packet) ≡ maxPacket ⌝ }
+    ensures { λ r. ⌜ Pours (now (out .entry)) at (line n (now (b .entry))) (now (out .exit)) r ⌝ }
+{
+    let next = output::pour_decimal(out, at, n);
+    if b.len() < RECORD_HEAD {
+        return pour_refused(out, next, moss::TOO_SHORT);
+    }
+    let session = moss::session_at(b, 0);
+    let sequence = word_at(b, SEQUENCE_AT);
+    let kind = b[KIND_AT];
+    let blocks = wire::part(b, RECORD_HEAD, b.len());
+    let w = moss::write_packet(session, sequence, kind, blocks, packet);
+    match w {
+        Written::Bytes(n) => pour_bytes(out, next, packet, n),
+        Written::Refused(number) => pour_refused(out, next, number),
+    }
+}
+
+// One line a record, and the last line. The buffer holds more than the longest record, so that a longer one is refused by its front.
+fn run(buf: &mut [u8], packet: &mut [u8], out: &mut [u8])
+    requires { ⌜ length (now packet) ≡ maxPacket ⌝ }
+{
+    let mut input = Input { at: 0, end: 0 };
+    let mut at: usize = 0;
+    let mut n: u64 = 0;
+    while n < stream::MANY {
+        let next = stream::next_record(buf, input, Kind::Bytes4);
+        let Next::Record(from, len, left) = next else {
+            output::finish(out, at, n, next);
+            return;
+        };
+        n += 1;
+        input = left;
+        at = one_more(out, at, n, packet, wire::part(buf, from, len));
+    }
+}
+
+fn main() {
+    let mut buf = [0u8; 131072];
+    let mut packet = [0u8; moss::MAX_PACKET];
+    let mut out = [0u8; 65536];
+    run(&mut buf, &mut packet, &mut out);
+}
