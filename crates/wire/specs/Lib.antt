@@ -2,5 +2,7 @@ pub mod Bytes
 pub mod Choice
 pub mod Overlay
 pub mod Same
+pub mod Seven
 pub mod Signed
 pub mod Sum
+pub mod Taken
