@@ -7,14 +7,14 @@ use native.Mathlib.Nat.{pow-suc, one-le-pow, pow-le-pow-right, not-suc-le-zero}
 use native.Mathlib.Numerals.{add-one}
 use native.Mathlib.Omega.{arith}
 use lib.Dec.{eqb, ltb}
-use lib.ListN.{length, getD, set, drop, length-drop, drop-of-length-le}
-use lib.Seq.{drop-cons, getD-drop}
+use lib.ListN.{length, getD, set, drop, length-append, length-drop, drop-of-length-le}
+use lib.Seq.{drop-cons, getD-drop, drop-drop, drop-append-seam}
 use borrow.Author.Tests.{lt-ltb, le-ltb, ltb-true, ltb-false, eqb-true, eqb-false, ne-eqb}
 use Rattle.wire.specs.Bytes.{Bytes}
 use Rattle.wire.specs.Choice.{pick}
 use Rattle.wire.specs.Overlay.{overlay}
 use Rattle.wire.specs.Taken.{Taken, taken, refused}
-use Rattle.wire.specs.Seven.{groups, seven, lowest, groupsIn, sevenIn, groupsAfter, placed}
+use Rattle.wire.specs.Seven.{groups, seven, lowest, groupsIn, sevenIn, groupsAfter, placed, sevenAt}
 use Rattle.wire.specs.declared.seven.Seven.{Seven}
 use Rattle.wire.specs.declared.seven.Seven.the-variants.{Number, Refused}
 use Rattle.wire.proofs.Overlays.{overlay-one, overlay-append}
@@ -204,7 +204,7 @@ module _ (s : List ℕ) (at : ℕ) (h : at < length s) (x : ℕ) (e : x ≡ getD
     pub at-more : (v next : ℕ) → r ≡ Number v next → (v ≡ 0 → ⊥) → placed s (groupsIn k (drop at s)) ≡ Number (x - 128 + 128 * v) next
     at-more v next g z = ap (placed s) (more k n l) ∙ placed-number s x v next (groupsIn (k - 1) (drop (at + 1) s)) (sym f ∙ g) ∙ rw (ne-eqb v 0 z) refl
 
-drop-bytes : (s : List ℕ) (at : ℕ) → Bytes s → Bytes (drop at s)
+pub drop-bytes : (s : List ℕ) (at : ℕ) → Bytes s → Bytes (drop at s)
 drop-bytes s at h i = rw getD-drop (h (at + i))
 
 placed-fits : (s : List ℕ) (at k v next : ℕ) → Bytes s → placed s (groupsIn k (drop at s)) ≡ Number v next → v < 2 * 128 ^ k
@@ -222,3 +222,43 @@ lowest-fits s at k h l n r f v next g =
     let j : k - 1 ≤ 8 = omega arith in
     let p : 128 ^ (k - 1) ≤ 128 ^ 8 = pow-le-pow-right {n = 128} (omega arith) j in
     omega arith
+
+-- ---- what a caller knows of the number at a place: what follows it stands at the place after it
+
+pub number-refused : (s : List ℕ) (at n : ℕ) (r : Seven) → r ≡ sevenAt s at → r ≡ Refused n → sevenIn (drop at s) ≡ refused n
+number-refused s at n r e f = by-taken (sevenIn (drop at s)) refl
+  where
+    by-taken : (t : Taken ℕ) → sevenIn (drop at s) ≡ t → t ≡ refused n
+    by-taken (refused m) p = let g : placed s (refused m) ≡ Refused n = ap (placed s) (sym p) ∙ sym e ∙ f in cc
+    by-taken (taken v rest) p = let g : placed s (taken v rest) ≡ Refused n = ap (placed s) (sym p) ∙ sym e ∙ f in absurd (let z : _≡_ {A = ℕ} 0 1 = cc in omega arith)
+
+-- a number takes a byte at least
+pub groups-some : (k v : ℕ) → 1 ≤ length (groups k v)
+unfolding groups
+groups-some zero v = omega arith
+groups-some (suc k) v = by-test (ltb v 128)
+  where
+    by-test : (t : Bool) → 1 ≤ length (pick t (v ∷ []) ((128 + v % 128) ∷ groups k (v / 128)))
+    by-test true = omega arith
+    by-test false = omega arith
+
+pub record Follows (s : List ℕ) (at v next : ℕ) : Type 0 where
+  pub is : sevenIn (drop at s) ≡ taken v (drop next s)
+  pub on : at < next
+  pub within : next ≤ length s
+
+pub number-taken : (s : List ℕ) (at v next : ℕ) → Bytes s → (r : Seven) → r ≡ sevenAt s at → r ≡ Number v next → Follows s at v next
+number-taken s at v next h r e f = by-taken (sevenIn (drop at s)) refl
+  where
+    by-taken : (t : Taken ℕ) → sevenIn (drop at s) ≡ t → Follows s at v next
+    by-taken (refused m) p = let g : placed s (refused m) ≡ Number v next = ap (placed s) (sym p) ∙ sym e ∙ f in absurd (let z : _≡_ {A = ℕ} 0 1 = cc in omega arith)
+    by-taken (taken w rest) p =
+        let g : placed s (taken w rest) ≡ Number v next = ap (placed s) (sym p) ∙ sym e ∙ f in
+        let m : w ≡ v = cc in
+        let q : length s - length rest ≡ next = cc in
+        let b : seven w ++ rest ≡ drop at s = back-seven (drop at s) (drop-bytes s at h) w rest p .1 in
+        let l : length (seven w) + length rest ≡ length s - at = sym (length-append (seven w) rest) ∙ ap length b ∙ length-drop at s in
+        let o : 1 ≤ length (seven w) = groups-some 9 w in
+        let n : next ≡ at + length (seven w) = omega arith in
+        let d : rest ≡ drop next s = sym (drop-append-seam (seven w) rest) ∙ ap (drop (length (seven w))) b ∙ drop-drop (length (seven w)) at s ∙ ap (λ (k : ℕ). drop k s) (sym n) in
+        record { is = p ∙ ap (λ (x : ℕ). taken x rest) m ∙ ap (taken v) d; on = omega arith; within = omega arith }

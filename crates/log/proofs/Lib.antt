@@ -1,0 +1,4 @@
+pub mod Takes
+pub mod Backs
+pub mod Reading
+pub mod Writing
