@@ -136,6 +136,7 @@ back-body (suc k) (x ∷ b) h l es e = by-taken (λ c m. back-body k c) (entryIn
         let i = ih ds p in
         let s : es ≡ d ∷ ds = cc in
         rw s (record { keeps = (back .keeps, i .keeps); wrote = rw (i .wrote) (back .wrote) })
+
     by-taken : ((c : List ℕ) → ℕ → Bytes c → length c ≤ k → (es : List Entry) → listBy k c ≡ whole es → ListBack c es)
         → (t : Taken Entry) → entryIn (x ∷ b) ≡ t → more (listBy k) t ≡ whole es → ListBack (x ∷ b) es
     by-taken ih (refused n) p q = absurd (let z : _≡_ {A = ℕ} 0 1 = cc in omega arith)

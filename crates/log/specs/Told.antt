@@ -93,3 +93,7 @@ onward rest log (Refused n) = broken [] n
 unfoldable pub readOn : ℕ → List ℕ → ℕ → Listed
 readOn zero log at = whole []
 readOn (suc k) log at = onward (readOn k log) log (readAt log at)
+
+-- from the open reader to its end: the head, and an entry takes a byte at least
+unfoldable pub readAll : List ℕ → Listed
+readAll log = readOn (suc (length log)) log 0

@@ -37,4 +37,4 @@ pub record Appended (out : List ℕ) (at : ℕ) (e : Entry) (r : Written) (out�
 -- `begin`, and then `append` of each entry at the place that the call before answered: the entries, the place and the output by now
 pub data Kept (out : List ℕ) : List Entry → ℕ → List ℕ → Type 0 where
   begun : {at : ℕ} {out′ : List ℕ} → Began out (Next at) out′ → Kept out [] at out′
-  next : {es : List Entry} {e : Entry} {at at′ : ℕ} {mid out′ : List ℕ} → Kept out es at mid → Appended mid at e (Next at′) out′ → Kept out (es ++ e ∷ []) at′ out′
+  added : {es : List Entry} {e : Entry} {at at′ : ℕ} {mid out′ : List ℕ} → Kept out es at mid → Appended mid at e (Next at′) out′ → Kept out (es ++ e ∷ []) at′ out′
