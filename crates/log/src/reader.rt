@@ -67,7 +67,7 @@ fn length_at(log: &[u8], at: usize, sender: u64, tick: u64) -> Step
     let read = wire::read_seven(log, at);
     match read {
         Seven::Number(n, next) => datagram_at(log, next, sender, tick, n),
-        Seven::Refused(e) => Step::Refused(e),
+        Seven::Refused(form) => Step::Refused(form),
     }
 }
 
