@@ -21,7 +21,7 @@ typedef unsigned int qm_u32;
 typedef unsigned long long qm_u64;
 typedef unsigned long long qm_size; /* a length, a place or a number of elements: 64 bits, unsigned */
 
-/* The refusals that these functions give. */
+/* The refusals that these functions give. docs/REFUSALS.md has every number, and what to do about it. */
 #define QM_TOO_FEW_BYTES 1      /* fewer than 8 bytes, or fragment magic and fewer than 20 */
 #define QM_OTHER_MAGIC 2        /* neither 4c433032 nor 4c433033 */
 #define QM_DATAGRAM_TOO_LONG 3  /* a datagram over 65,535 bytes */

@@ -7,6 +7,7 @@ static int same_key(struct ref_key a, struct ref_key b) { return a.sender == b.s
 void ref_open(struct ref_receiver *r, u8 *store, u64 store_length) {
     memset(r, 0, sizeof *r);
     r->store = store;
+    r->store_length = store_length;
     r->slot_size = store_length / SLOTS;
     if (r->slot_size > MAX_PAYLOAD) r->slot_size = MAX_PAYLOAD;
 }
@@ -158,6 +159,11 @@ struct ref_answer ref_receive(struct ref_receiver *r, u64 sender, const u8 *d, u
     return keep_or_deliver(r, s, d, &h, answer);
 }
 
+struct ref_answer ref_receive_lent(struct ref_receiver *r, u64 store_length, u64 ledger_length, u64 sender, const u8 *d, u64 length) {
+    if (store_length != r->store_length || ledger_length != LEDGER) return refused(9);
+    return ref_receive(r, sender, d, length);
+}
+
 /* Frees the sender's slots and drops its remembered keys; the rest keep their order. */
 void ref_forget(struct ref_receiver *r, u64 sender) {
     int kept = 0;
@@ -170,18 +176,24 @@ void ref_forget(struct ref_receiver *r, u64 sender) {
 
 /* ---- the watch */
 
-enum ref_seen ref_watch(struct ref_watch *w, u32 sequence, u64 *by) {
-    u64 ahead = ((u64) sequence + 4294967296ULL - w->last) % 4294967296ULL;
+enum ref_seen ref_watch(struct ref_watch *w, u64 sender, u32 sequence, u64 *by) {
+    u64 i = 0;
+    *by = 14;
+    if (w->used > WATCHED) return REF_FULL;
+    while (i < w->used && w->sender[i] != sender) i++;
+    if (i == WATCHED) return REF_FULL;
     *by = 0;
-    if (!w->any) {
-        w->any = 1;
-        w->last = sequence;
+    if (i == w->used) {
+        w->sender[i] = sender;
+        w->last[i] = sequence;
+        w->used++;
         return REF_FIRST;
     }
+    u64 ahead = ((u64) sequence + 4294967296ULL - w->last[i]) % 4294967296ULL;
     if (ahead == 0) return REF_SAME;
     if (ahead < 2147483648ULL) {
         *by = ahead - 1;
-        w->last = sequence;
+        w->last[i] = sequence;
         return REF_FORWARD;
     }
     *by = 4294967296ULL - ahead;

@@ -71,6 +71,7 @@ struct ref_slot {
 
 struct ref_receiver {
     u8 *store;
+    u64 store_length;   /* at opening */
     u64 slot_size;
     u32 ledger[LEDGER];
     struct ref_slot slots[SLOTS];
@@ -94,19 +95,24 @@ struct ref_answer {
 
 void ref_open(struct ref_receiver *r, u8 *store, u64 store_length);
 struct ref_answer ref_receive(struct ref_receiver *r, u64 sender, const u8 *d, u64 length);
+/* The same with the lengths of the store and the ledger that are lent: 9 where they are not those of opening. */
+struct ref_answer ref_receive_lent(struct ref_receiver *r, u64 store_length, u64 ledger_length, u64 sender, const u8 *d, u64 length);
 void ref_forget(struct ref_receiver *r, u64 sender);
 
-/* ---- the watch of one sender */
+/* ---- the watch, of at most 16 senders in order of first number */
 
-enum ref_seen { REF_FIRST, REF_FORWARD, REF_SAME, REF_LATE };
+enum { WATCHED = 16 };
+
+enum ref_seen { REF_FIRST, REF_FORWARD, REF_SAME, REF_LATE, REF_FULL };
 
 struct ref_watch {
-    int any;
-    u32 last;
+    u64 used;   /* how many senders it claims */
+    u64 sender[WATCHED];
+    u32 last[WATCHED];
 };
 
-/* by: the missing numbers of Forward, how late of Late, else 0 */
-enum ref_seen ref_watch(struct ref_watch *w, u32 sequence, u64 *by);
+/* by: the missing numbers of Forward, how late of Late, 14 of REF_FULL, else 0 */
+enum ref_seen ref_watch(struct ref_watch *w, u64 sender, u32 sequence, u64 *by);
 
 /* ---- LMCP */
 

@@ -38,13 +38,14 @@ static void expect_watch(struct stream *s, const u8 *d, u64 length) {
         return;
     }
     u64 by;
-    enum ref_seen seen = ref_watch(&watch, h.sequence, &by);
+    enum ref_seen seen = ref_watch(&watch, 0, h.sequence, &by);
     met[FIRST + (int) seen]++;
     switch (seen) {
     case REF_FIRST: fprintf(s->expected, "%llu first\n", s->number); break;
     case REF_FORWARD: fprintf(s->expected, "%llu forward %llu\n", s->number, by); break;
     case REF_SAME: fprintf(s->expected, "%llu same\n", s->number); break;
     case REF_LATE: fprintf(s->expected, "%llu late %llu\n", s->number, by); break;
+    case REF_FULL: break; /* one sender never fills it */
     }
 }
 

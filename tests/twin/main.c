@@ -37,11 +37,11 @@ static void *file_of(const char *folder, int which, const char *kind, const char
 
 void end_stream(struct stream *s, int width, int cut) {
     u8 bytes[8] = {0, 0, 0, 0, 0, 0, 0, 0};
-    bytes[width - 1] = 9;
     if (cut == 0) {
         fprintf(s->expected, "end %llu\n", s->number);
         return;
     }
+    bytes[width - 1] = 9;
     /* inside the length, right behind it, or inside the body, which may be said to be larger than any program holds */
     if (cut > 1 && chance(50)) bytes[width == 5 ? 1 : 0] = 255;
     u64 more = cut == 1 ? between(1, (u64) width - 1) : cut == 2 ? (u64) width : (u64) width + between(1, 8 - (u64) width);

@@ -371,7 +371,7 @@ static void damage_list(void) {
         for (u64 i = at; i + 1 < numbers; i++) list[i] = list[i + 1];
         numbers--;
         break;
-    case 4: if (numbers > 0) list[at] += (i64) below(5) - 2; break;
+    case 4: if (numbers > 0) list[at] = (i64) ((u64) list[at] + below(5) - 2); break; /* past the edge it wraps */
     default: if (numbers > 0) list[at] = edge_number(); break;
     }
 }

@@ -5,3 +5,4 @@ pub mod Headers
 pub mod Trips
 pub mod Output
 pub mod Once
+pub mod Worked

@@ -13,7 +13,9 @@ use Rattle.wire.proofs.Numbers.{length-bytes}
 use Rattle.wire.proofs.Overlays.{overlay-eq}
 use Rattle.datagram.specs.Limits.{maxPayload, maxFragments}
 use Rattle.wire.specs.Choice.{pick}
-use Rattle.datagram.specs.Said.{said}
+use Rattle.datagram.specs.Read.{nameOf, payloadOf}
+use Rattle.datagram.specs.Said.{nameIn, payloadIn, said}
+use Rattle.datagram.proofs.Saids.{name-said, payload-said}
 use Rattle.cutter.specs.Cut.{isSmall, carries, beginsAt, countOf, lengthOf, smallBytes, fragmentBytes, datagramOf, CutTo}
 use Rattle.cutter.specs.Trip.{Cuttable, cutSaid}
 use Rattle.cutter.specs.declared.Cut.the-variants.{Made}
@@ -77,3 +79,10 @@ module _ (name payload : List ℕ) (q m index : ℕ) (out : List ℕ) (n l : ℕ
   cut-reads =
       ap (said maxPayload maxFragments) cut-bytes
       ∙ cut-said maxPayload maxFragments q name payload m cuttable index (rw (← done .plan .count) (done .plan .asked))
+
+  -- so `name_part` and `payload_part` of it give the name (in fragment 0; else none) and its own part of the payload
+  pub cut-name : nameOf (take l out′) ≡ nameIn (cutSaid q name payload m index)
+  cut-name = name-said (take l out′) ∙ ap nameIn cut-reads
+
+  pub cut-payload : payloadOf (take l out′) ≡ payloadIn (cutSaid q name payload m index)
+  cut-payload = payload-said (take l out′) ∙ ap payloadIn cut-reads

@@ -13,9 +13,8 @@ use Rattle.wire.specs.Choice.{pick}
 use Rattle.datagram.specs.Name.{goodName}
 use Rattle.wire.proofs.Choices.{or-l, or-r, pick-all}
 use Rattle.datagram.proofs.Names.{name-short}
-use Rattle.cutter.specs.Cut.{Sized, leastSize, mostSize, isSmall, countOf, lengthOf, planOf, cutAnswer}
-use Rattle.cutter.specs.declared.Cut.{Cut}
-use Rattle.cutter.specs.declared.Cut.the-variants.{Made, Refused}
+use Rattle.cutter.specs.Limits.{leastSize, mostSize}
+use Rattle.cutter.specs.Cut.{Sized, isSmall, countOf, lengthOf, Answer, gives, refused, planOf, cutAnswer}
 
 -- no fragment begins far into the payload
 pub begins-most : (c m k : ℕ) → Sized c m → k ≤ maxFragments → m - (21 + c) + (k - 1) * (m - 20) ≤ maxFragments * mostSize
@@ -48,9 +47,9 @@ pub record Planned (c p m index room n l : ℕ) : Type 0 where
   pub fits : l ≤ room
 
 module _ (c p m index room : ℕ) where
-  abbrev IfPlanned : Cut → Type 0
-  IfPlanned (Refused n) = Unit {0}
-  IfPlanned (Made n l) = Planned c p m index room n l
+  abbrev IfPlanned : Answer → Type 0
+  IfPlanned (refused n) = Unit {0}
+  IfPlanned (gives n l) = Planned c p m index room n l
 
   if-planned : IfPlanned (planOf c p m index room)
   unfolding planOf
@@ -68,7 +67,7 @@ module _ (c p m index room : ℕ) where
         fits = ltb-false room (lengthOf c p m index) fits;
       }
 
-  pub planned : (n l : ℕ) → planOf c p m index room ≡ Made n l → Planned c p m index room n l
+  pub planned : (n l : ℕ) → planOf c p m index room ≡ gives n l → Planned c p m index room n l
   planned n l e = subst IfPlanned e if-planned
 
 module _ (name payload : List ℕ) (m index room : ℕ) where
@@ -78,13 +77,13 @@ module _ (name payload : List ℕ) (m index room : ℕ) where
     pub sized′ : Sized (length name) m
     pub plan : Planned (length name) (length payload) m index room n l
 
-  abbrev IfMade : Cut → Type 0
-  IfMade (Refused n) = Unit {0}
-  IfMade (Made n l) = Done n l
+  abbrev IfMade : Answer → Type 0
+  IfMade (refused n) = Unit {0}
+  IfMade (gives n l) = Done n l
 
-  from-plan : goodName name ≡ true → Sized (length name) m → (r : Cut) → planOf (length name) (length payload) m index room ≡ r → IfMade r
-  from-plan g s (Refused n) e = tt
-  from-plan g s (Made n l) e = record { named = g; sized′ = s; plan = planned (length name) (length payload) m index room n l e }
+  from-plan : goodName name ≡ true → Sized (length name) m → (r : Answer) → planOf (length name) (length payload) m index room ≡ r → IfMade r
+  from-plan g s (refused n) e = tt
+  from-plan g s (gives n l) e = record { named = g; sized′ = s; plan = planned (length name) (length payload) m index room n l e }
 
   if-made : IfMade (cutAnswer name payload m index room)
   unfolding cutAnswer
@@ -96,7 +95,7 @@ module _ (name payload : List ℕ) (m index room : ℕ) where
       from-plan good s (planOf (length name) (length payload) m index room) refl)
       (λ _. tt)
 
-  pub made : (n l : ℕ) → cutAnswer name payload m index room ≡ Made n l → Done n l
+  pub made : (n l : ℕ) → cutAnswer name payload m index room ≡ gives n l → Done n l
   made n l e = subst IfMade e if-made
 
   pub made-short : (n l : ℕ) → Done n l → l ≤ mostSize

@@ -11,15 +11,9 @@ use Rattle.datagram.specs.Limits.{maxPayload, maxFragments, maxName}
 use Rattle.wire.specs.Choice.{pick}
 use Rattle.datagram.specs.Name.{goodName}
 use Rattle.datagram.specs.Read.{smallMagic, fragmentMagic}
+use Rattle.cutter.specs.Limits.{leastSize, mostSize}
 use Rattle.cutter.specs.declared.Cut.{Cut}
 use Rattle.cutter.specs.declared.Cut.the-variants.{Made, Refused}
-
--- the size of datagrams
-abbrev pub leastSize : ℕ
-leastSize = 96
-
-abbrev pub mostSize : ℕ
-mostSize = 65507
 
 -- a name of c bytes and datagrams of m bytes that can be used
 pub record Sized (c m : ℕ) : Type 0 where
@@ -74,25 +68,35 @@ datagramOf q name payload m k =
 
 -- ---- what the cutter answers and writes, for an output of that many bytes
 
--- by the lengths alone
-unfoldable pub planOf : ℕ → ℕ → ℕ → ℕ → ℕ → Cut
-planOf c p m index room =
-    pick (ltb maxPayload p) (Refused 6)
-    (pick (ltb maxFragments (countOf c p m)) (Refused 11)
-    (pick (leb (countOf c p m) index) (Refused 12)
-    (pick (ltb room (lengthOf c p m index)) (Refused 13)
-    (Made (countOf c p m) (lengthOf c p m index)))))
+-- the number of datagrams and the length of the one asked for; or the number of the refusal
+pub data Answer : Type 0 where
+  gives : ℕ → ℕ → Answer
+  refused : ℕ → Answer
 
-unfoldable pub cutAnswer : List ℕ → List ℕ → ℕ → ℕ → ℕ → Cut
+-- what each case of the enum says
+abbrev pub says : Cut → Answer
+says (Made count len) = gives count len
+says (Refused n) = refused n
+
+-- by the lengths alone
+unfoldable pub planOf : ℕ → ℕ → ℕ → ℕ → ℕ → Answer
+planOf c p m index room =
+    pick (ltb maxPayload p) (refused 6)
+    (pick (ltb maxFragments (countOf c p m)) (refused 11)
+    (pick (leb (countOf c p m) index) (refused 12)
+    (pick (ltb room (lengthOf c p m index)) (refused 13)
+    (gives (countOf c p m) (lengthOf c p m index)))))
+
+unfoldable pub cutAnswer : List ℕ → List ℕ → ℕ → ℕ → ℕ → Answer
 cutAnswer name payload m index room =
-    pick (ltb m leastSize || ltb mostSize m) (Refused 10)
-    (pick (goodName name) (planOf (length name) (length payload) m index room) (Refused 4))
+    pick (ltb m leastSize || ltb mostSize m) (refused 10)
+    (pick (goodName name) (planOf (length name) (length payload) m index room) (refused 4))
 
 -- a refusal leaves the output; else the datagram stands at its start
-abbrev pub cutOutput : Cut → List ℕ → List ℕ → List ℕ
-cutOutput (Refused n) out d = out
-cutOutput (Made n l) out d = overlay out 0 d
+abbrev pub cutOutput : Answer → List ℕ → List ℕ → List ℕ
+cutOutput (refused n) out d = out
+cutOutput (gives n l) out d = overlay out 0 d
 
 pub record CutTo (name payload : List ℕ) (q m index : ℕ) (out : List ℕ) (r : Cut) (out′ : List ℕ) : Type 0 where
-  pub answer : r ≡ cutAnswer name payload m index (length out)
-  pub output : out′ ≡ cutOutput r out (datagramOf q name payload m index)
+  pub answer : says r ≡ cutAnswer name payload m index (length out)
+  pub output : out′ ≡ cutOutput (says r) out (datagramOf q name payload m index)

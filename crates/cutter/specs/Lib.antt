@@ -1,2 +1,4 @@
+pub mod Limits
 pub mod Cut
 pub mod Trip
+pub mod Worked

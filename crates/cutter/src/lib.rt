@@ -5,7 +5,8 @@ ghost use lib.ListN.{length};
 ghost use Rattle.wire.specs.Bytes.{bytes};
 ghost use Rattle.wire.specs.Overlay.{overlay};
 ghost use Rattle.datagram.specs.Limits.{maxPayload, maxFragments};
-ghost use Rattle.cutter.specs.Cut.{Sized, mostSize, beginsAt, carries, countOf, lengthOf, planOf, smallBytes, headBytes, fragmentBytes, datagramOf, CutTo};
+ghost use Rattle.cutter.specs.Limits.{mostSize};
+ghost use Rattle.cutter.specs.Cut.{Sized, beginsAt, carries, countOf, lengthOf, says, planOf, smallBytes, headBytes, fragmentBytes, datagramOf, CutTo};
 
 // The smallest and the largest size of a datagram that a message is cut for.
 pub const LEAST_SIZE: usize = 96;
@@ -158,7 +159,7 @@ fn put_datagram(
 // What the lengths say: the number of datagrams and the length of the one asked for, or a refusal.
 fn plan(c: usize, p: usize, m: usize, index: usize, room: usize) -> Cut
     requires { ⌜ Sized c m ⌝ }
-    ensures { λ r. ⌜ r ≡ planOf c p m index room ⌝ }
+    ensures { λ r. ⌜ says r ≡ planOf c p m index room ⌝ }
 {
     if datagram::MAX_PAYLOAD < p {
         return Cut::Refused(6);

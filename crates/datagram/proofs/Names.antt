@@ -70,7 +70,7 @@ pub zero-end : (b : List ℕ) (i : ℕ) → length b ≤ i → untilZero (drop i
 unfolding untilZero
 zero-end b i h = rw (drop-of-length-le b h)
 
--- ---- what the search for the first 64 bytes says of the name
+-- ---- what the search within one byte more than a name has says of the name
 
 module _ (b : List ℕ) (c : ℕ) (e : c ≡ min (untilZero b) (maxName + 1)) where
   pub name-none : length b ≤ c → nameLength b ≡ Nameless
@@ -79,7 +79,7 @@ module _ (b : List ℕ) (c : ℕ) (e : c ≡ min (untilZero b) (maxName + 1)) wh
 
   pub name-here : c < length b → goodName (take c b) ≡ true → nameLength b ≡ Long c
   unfolding nameLength
-  name-here h g = elim (decLe 64 (untilZero b)) [
+  name-here h g = elim (decLe (maxName + 1) (untilZero b)) [
     | yes w ↦ never g (long-name (take c b) (rw length-take (omega arith)))
     | no w ↦
         let u : untilZero b ≡ c = omega arith in
@@ -88,7 +88,7 @@ module _ (b : List ℕ) (c : ℕ) (e : c ≡ min (untilZero b) (maxName + 1)) wh
 
   pub name-bad : c < length b → goodName (take c b) ≡ false → nameLength b ≡ Nameless
   unfolding nameLength
-  name-bad h g = elim (decLe 64 (untilZero b)) [
+  name-bad h g = elim (decLe (maxName + 1) (untilZero b)) [
     | yes w ↦
         let l : goodName (take (untilZero b) b) ≡ false = long-name (take (untilZero b) b) (rw length-take (omega (arith, zero-le-length b))) in
         rw (l, and-false)

@@ -3,3 +3,4 @@ pub mod Name
 pub mod Read
 pub mod Said
 pub mod Lawful
+pub mod Worked

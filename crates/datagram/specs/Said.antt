@@ -1,5 +1,5 @@
 -- The reader's answer in document 01's values: a refusal's number; a small message's sequence, name and payload; or a fragment. Definitions only.
-use mathlib.Core.List.{List}
+use mathlib.Core.List.{List, []}
 use Prim.Native.Nat.{ℕ}
 use Rattle.wire.specs.Choice.{pick}
 use Rattle.datagram.specs.Read.{readDatagram, partOf}
@@ -37,6 +37,17 @@ fragmentIn d h = record {
 abbrev pub says : List ℕ → Read → Said
 says d (Refused n) = refused n
 says d (Good h) = pick (h .small) (small (h .sequence) (partOf d (h .name)) (partOf d (h .payload))) (fragment (fragmentIn d h))
+
+-- the name and the payload or data that were said: none in a refusal
+abbrev pub nameIn : Said → List ℕ
+nameIn (refused n) = []
+nameIn (small q name payload) = name
+nameIn (fragment f) = f .name
+
+abbrev pub payloadIn : Said → List ℕ
+payloadIn (refused n) = []
+payloadIn (small q name payload) = payload
+payloadIn (fragment f) = f .bytes
 
 -- what the datagram d says, for payloads of at most maxSize bytes in at most maxCount fragments
 unfoldable pub said : ℕ → ℕ → List ℕ → Said

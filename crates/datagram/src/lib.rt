@@ -17,9 +17,9 @@ pub const MAX_DATAGRAM: usize = 65535;
 pub const MAX_NAME: usize = 63;
 
 // "LC02" and "LC03", as numbers of four bytes.
-pub const SMALL_MAGIC: u32 = 1279471666;
+pub const SMALL_MAGIC: u32 = 0x4c433032;
 
-pub const FRAGMENT_MAGIC: u32 = 1279471667;
+pub const FRAGMENT_MAGIC: u32 = 0x4c433033;
 
 // A part of a datagram: where it begins, and its length.
 pub struct Place {
@@ -74,7 +74,7 @@ pub fn good_name(name: &[u8]) -> bool
     true
 }
 
-// How many bytes stand before the first zero byte, at most 64.
+// How many bytes stand before the first zero byte, at most one more than a name has.
 fn until_zero(b: &[u8]) -> usize
     ensures { λ r. ⌜ r ≡ min (untilZero (now (b .entry))) (maxName + 1) ⌝ }
 {

@@ -8,12 +8,12 @@ use Rattle.datagram.specs.Limits.{maxPayload, maxFragments}
 use Rattle.datagram.specs.Read.{readDatagram}
 use Rattle.watch.specs.declared.Watch.{Watch}
 use Rattle.watch.specs.declared.Seen.{Seen}
-use Rattle.watch.specs.Said.{Said, first, forward, same, late, refused, says}
+use Rattle.watch.specs.Noted.{Noted, first, forward, same, late, refused, notes}
 use Rattle.watch.specs.Watching.{asked, after}
 use Rattle.stream.specs.Text.{decimal}
 
 -- what is said of a datagram of sender 0, by what the reader made of it, and the watch afterwards
-abbrev pub saidOf : Watch → Read → Said
+abbrev pub saidOf : Watch → Read → Noted
 saidOf w (Good header) = asked w 0 (header .sequence)
 saidOf w (Refused number) = refused number
 
@@ -22,11 +22,11 @@ afterOf w (Good header) = after w 0 (header .sequence)
 afterOf w (Refused number) = w
 
 pub record Judged (w : Watch) (d : List ℕ) (r : Seen) : Type 0 where
-  pub answer : says (r .answer) ≡ saidOf w (readDatagram maxPayload maxFragments d)
+  pub answer : notes (r .answer) ≡ saidOf w (readDatagram maxPayload maxFragments d)
   pub watch : r .watch ≡ afterOf w (readDatagram maxPayload maxFragments d)
 
 -- " first", " forward 3", " same", " late 2" or " refused 4", and the end of the line
-abbrev pub answerText : Said → List ℕ
+abbrev pub answerText : Noted → List ℕ
 answerText first = 32 ∷ 102 ∷ 105 ∷ 114 ∷ 115 ∷ 116 ∷ 10 ∷ []
 answerText (forward missing) = (32 ∷ 102 ∷ 111 ∷ 114 ∷ 119 ∷ 97 ∷ 114 ∷ 100 ∷ 32 ∷ []) ++ decimal missing ++ 10 ∷ []
 answerText same = 32 ∷ 115 ∷ 97 ∷ 109 ∷ 101 ∷ 10 ∷ []
@@ -34,5 +34,5 @@ answerText (late by) = (32 ∷ 108 ∷ 97 ∷ 116 ∷ 101 ∷ 32 ∷ []) ++ deci
 answerText (refused number) = (32 ∷ 114 ∷ 101 ∷ 102 ∷ 117 ∷ 115 ∷ 101 ∷ 100 ∷ 32 ∷ []) ++ decimal number ++ 10 ∷ []
 
 -- line n
-abbrev pub line : ℕ → Said → List ℕ
+abbrev pub line : ℕ → Noted → List ℕ
 line n said = decimal n ++ answerText said

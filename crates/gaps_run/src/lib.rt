@@ -5,7 +5,7 @@ ghost use mathlib.Core.Path.{_≡_};
 ghost use lib.ListN.{length};
 ghost use Rattle.stream.specs.Text.{decimal};
 ghost use Rattle.stream.specs.Put.{Put};
-ghost use Rattle.watch.specs.Said.{says};
+ghost use Rattle.watch.specs.Noted.{notes};
 ghost use Rattle.gaps_run.specs.Lines.{answerText, line, Judged};
 use datagram::Read;
 use stream::Input;
@@ -38,7 +38,7 @@ fn judge(w: Watch, d: &[u8]) -> Seen
 }
 
 fn put_answer(out: &mut [u8], at: usize, answer: Answer) -> usize
-    ensures { λ r. ⌜ Put (now (out .entry)) at (answerText (says answer)) (now (out .exit)) r ⌝ }
+    ensures { λ r. ⌜ Put (now (out .entry)) at (answerText (notes answer)) (now (out .exit)) r ⌝ }
 {
     match answer {
         Answer::First => stream::put_text(out, at, b" first\n"),
@@ -58,7 +58,7 @@ fn put_number(out: &mut [u8], at: usize, word: &[u8], n: u32) -> usize
 
 // Line n.
 fn put_line(out: &mut [u8], at: usize, n: u64, answer: Answer) -> usize
-    ensures { λ r. ⌜ Put (now (out .entry)) at (line n (says answer)) (now (out .exit)) r ⌝ }
+    ensures { λ r. ⌜ Put (now (out .entry)) at (line n (notes answer)) (now (out .exit)) r ⌝ }
 {
     let next = stream::put_decimal(out, at, n);
     put_answer(out, next, answer)

@@ -9,7 +9,7 @@ use Rattle.datagram.specs.declared.Header.{Header}
 use Rattle.datagram.specs.declared.Read.{Read}
 use Rattle.datagram.specs.declared.Read.the-variants.{Good}
 use Rattle.datagram.proofs.Places.{accepted-good}
-use Rattle.cutter.specs.Cut.{cutOutput, datagramOf, CutTo}
+use Rattle.cutter.specs.Cut.{Answer, says, cutOutput, datagramOf, CutTo}
 use Rattle.cutter.specs.declared.Cut.{Cut}
 use Rattle.host.specs.Code.{codeOf, CutTold}
 use Rattle.host.specs.Fields.{PlacesFit, Told}
@@ -26,10 +26,10 @@ places-fit C N d h e =
 
 -- what the cutter answers and writes, told as one number
 pub cut-told : (name payload : List ℕ) (q m index : ℕ) (out : List ℕ) (r : Cut) (out′ : List ℕ) (x : ℕ)
-    → CutTo name payload q m index out r out′ → x ≡ codeOf r → CutTold name payload q m index out x out′
+    → CutTo name payload q m index out r out′ → x ≡ codeOf (says r) → CutTold name payload q m index out x out′
 cut-told name payload q m index out r out′ x k e = record {
   gave = e ∙ ap codeOf (k .answer);
-  left = k .output ∙ ap (λ (s : Cut). cutOutput s out (datagramOf q name payload m index)) (k .answer);
+  left = k .output ∙ ap (λ (s : Answer). cutOutput s out (datagramOf q name payload m index)) (k .answer);
 }
 
 -- ---- no second answer, and no second list or output

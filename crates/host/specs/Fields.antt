@@ -15,6 +15,10 @@ use Rattle.datagram.specs.declared.Read.the-variants.{Good, Refused}
 abbrev pub kindOf : Bool → ℕ
 kindOf isSmall = pick isSmall 1 2
 
+-- how many numbers tell of a datagram
+abbrev pub fieldCount : ℕ
+fieldCount = 10
+
 -- kind, sequence, size, offset, number, count, name place and length, data place and length
 abbrev pub fieldsOf : Header → List ℕ
 fieldsOf h =
@@ -33,12 +37,12 @@ fieldsOf h =
 -- the reader's refusal; else 13 where fewer than ten numbers fit; else 0
 abbrev pub toldAnswer : Read → List ℕ → ℕ
 toldAnswer (Refused n) list = n
-toldAnswer (Good h) list = pick (ltb (length list) 10) 13 0
+toldAnswer (Good h) list = pick (ltb (length list) fieldCount) 13 0
 
 -- a refusal leaves the list; else the ten numbers stand at its start, and the rest stays
 abbrev pub toldFields : Read → List ℕ → List ℕ
 toldFields (Refused n) list = list
-toldFields (Good h) list = pick (ltb (length list) 10) list (overlay list 0 (fieldsOf h))
+toldFields (Good h) list = pick (ltb (length list) fieldCount) list (overlay list 0 (fieldsOf h))
 
 pub record Told (r : Read) (list : List ℕ) (answer : ℕ) (list′ : List ℕ) : Type 0 where
   pub gave : answer ≡ toldAnswer r list

@@ -28,12 +28,15 @@ fn kind_of(small: bool) -> u32
     2
 }
 
+// How many numbers tell of a datagram.
+pub const FIELDS: usize = 10;
+
 // The ten numbers of a header at the start of fields, or 13.
 fn put_header(fields: &mut [u32], h: Header) -> u32
     requires { ⌜ PlacesFit h ⌝ }
     ensures { λ r. ⌜ Told (Read.Good h) (now (fields .entry)) r (now (fields .exit)) ⌝ }
 {
-    if fields.len() < 10 {
+    if fields.len() < FIELDS {
         return 13;
     }
     fields[0] = kind_of(h.small);

@@ -12,7 +12,7 @@ use Rattle.steps.specs.Answers.{Reply}
 use Rattle.steps.specs.Marked.{freshReplies}
 use Rattle.watch.specs.Senders.{empty}
 use Rattle.watch.specs.Watching.{asked, after}
-use Rattle.watch.specs.Said as watched
+use Rattle.watch.specs.Noted as watched
 use Rattle.watch.specs.declared.Watch.{Watch}
 use Rattle.lmcp.specs.Read.{Read}
 use Rattle.lmcp.specs.Table.{pitsurv}
@@ -40,7 +40,7 @@ pub data Given : Type 0 where
   said′ : Said → Given
   replied : List Reply → Given
   cut′ : Cutting → Given
-  seen : List watched.Said → Given
+  seen : List watched.Noted → Given
   numbers : Read → Given
 
 -- ---- each definition, asked
@@ -64,7 +64,7 @@ abbrev tileFrom : ℕ → ℕ → ℕ → Cutting
 tileFrom p k zero = fragments []
 tileFrom p k (suc n) = withData (tileSays p k) (tileFrom p (suc k) n)
 
-abbrev seenFrom : Watch → List ℕ → List watched.Said
+abbrev seenFrom : Watch → List ℕ → List watched.Noted
 seenFrom w [] = []
 seenFrom w (n ∷ ns) = asked w 0 n ∷ seenFrom (after w 0 n) ns
 

@@ -6,7 +6,7 @@ use lib.ListN.{take}
 use Rattle.datagram.specs.Said.{refused, small}
 use Rattle.steps.specs.Answers.{refusedBy, kept, repeat, delivered}
 use Rattle.steps.specs.Marked.{A, B, B₀, B₄}
-use Rattle.watch.specs.Said as watched
+use Rattle.watch.specs.Noted as watched
 use Rattle.lmcp.specs.Run as run
 use Rattle.marked.specs.Ask.{Ask, reading, receiving, cutting, watching, opening, small′, fragments, Given, said′, replied, cut′, seen, numbers}
 

@@ -1,12 +1,12 @@
 -- The watch by its cases, one law for each answer and each move. Assumes nothing.
-use mathlib.Core.Path.{_≡_, _∙_}
+use mathlib.Core.Path.{_≡_, refl, sym, _∙_}
 use mathlib.Core.Bool.{true, false}
 use Prim.Native.Nat.{ℕ, _+_, _≤_, _<_}
 use lib.ListN.{set, getD}
 use borrow.Author.Tests.{lt-ltb, le-ltb, le-leb, lt-leb}
 use Rattle.watch.specs.declared.Watch.{Watch}
 use Rattle.watch.specs.Limits.{maxSenders, noRoom}
-use Rattle.watch.specs.Said.{Said, first, refused}
+use Rattle.watch.specs.Noted.{Noted, first, same, late, refused}
 use Rattle.watch.specs.Difference.{difference, told}
 use Rattle.watch.specs.Senders.{senderPlace, setLast, moved}
 use Rattle.watch.specs.Watching.{asked, askedAt, moves, after}
@@ -52,10 +52,20 @@ module _ (w : Watch) (sender number : ℕ) where
     unfolding setLast
     moved-new k h = moved-room k ∙ rw (le-ltb at (w .count) h)
 
-  pub after-moves : (answer : Said) → answer ≡ asked w sender number → moves answer ≡ true → moved w sender number ≡ after w sender number
+  pub after-moves : (answer : Noted) → answer ≡ asked w sender number → moves answer ≡ true → moved w sender number ≡ after w sender number
   unfolding after
   after-moves answer e m = rw (← e, m)
 
-  pub after-stays : (answer : Said) → answer ≡ asked w sender number → moves answer ≡ false → w ≡ after w sender number
+  pub after-stays : (answer : Noted) → answer ≡ asked w sender number → moves answer ≡ false → w ≡ after w sender number
   unfolding after
   after-stays answer e m = rw (← e, m)
+
+  -- Same, Late and a refusal leave the watch as it is
+  pub same-stays : asked w sender number ≡ same → after w sender number ≡ w
+  same-stays e = sym (after-stays same (sym e) refl)
+
+  pub late-stays : (by : ℕ) → asked w sender number ≡ late by → after w sender number ≡ w
+  late-stays by e = sym (after-stays (late by) (sym e) refl)
+
+  pub refused-stays : (by : ℕ) → asked w sender number ≡ refused by → after w sender number ≡ w
+  refused-stays by e = sym (after-stays (refused by) (sym e) refl)

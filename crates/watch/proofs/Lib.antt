@@ -3,3 +3,4 @@ pub mod Tells
 pub mod Cases
 pub mod Unique
 pub mod Runs
+pub mod Works

@@ -13,7 +13,7 @@ use Rattle.wire.specs.Sum.{sum}
 use Rattle.wire.proofs.Signs.{signed-low, unsigned-signed}
 use Rattle.watch.specs.declared.Watch.{Watch}
 use Rattle.watch.specs.Limits.{maxSenders}
-use Rattle.watch.specs.Said.{Said, first, forward}
+use Rattle.watch.specs.Noted.{Noted, first, forward}
 use Rattle.watch.specs.Difference.{difference, told}
 use Rattle.watch.specs.Senders.{empty, place, senderPlace, moved}
 use Rattle.watch.specs.Watching.{asked, after}
@@ -116,7 +116,7 @@ ones-steps (suc k) = ((omega arith, omega arith), ones-steps k)
 
 map-ones : (k : ℕ) → map (λ (d : ℕ). forward (d - 1)) (replicate k 1) ≡ replicate k (forward 0)
 map-ones zero = refl
-map-ones (suc k) = ap (λ (t : List Said). forward 0 ∷ t) (map-ones k)
+map-ones (suc k) = ap (λ (t : List Noted). forward 0 ∷ t) (map-ones k)
 
 -- s+1, s+2, .. after s: Forward with 0 missing at each step, for any number of steps, the wrap included
 pub none-missing : (w : Watch) (sender s k : ℕ) → Last w sender s → answers w sender (shown s (replicate k 1)) ≡ replicate k (forward 0)
@@ -141,7 +141,7 @@ gone-more s n m l missing hs hn e g =
       arrived = (let p : (s + ((n + (2 ^ 32 - s)) % 2 ^ 32 + distance n l)) % 2 ^ 32 ≡ (n + distance n l) % 2 ^ 32 = omega arith in p) ∙ g .arrived;
     }
 
-cons-eq : {x : Said} {a b : List Said} {y : Said} → _≡_ {A = List Said} (x ∷ a) (y ∷ b) → (x ≡ y) × (a ≡ b)
+cons-eq : {x : Noted} {a b : List Noted} {y : Noted} → _≡_ {A = List Noted} (x ∷ a) (y ∷ b) → (x ≡ y) × (a ≡ b)
 cons-eq e = (cc, cc)
 
 -- Over any run of Forwards the sum of the missing is the distance gone less the arrivals, and the distance leads from the first last number

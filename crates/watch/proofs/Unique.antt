@@ -7,28 +7,28 @@ use Rattle.watch.specs.declared.Answer.{Answer}
 use Rattle.watch.specs.declared.Answer.the-variants.{First, Forward, Same, Late, Refused}
 use Rattle.watch.specs.declared.Watch.{Watch}
 use Rattle.watch.specs.declared.Seen.{Seen}
-use Rattle.watch.specs.Said.{Said, first, forward, same, late, refused, says}
+use Rattle.watch.specs.Noted.{Noted, first, forward, same, late, refused, notes}
 use Rattle.watch.specs.Watching.{Result}
 
--- the enum that says so
-spoken : Said → Answer
+-- the case of the enum that means so
+spoken : Noted → Answer
 spoken first = First
 spoken (forward missing) = Forward missing
 spoken same = Same
 spoken (late by) = Late by
 spoken (refused number) = Refused number
 
-spoken-says : (r : Answer) → spoken (says r) ≡ r
+spoken-notes : (r : Answer) → spoken (notes r) ≡ r
 unfolding spoken
-spoken-says First = refl
-spoken-says (Forward missing) = refl
-spoken-says Same = refl
-spoken-says (Late by) = refl
-spoken-says (Refused number) = refl
+spoken-notes First = refl
+spoken-notes (Forward missing) = refl
+spoken-notes Same = refl
+spoken-notes (Late by) = refl
+spoken-notes (Refused number) = refl
 
 -- `ask` and `tell`
-pub answer-once : {said : Said} (r s : Answer) → says r ≡ said → says s ≡ said → r ≡ s
-answer-once r s p q = sym (spoken-says r) ∙ ap spoken (one-answer (says r) (says s) p q) ∙ spoken-says s
+pub answer-once : {noted : Noted} (r s : Answer) → notes r ≡ noted → notes s ≡ noted → r ≡ s
+answer-once r s p q = sym (spoken-notes r) ∙ ap spoken (one-answer (notes r) (notes s) p q) ∙ spoken-notes s
 
 -- `see`
 pub see-once : {w : Watch} {sender number : ℕ} (r s : Seen) → Result w sender number r → Result w sender number s → r ≡ s

@@ -1,6 +1,7 @@
 pub mod Limits
-pub mod Said
+pub mod Noted
 pub mod Difference
 pub mod Senders
 pub mod Watching
 pub mod Runs
+pub mod Worked

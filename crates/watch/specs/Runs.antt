@@ -5,12 +5,12 @@ use Prim.Native.Nat.{ℕ, _+_, _-_, _%_, _^_, _≤_, _<_}
 use lib.ListN.{length, getD}
 use Rattle.watch.specs.declared.Watch.{Watch}
 use Rattle.watch.specs.Limits.{maxSenders}
-use Rattle.watch.specs.Said.{Said}
+use Rattle.watch.specs.Noted.{Noted}
 use Rattle.watch.specs.Senders.{senderPlace}
 use Rattle.watch.specs.Watching.{asked, after}
 
 -- the answers, in order of arrival
-abbrev pub answers : Watch → ℕ → List ℕ → List Said
+abbrev pub answers : Watch → ℕ → List ℕ → List Noted
 answers w sender [] = []
 answers w sender (n ∷ l) = asked w sender n ∷ answers (after w sender n) sender l
 

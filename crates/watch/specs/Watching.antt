@@ -8,22 +8,22 @@ use Rattle.wire.specs.Choice.{pick}
 use Rattle.watch.specs.declared.Watch.{Watch}
 use Rattle.watch.specs.declared.Seen.{Seen}
 use Rattle.watch.specs.Limits.{maxSenders, noRoom}
-use Rattle.watch.specs.Said.{Said, first, forward, same, late, refused, says}
+use Rattle.watch.specs.Noted.{Noted, first, forward, same, late, refused, notes}
 use Rattle.watch.specs.Difference.{difference, told}
 use Rattle.watch.specs.Senders.{senderPlace, moved}
 
 -- at a sender's place: First for a new sender while there is room, else what the difference to its last number says
-unfoldable pub askedAt : Watch → ℕ → ℕ → Said
+unfoldable pub askedAt : Watch → ℕ → ℕ → Noted
 askedAt w number at =
     pick (ltb at (w .count))
     (told (difference number (getD (w .lasts) at 0)))
     (pick (ltb at maxSenders) first (refused noRoom))
 
-unfoldable pub asked : Watch → ℕ → ℕ → Said
+unfoldable pub asked : Watch → ℕ → ℕ → Noted
 asked w sender number = pick (leb (w .count) maxSenders) (askedAt w number (senderPlace w sender)) (refused noRoom)
 
 -- Same, Late and a refusal do not move the watch
-abbrev pub moves : Said → Bool
+abbrev pub moves : Noted → Bool
 moves first = true
 moves (forward missing) = true
 moves same = false
@@ -35,5 +35,5 @@ after w sender number = pick (moves (asked w sender number)) (moved w sender num
 
 -- the answer and the whole watch afterwards
 pub record Result (w : Watch) (sender number : ℕ) (r : Seen) : Type 0 where
-  pub answer : says (r .answer) ≡ asked w sender number
+  pub answer : notes (r .answer) ≡ asked w sender number
   pub watch : r .watch ≡ after w sender number

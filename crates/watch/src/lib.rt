@@ -6,7 +6,7 @@ ghost use Prim.Native.Nat.{_≤_};
 ghost use lib.IntN.{pos, natAbs};
 ghost use lib.Signed.{ltZ};
 ghost use lib.ListN.{length, take};
-ghost use Rattle.watch.specs.Said.{says};
+ghost use Rattle.watch.specs.Noted.{notes};
 ghost use Rattle.watch.specs.Difference.{difference, told};
 ghost use Rattle.watch.specs.Senders.{empty, place, senderPlace, moved};
 ghost use Rattle.watch.specs.Watching.{asked, moves, Result};
@@ -75,7 +75,7 @@ fn negated(d: i32) -> u32
 
 // What a difference says.
 pub fn tell(d: i32) -> Answer
-    ensures { λ r. ⌜ says r ≡ told d ⌝ }
+    ensures { λ r. ⌜ notes r ≡ told d ⌝ }
 {
     if d < 0 {
         return Answer::Late(negated(d));
@@ -104,7 +104,7 @@ fn find(senders: &[u64], count: usize, sender: u64) -> usize
 
 // Asks what a sender's number says. The watch stays.
 pub fn ask(w: Watch, sender: u64, number: u32) -> Answer
-    ensures { λ r. ⌜ says r ≡ asked w sender number ⌝ }
+    ensures { λ r. ⌜ notes r ≡ asked w sender number ⌝ }
 {
     let count = w.count;
     if SENDERS < count {
@@ -143,7 +143,7 @@ pub fn move_to(w: Watch, sender: u64, number: u32) -> Watch
 
 // Whether an answer moves the watch: Same, Late and a refusal do not.
 pub fn does_move(answer: Answer) -> bool
-    ensures { λ r. ⌜ r ≡ moves (says answer) ⌝ }
+    ensures { λ r. ⌜ r ≡ moves (notes answer) ⌝ }
 {
     match answer {
         Answer::First => true,

@@ -34,13 +34,19 @@ same-length c = search needs
 returns : tie.Need-returns
 unfolding headBytes
 returns c =
-    let d = c .before .before .before .before .before .before .before .before .before .before .before .before .before .before .before .before .before .before .before .before .before .before .before .before .before .before .args .out .now in
-    let w1 = rw (c .before .before .before .before .before .before .before .before .before .before .before .before .before .before .before .before .before .before .before .before .before .before .before .wide .ensures) at (c .before .before .before .before .before .before .before .before .before .before .before .before .before .before .before .before .before .before .before .before .before .before .put .ensures) in
-    let w2 = overlay-next d _ _ _ _ 4 w1 (simp length-bytes) (c .before .before .before .before .before .before .before .before .before .before .before .before .before .before .before .before .before .before .put2 .ensures) in
-    let w3 = overlay-next d _ _ _ _ 8 w2 (simp (length-append, length-bytes)) (c .before .before .before .before .before .before .before .before .before .before .before .before .before .before .put3 .ensures) in
-    let w4 = overlay-next d _ _ _ _ 12 w3 (simp (length-append, length-bytes)) (c .before .before .before .before .before .before .before .before .before .before .put4 .ensures) in
-    let w5 = overlay-next d _ _ _ _ 16 w4 (simp (length-append, length-bytes)) (c .before .before .before .before .before .before .put5 .ensures) in
-    overlay-next d _ _ _ _ 18 w5 (simp (length-append, length-bytes)) (c .before .before .put6 .ensures)
+    let p6 = c .before .before in
+    let p5 = p6 .before .before .before .before in
+    let p4 = p5 .before .before .before .before in
+    let p3 = p4 .before .before .before .before in
+    let p2 = p3 .before .before .before .before in
+    let p1 = p2 .before .before .before .before in
+    let d = p1 .before .before .before .before .args .out .now in
+    let w1 = rw (p1 .before .wide .ensures) at (p1 .put .ensures) in
+    let w2 = overlay-next d _ _ _ _ 4 w1 (simp length-bytes) (p2 .put2 .ensures) in
+    let w3 = overlay-next d _ _ _ _ 8 w2 (simp (length-append, length-bytes)) (p3 .put3 .ensures) in
+    let w4 = overlay-next d _ _ _ _ 12 w3 (simp (length-append, length-bytes)) (p4 .put4 .ensures) in
+    let w5 = overlay-next d _ _ _ _ 16 w4 (simp (length-append, length-bytes)) (p5 .put5 .ensures) in
+    overlay-next d _ _ _ _ 18 w5 (simp (length-append, length-bytes)) (p6 .put6 .ensures)
 
 pub put-head-spec : {M : Type 1} → statement M
 put-head-spec =

@@ -1,7 +1,7 @@
 -- The answer as text, by its cases. Assumes nothing.
 use mathlib.Core.Path.{sym, ap}
 use Rattle.watch.specs.declared.Answer.{Answer}
-use Rattle.watch.specs.Said.{says}
+use Rattle.watch.specs.Noted.{notes}
 use Rattle.stream.proofs.Puts.{put-is}
 use Rattle.gaps_run.specs.Lines.{answerText}
 use borrow.Author.Needs.{needs}
@@ -59,7 +59,7 @@ same-length c = search needs
 returns : tie.Need-returns
 returns c =
     let t = c .before .before in
-    put-is (t .put-text .ensures) (ap (λ (a : Answer). answerText (says a)) (sym (t .before .before .before .enum-told .given .1)))
+    put-is (t .put-text .ensures) (ap (λ (a : Answer). answerText (notes a)) (sym (t .before .before .before .enum-told .given .1)))
 
 same-length-2 : tie.Need-same-length-2
 same-length-2 c = search needs
@@ -67,7 +67,7 @@ same-length-2 c = search needs
 returns-2 : tie.Need-returns-2
 returns-2 c =
     let t = c .before .before in
-    put-is (t .put-number .ensures) (ap (λ (a : Answer). answerText (says a)) (sym (t .before .before .before .before .answer .given .1)))
+    put-is (t .put-number .ensures) (ap (λ (a : Answer). answerText (notes a)) (sym (t .before .before .before .before .answer .given .1)))
 
 same-length-3 : tie.Need-same-length-3
 same-length-3 c = search needs
@@ -75,7 +75,7 @@ same-length-3 c = search needs
 returns-3 : tie.Need-returns-3
 returns-3 c =
     let t = c .before .before in
-    put-is (t .put-text2 .ensures) (ap (λ (a : Answer). answerText (says a)) (sym (t .before .before .before .enum-told2 .given .1)))
+    put-is (t .put-text2 .ensures) (ap (λ (a : Answer). answerText (notes a)) (sym (t .before .before .before .enum-told2 .given .1)))
 
 same-length-4 : tie.Need-same-length-4
 same-length-4 c = search needs
@@ -83,7 +83,7 @@ same-length-4 c = search needs
 returns-4 : tie.Need-returns-4
 returns-4 c =
     let t = c .before .before in
-    put-is (t .put-number2 .ensures) (ap (λ (a : Answer). answerText (says a)) (sym (t .before .before .before .before .answer2 .given .1)))
+    put-is (t .put-number2 .ensures) (ap (λ (a : Answer). answerText (notes a)) (sym (t .before .before .before .before .answer2 .given .1)))
 
 same-length-5 : tie.Need-same-length-5
 same-length-5 c = search needs
@@ -91,7 +91,7 @@ same-length-5 c = search needs
 returns-5 : tie.Need-returns-5
 returns-5 c =
     let t = c .before .before in
-    put-is (t .put-number3 .ensures) (ap (λ (a : Answer). answerText (says a)) (sym (t .before .before .before .before .answer3 .given .1)))
+    put-is (t .put-number3 .ensures) (ap (λ (a : Answer). answerText (notes a)) (sym (t .before .before .before .before .answer3 .given .1)))
 
 pub put-answer-spec : {M : Type 1} → statement M
 put-answer-spec =

@@ -1,6 +1,8 @@
 -- `host::qm_cut` meets its contract. Assumes nothing.
 use mathlib.Core.Path.{sym, ap, _∙_}
 use native.Mathlib.Omega.{arith}
+use Rattle.cutter.specs.Cut.{says}
+use Rattle.cutter.specs.declared.Cut.{Cut}
 use Rattle.cutter.proofs.Sizes.{made, made-short}
 use Rattle.host.specs.Code.{codeOf}
 use Rattle.host.proofs.Accept.{cut-told}
@@ -16,12 +18,12 @@ enum-known-count c = search needs
 
 mul-result : tie.Need-mul-result
 mul-result c =
-    let d = made _ _ _ _ _ _ _ (sym (c .before .before .before .before .before .cut-datagram .ensures .answer) ∙ c .before .count .given .1) in
+    let d = made _ _ _ _ _ _ _ (sym (c .before .before .before .before .before .cut-datagram .ensures .answer) ∙ ap says (c .before .count .given .1)) in
     omega (arith, d .plan .few)
 
 add-result : tie.Need-add-result
 add-result c =
-    let d = made _ _ _ _ _ _ _ (sym (c .before .before .before .before .before .cut-datagram .ensures .answer) ∙ c .before .count .given .1) in
+    let d = made _ _ _ _ _ _ _ (sym (c .before .before .before .before .before .cut-datagram .ensures .answer) ∙ ap says (c .before .count .given .1)) in
     omega (arith, d .plan .few, made-short _ _ _ _ _ _ _ d)
 
 enum-known-n : tie.Need-enum-known-n
@@ -34,13 +36,13 @@ same-length : tie.Need-same-length
 same-length c = search needs
 
 returns : tie.Need-returns
-returns c = cut-told _ _ _ _ _ _ _ _ _ (c .before .before .before .before .before .cut-datagram .ensures) (sym (ap codeOf (c .before .count .given .1)))
+returns c = cut-told _ _ _ _ _ _ _ _ _ (c .before .before .before .before .before .cut-datagram .ensures) (sym (ap (λ (r : Cut). codeOf (says r)) (c .before .count .given .1)))
 
 same-length-2 : tie.Need-same-length-2
 same-length-2 c = search needs
 
 returns-2 : tie.Need-returns-2
-returns-2 c = cut-told _ _ _ _ _ _ _ _ _ (c .before .before .before .before .before .before .cut-datagram .ensures) (c .wide .ensures ∙ sym (ap codeOf (c .before .before .n .given .1)))
+returns-2 c = cut-told _ _ _ _ _ _ _ _ _ (c .before .before .before .before .before .before .cut-datagram .ensures) (c .wide .ensures ∙ sym (ap (λ (r : Cut). codeOf (says r)) (c .before .before .n .given .1)))
 
 pub qm-cut-spec : {M : Type 1} → statement M
 qm-cut-spec =

@@ -1,7 +1,7 @@
 -- The answer and the watch afterwards. Assumes nothing.
 use mathlib.Core.Path.{sym, _∙_}
 use borrow.Author.Needs.{needs}
-use Rattle.watch.specs.Said.{says}
+use Rattle.watch.specs.Noted.{notes}
 use Rattle.watch.proofs.Cases.{after-moves, after-stays}
 use Rattle.watch.proofs.see.Statement.{statement}
 use Rattle.watch.proofs.see.Tie as tie
@@ -23,7 +23,7 @@ returns c =
       answer = k .ask .ensures;
       watch =
           c .move-to .ensures
-          ∙ after-moves (a .w) (a .sender) (a .number) (says (k .ask .result)) (k .ask .ensures) (sym (c .before .before .does-move .ensures) ∙ c .before .if1 .taken);
+          ∙ after-moves (a .w) (a .sender) (a .number) (notes (k .ask .result)) (k .ask .ensures) (sym (c .before .before .does-move .ensures) ∙ c .before .if1 .taken);
     }
 
 returns-2 : tie.Need-returns-2
@@ -32,7 +32,7 @@ returns-2 c =
     let a = k .before .args in
     record {
       answer = k .ask .ensures;
-      watch = after-stays (a .w) (a .sender) (a .number) (says (k .ask .result)) (k .ask .ensures) (sym (c .before .does-move .ensures) ∙ c .if1 .left);
+      watch = after-stays (a .w) (a .sender) (a .number) (notes (k .ask .result)) (k .ask .ensures) (sym (c .before .does-move .ensures) ∙ c .if1 .left);
     }
 
 pub see-spec : {M : Type 1} → statement M

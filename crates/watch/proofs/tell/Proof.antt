@@ -9,7 +9,7 @@ use mir.Syntax.{w32}
 use mir.Val.{toZ, ofZ}
 use mir.ValLaws.{toZ-ofZ}
 use Rattle.wire.proofs.Signs.{counts}
-use Rattle.watch.specs.Said.{late, forward}
+use Rattle.watch.specs.Noted.{late, forward}
 use Rattle.watch.proofs.Tells.{told-late, told-same, told-forward}
 use Rattle.watch.proofs.tell.Statement.{statement}
 use Rattle.watch.proofs.tell.Tie as tie
