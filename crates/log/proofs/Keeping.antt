@@ -13,9 +13,9 @@ use Rattle.wire.specs.Overlay.{overlay}
 use Rattle.wire.proofs.Overlays.{length-overlay, overlay-next, overlay-at}
 use Rattle.datagram.specs.Limits.{maxDatagram}
 use Rattle.log.specs.Entries.{Entry, headBytes, entryBytes, bodyOf, logOf}
-use Rattle.log.specs.Writes.{fitted, beginAnswer, appendAnswer, output, Began, Appended, Kept, begun, added}
+use Rattle.log.specs.Writes.{Answer, wrote, refused, fitted, beginAnswer, appendAnswer, output, Began, Appended, Kept, begun, added}
 use Rattle.log.specs.declared.writer.Written.{Written}
-use Rattle.log.specs.declared.writer.Written.the-variants.{Next, Refused}
+use Rattle.log.specs.declared.writer.Written.the-variants.{Next}
 
 -- ---- one entry more
 
@@ -30,14 +30,14 @@ log-more es e = ap (λ (l : List ℕ). headBytes ++ l) (body-more es e) ∙ sym 
 
 -- ---- what a place tells
 
-record Went (n at : ℕ) (b : List ℕ) (next : ℕ) : Type 0 where
+pub record Went (n at : ℕ) (b : List ℕ) (next : ℕ) : Type 0 where
   pub on : next ≡ at + length b
   pub fits : at + length b ≤ n
 
-went : (n at next : ℕ) (b : List ℕ) → Next next ≡ fitted n at b → Went n at b next
+pub went : (n at next : ℕ) (b : List ℕ) → wrote next ≡ fitted n at b → Went n at b next
 went n at next b e = by-test (ltb n (at + length b)) refl e
   where
-    by-test : (t : Bool) → ltb n (at + length b) ≡ t → Next next ≡ pick t (Refused 13) (Next (at + length b)) → Went n at b next
+    by-test : (t : Bool) → ltb n (at + length b) ≡ t → wrote next ≡ pick t (refused 13) (wrote (at + length b)) → Went n at b next
     by-test true p q = absurd (let z : _≡_ {A = ℕ} 0 1 = cc in omega arith)
     by-test false p q = record { on = cc; fits = ltb-false n (at + length b) p }
 
@@ -58,7 +58,7 @@ holds-added : (out : List ℕ) (es : List Entry) (e : Entry) (at at′ : ℕ) (m
 unfolding appendAnswer
 holds-added out es e at at′ mid out′ h s = by-long (ltb maxDatagram (length (e .datagram))) (s .answer)
   where
-    by-long : (t : Bool) → Next at′ ≡ pick t (Refused 42) (fitted (length mid) at (entryBytes e)) → Holds out (es ++ e ∷ []) at′ out′
+    by-long : (t : Bool) → wrote at′ ≡ pick t (refused 42) (fitted (length mid) at (entryBytes e)) → Holds out (es ++ e ∷ []) at′ out′
     by-long true q = absurd (let z : _≡_ {A = ℕ} 0 1 = cc in omega arith)
     by-long false q =
         let w = went (length mid) at at′ (entryBytes e) q in
@@ -83,7 +83,7 @@ kept-start {out} {es} {at} {out′} k =
 
 -- the next entry is refused by 42 or 13 only where it must be
 pub kept-next : {out : List ℕ} {es : List Entry} {at : ℕ} {mid : List ℕ} → Kept out es at mid → (e : Entry) → length (e .datagram) ≤ maxDatagram
-    → length (logOf (es ++ e ∷ [])) ≤ length out → appendAnswer (length mid) at e ≡ Next (length (logOf (es ++ e ∷ [])))
+    → length (logOf (es ++ e ∷ [])) ≤ length out → appendAnswer (length mid) at e ≡ wrote (length (logOf (es ++ e ∷ [])))
 unfolding appendAnswer
 kept-next {out} {es} {at} {mid} k e short fits =
     let h = kept-log k in
