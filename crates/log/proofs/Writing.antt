@@ -77,3 +77,7 @@ module _ (out : List ℕ) (at : ℕ) (e : Entry) where
   append-good n out′ h s l o =
       let m : at + length (entryBytes e) ≤ length out = omega (arith, entry-some e) in
       record { answer = rw (le-ltb maxDatagram (length (e .datagram)) h, le-ltb (length out) (at + length (entryBytes e)) m, s) refl; left = o }
+
+-- an entry takes at most thirty bytes more than its datagram
+pub entry-most : (e : Entry) → length (entryBytes e) ≤ 30 + length (e .datagram)
+entry-most e = omega (arith, entry-size (e .sender) (e .tick) (e .datagram), seven-most (e .sender), seven-most (e .tick), seven-most (length (e .datagram)))
