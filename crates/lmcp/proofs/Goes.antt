@@ -238,6 +238,16 @@ unfolding whole
 whole-more ys [] h = absurd (let z : ⊥ = omega arith in z)
 whole-more ys (x ∷ r) h = refl
 
+-- what a walk lays is what its run makes
+pub laid-again : {A B : Type 0} (Few : ℕ → ℕ → Type 0) (s : List A) {X : Run A B} (out : List B) (t0 : ℕ) (ys : List B) (rest : List A) (r : Went) (out' : List B)
+    → X ≡ got ys rest → EndsBy Few s out t0 X r out' → out' ≡ sets out t0 ys
+unfolding prepend
+laid-again Few s out t0 ys rest (Stopped m) out' e g = absurd (let z : _≡_ {A = ℕ} 0 1 = cc (e, g) in omega arith)
+laid-again Few s out t0 ys rest (To a t) out' e g =
+    let q : got ys rest ≡ got (g .ys ++ []) (drop a s) = sym e ∙ g .whole in
+    let f : ys ≡ g .ys ++ [] = cc in
+    g .laid ∙ ap (sets out t0) (sym (f ∙ append-nil (g .ys)))
+
 module _ {A B : Type 0} {Few : ℕ → ℕ → Type 0} {s : List A} {X : Run A B} {t0 at to : ℕ} {o0 o1 : List B} (h : Sofar Few s o0 t0 X (got []) at to o1) where
   pub run-is : X ≡ got (h .ys) (drop at s)
   unfolding prepend
@@ -252,12 +262,7 @@ module _ {A B : Type 0} {Few : ℕ → ℕ → Type 0} {s : List A} {X : Run A B
   run-done d = let l : length s ≤ at = omega arith in ap whole run-is ∙ whole-none (h .ys) (drop at s) (drop-of-length-le s l)
 
   pub run-again : (out : List B) (r : Went) (out' : List B) → EndsBy Few s out t0 X r out' → out' ≡ sets out t0 (h .ys)
-  unfolding prepend
-  run-again out (Stopped m) out' g = absurd (let z : _≡_ {A = ℕ} 0 1 = cc (run-is, g) in omega arith)
-  run-again out (To a t) out' g =
-      let e : got (h .ys) (drop at s) ≡ got (g .ys ++ []) (drop a s) = sym run-is ∙ g .whole in
-      let f : h .ys ≡ g .ys ++ [] = cc in
-      g .laid ∙ ap (sets out t0) (sym (f ∙ append-nil (g .ys)))
+  run-again out r out' g = laid-again Few s out t0 (h .ys) (drop at s) r out' run-is g
 
 pub empty : {A : Type 0} (l : List A) → length l ≡ 0 → l ≡ []
 empty [] e = refl

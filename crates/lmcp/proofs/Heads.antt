@@ -15,19 +15,14 @@ use Rattle.wire.specs.Choice.{pick}
 use Rattle.wire.specs.Bytes.{be, bytes, Bytes}
 use Rattle.wire.proofs.Choices.{never, and-l, and-r}
 use Rattle.wire.proofs.Numbers.{length-bytes, be-bytes, bytes-be}
+use Rattle.lmcp.specs.Limits.{series}
 use Rattle.lmcp.specs.Run.{Tag, tag, bad}
-use Rattle.lmcp.specs.Table.{Table, rowsOf}
+use Rattle.lmcp.specs.Table.{Table, Sound}
 use Rattle.lmcp.specs.Value.{below}
-use Rattle.lmcp.specs.Read.{series, typed, known, readHeader, readHead}
+use Rattle.lmcp.specs.Read.{typed, known, readHeader, readHead}
 use Rattle.lmcp.specs.Write.{header, typedBy, writeHead}
-use Rattle.lmcp.proofs.Undo.{tag-unless, tag-where, tag-number, tag-made, tag-rest, not-bad, UndoneTag, UndoesTag, RowsFit}
+use Rattle.lmcp.proofs.Undo.{tag-unless, tag-where, tag-number, tag-made, tag-rest, not-bad, UndoneTag, UndoesTag}
 use Rattle.lmcp.proofs.Values.{front-drop, bytes-rest, bytes-drop, below-mag}
-
--- a table that fits into headers, and whose rows fit
-pub record Sound (T : Table) : Type 0 where
-  pub version-fits : T .version < 256 ^ 2
-  pub types-fit : length (T .types) ≤ 256 ^ 4
-  pub rows-fit : RowsFit (rowsOf T)
 
 -- ---- types
 

@@ -19,12 +19,12 @@ use Rattle.lmcp.specs.declared.Found.the-variants.{Numbers, Unread}
 use Rattle.lmcp.specs.declared.Made.{Made}
 use Rattle.lmcp.specs.declared.Made.the-variants.{Bytes as Wrote, Unwritten}
 use Rattle.lmcp.specs.Run.{got, refused}
-use Rattle.lmcp.specs.Table.{Table}
+use Rattle.lmcp.specs.Table.{Table, Sound, pitsurv}
 use Rattle.lmcp.specs.Read.{Read}
 use Rattle.lmcp.specs.Write.{Write}
-use Rattle.lmcp.specs.Message.{readMessage, found, listed, ReadTo, writeMessage, made, written, WrittenTo}
-use Rattle.lmcp.proofs.Heads.{Sound}
-use Rattle.lmcp.proofs.Trips.{choice, write-read, read-write}
+use Rattle.lmcp.specs.Message.{choice, readMessage, found, listed, ReadTo, writeMessage, made, written, WrittenTo}
+use Rattle.lmcp.proofs.Trips.{write-read, read-write}
+use Rattle.lmcp.proofs.Pitsurv.{sound}
 
 -- ---- what an answer with a length says
 
@@ -72,7 +72,7 @@ read (refused k) list n after w = absurd (let e = w .gave in let z : _≡_ {A = 
 
 -- ---- there and back, for any sound table
 
-module _ (T : Table) (sound : Sound T) where
+module _ (T : Table) (fits : Sound T) where
   -- The writer answered a length for the list l. Then the reader, given those bytes and a list with room, answers the length of l, and its
   -- list begins with l.
   pub written-reads : (calculate : Bool) (l : List ℤ) (out : List ℕ) (n : ℕ) (after : List ℕ) → WrittenTo (writeMessage T calculate l) out (Wrote n) after
@@ -81,7 +81,7 @@ module _ (T : Table) (sound : Sound T) where
   unfolding found listed
   written-reads calculate l out n after w list a left r h =
       let x = wrote (writeMessage T calculate l) out n after w in
-      let e : readMessage T (take n after) ≡ got l [] = ap (readMessage T) (x .front) ∙ write-read T sound calculate l (x .is) in
+      let e : readMessage T (take n after) ≡ got l [] = ap (readMessage T) (x .front) ∙ write-read T fits calculate l (x .is) in
       let g : a ≡ found (got l []) (length list) = r .gave ∙ ap (λ (X : Read). found X (length list)) e in
       let f : left ≡ listed (got l []) list = r .left ∙ ap (λ (X : Read). listed X list) e in
       let k : leb (length l) (length list) ≡ true = le-leb (length l) (length list) h in
@@ -95,9 +95,23 @@ module _ (T : Table) (sound : Sound T) where
   unfolding made written
   read-writes m b list n after r out a left w h =
       let x = read (readMessage T m) list n after r in
-      let e : writeMessage T (choice m) (take n after) ≡ got m [] = ap (writeMessage T (choice m)) (x .front) ∙ read-write T sound m b (x .is) in
+      let e : writeMessage T (choice m) (take n after) ≡ got m [] = ap (writeMessage T (choice m)) (x .front) ∙ read-write T fits m b (x .is) in
       let g : a ≡ made (got m []) (length out) = w .gave ∙ ap (λ (X : Write). made X (length out)) e in
       let f : left ≡ written (got m []) out = w .left ∙ ap (λ (X : Write). written X out) e in
       let k : leb (length m) (length out) ≡ true = le-leb (length m) (length out) h in
       let j : 0 + length m ≤ length out = omega arith in
       (g ∙ rw k refl, ap (take (length m)) (f ∙ rw k refl) ∙ overlay-at out 0 m j)
+
+-- ---- and for our own table
+
+-- what the writer wrote of a list l, by series PITSURV, the reader reads back as l
+pub pitsurv-written-reads : (calculate : Bool) (l : List ℤ) (out : List ℕ) (n : ℕ) (after : List ℕ) → WrittenTo (writeMessage (pitsurv 1) calculate l) out (Wrote n) after
+    → (list : List ℤ) (a : Found) (left : List ℤ) → ReadTo (readMessage (pitsurv 1) (take n after)) list a left → length l ≤ length list
+    → (a ≡ Numbers (length l)) × (take (length l) left ≡ l)
+pitsurv-written-reads = written-reads (pitsurv 1) sound
+
+-- what the reader read of a message m, by series PITSURV, the writer writes back as m
+pub pitsurv-read-writes : (m : List ℕ) → Bytes m → (list : List ℤ) (n : ℕ) (after : List ℤ) → ReadTo (readMessage (pitsurv 1) m) list (Numbers n) after
+    → (out : List ℕ) (a : Made) (left : List ℕ) → WrittenTo (writeMessage (pitsurv 1) (choice m) (take n after)) out a left → length m ≤ length out
+    → (a ≡ Wrote (length m)) × (take (length m) left ≡ m)
+pitsurv-read-writes = read-writes (pitsurv 1) sound

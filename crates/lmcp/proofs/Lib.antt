@@ -10,3 +10,4 @@ pub mod Trips
 pub mod Types
 pub mod Undo
 pub mod Values
+pub mod Works

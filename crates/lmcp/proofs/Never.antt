@@ -16,14 +16,13 @@ use Rattle.wire.specs.Sum.{sum}
 use Rattle.wire.proofs.Choices.{pick-all}
 use Rattle.wire.proofs.Numbers.{length-bytes}
 use Rattle.wire.proofs.Sums.{sum-append}
-use Rattle.lmcp.specs.Limits.{maxMessage}
+use Rattle.lmcp.specs.Limits.{maxMessage, magic, series}
 use Rattle.lmcp.specs.Run.{Run, got, refused, tag, bad, whole}
 use Rattle.lmcp.specs.Table.{charKind, Table}
 use Rattle.lmcp.specs.Walk.{root}
 use Rattle.lmcp.specs.Value.{below, fits, denial}
-use Rattle.lmcp.specs.Read.{series}
 use Rattle.lmcp.specs.Write.{Write, writeValue, writeCount, header, typedBy, writeHead, writing}
-use Rattle.lmcp.specs.Message.{magic, checksumOf, headOn, summed, framed, writeMessage}
+use Rattle.lmcp.specs.Message.{checksumOf, headOn, messageOn, summed, framed, writeMessage}
 use Rattle.lmcp.proofs.Makes.{Fine, FineTag, Pieces, fine-root}
 
 -- ---- all that is written is bytes, and the walk's refusals are below 30
@@ -83,20 +82,20 @@ unfolding sum
 sum-le [] f = omega arith
 sum-le (x ∷ b) f = let h : x < 256 = f 0 in omega (arith, sum-le b (λ i. f (suc i)))
 
-sum-magic : sum (bytes 4 magic) ≡ 300
-unfolding sum bytes be
+sum-magic : sum magic ≡ 300
+unfolding sum
 sum-magic = refl
 
 pub never-zero : (bs : List ℕ) → Bytes bs → 12 + length bs ≤ maxMessage → checksumOf (headOn bs) ≡ 0 → ⊥
 never-zero bs f h e =
-    let s1 = sum-append (bytes 4 magic) (bytes 4 (length bs) ++ bs) in
+    let s1 = sum-append magic (bytes 4 (length bs) ++ bs) in
     let s2 = sum-append (bytes 4 (length bs)) bs in
     let total : sum (headOn bs) ≡ 300 + (sum (bytes 4 (length bs)) + sum bs) = s1 ∙ ap (λ (n : ℕ). n + sum (bytes 4 (length bs) ++ bs)) sum-magic ∙ ap (λ (n : ℕ). 300 + n) s2 in
     omega (arith, total, length-bytes 4 (length bs), sum-le (bytes 4 (length bs)) (bytes-bytes 4 (length bs)), sum-le bs f)
 
 -- without the row of 30 the definition is the same
 pub never-summed : (calculate : Bool) (bs : List ℕ) (r : List ℤ) → Bytes bs → 12 + length bs ≤ maxMessage
-    → summed calculate bs r ≡ got (headOn bs ++ bytes 4 (pick calculate (checksumOf (headOn bs)) 0)) r
+    → summed calculate bs r ≡ got (messageOn calculate bs) r
 unfolding summed
 never-summed true bs r f h = rw (ne-eqb (checksumOf (headOn bs)) 0 (never-zero bs f h)) refl
 never-summed false bs r f h = refl
@@ -116,7 +115,7 @@ by : (calculate : Bool) (X : Write) → Lawful X → Not30 (framed calculate (wh
 unfolding framed whole
 by calculate (got bs []) f =
     pick-all Not30 (ltb maxMessage (12 + length bs)) (λ e. other 21 (lit< tt))
-    (λ e. subst Not30 (sym (never-summed calculate bs [] f (ltb-false maxMessage (12 + length bs) e))) (some (headOn bs ++ bytes 4 (pick calculate (checksumOf (headOn bs)) 0)) []))
+    (λ e. subst Not30 (sym (never-summed calculate bs [] f (ltb-false maxMessage (12 + length bs) e))) (some (messageOn calculate bs) []))
 by calculate (got bs (z ∷ r)) f = other 28 (lit< tt)
 by calculate (refused n) h = other n h
 

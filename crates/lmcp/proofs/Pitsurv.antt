@@ -8,9 +8,7 @@ use lib.ListN.{length, getD}
 use borrow.Author.Tests.{leb-true, ne-eqb}
 use Rattle.wire.proofs.Choices.{and-l, and-r}
 use Rattle.lmcp.specs.declared.Row.{Row}
-use Rattle.lmcp.specs.Table.{objectKind, signedKind, RowFits, rowsOf, nothing, pitsurv}
-use Rattle.lmcp.proofs.Undo.{RowsFit}
-use Rattle.lmcp.proofs.Heads.{Sound}
+use Rattle.lmcp.specs.Table.{objectKind, signedKind, RowFits, RowsFit, Sound, rowsOf, nothing, pitsurv}
 use Rattle.lmcp.proofs.Tables.{row-fits}
 
 -- ---- the test, and what it says

@@ -11,8 +11,7 @@ use native.Mathlib.Omega.{arith}
 use lib.ListN.{length, getD, take, drop, length-append}
 use lib.Seq.{slice, drop-append-add, take-append-le, take-length, take-nil}
 use Rattle.lmcp.specs.declared.Row.{Row}
-use Rattle.lmcp.specs.Table.{Table, RowFits, fieldsOf, joined, beginnings, rowsOf, startsOf, nothing}
-use Rattle.lmcp.proofs.Undo.{RowsFit}
+use Rattle.lmcp.specs.Table.{Table, RowFits, RowsFit, fieldsOf, joined, beginnings, rowsOf, startsOf, nothing}
 
 -- ---- where the rows of type t begin and end, counted from o
 

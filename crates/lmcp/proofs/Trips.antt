@@ -12,19 +12,21 @@ use borrow.Author.Tests.{lt-ltb, le-ltb, eq-eqb, ne-eqb, le-leb, ltb-true, ltb-f
 use Rattle.wire.specs.Choice.{pick}
 use Rattle.wire.specs.Bytes.{be, bytes, Bytes}
 use Rattle.wire.specs.Sum.{sum}
+use Rattle.wire.specs.Same.{same}
 use Rattle.wire.proofs.Choices.{never, or-l, or-r}
+use Rattle.wire.proofs.Parts.{same-true}
 use Rattle.wire.proofs.Numbers.{length-bytes, be-bytes, be-lt, bytes-be}
 use Rattle.lmcp.specs.declared.Found.the-variants.{Numbers}
-use Rattle.lmcp.specs.Limits.{maxMessage}
+use Rattle.lmcp.specs.Limits.{maxMessage, magic}
 use Rattle.lmcp.specs.Run.{Run, got, refused, whole}
-use Rattle.lmcp.specs.Table.{Table}
+use Rattle.lmcp.specs.Table.{Table, Sound}
 use Rattle.lmcp.specs.Walk.{root}
 use Rattle.lmcp.specs.Read.{Read, reading}
 use Rattle.lmcp.specs.Write.{Write, writing}
-use Rattle.lmcp.specs.Message.{magic, checksumOf, before, stored, rootOf, frame, readMessage, found, headOn, summed, framed, writeMessage}
+use Rattle.lmcp.specs.Message.{checksumOf, before, stored, rootOf, frame, readMessage, choice, found, headOn, summed, framed, writeMessage}
 use Rattle.lmcp.proofs.Undo.{got-unless, got-where, got-made, got-rest, not-refused, Leaves, undo-root}
 use Rattle.lmcp.proofs.Values.{front-drop, bytes-rest, bytes-drop, value-reads, value-writes, count-reads, count-writes}
-use Rattle.lmcp.proofs.Heads.{Sound, head-reads, head-writes}
+use Rattle.lmcp.proofs.Heads.{head-reads, head-writes}
 use Rattle.lmcp.proofs.Tables.{fields-fit}
 
 -- ---- roots
@@ -89,16 +91,15 @@ module _ (bs : List ℕ) (small : 12 + length bs ≤ maxMessage) (s : ℕ) (fits
       let d : drop (length message - 4) message ≡ bytes 4 s = drop-at (headOn bs) (bytes 4 s) (length message - 4) (omega (arith, head-length, message-length)) in
       ap (be 4) (d ∙ sym (append-nil (bytes 4 s))) ∙ be-bytes 4 s fits []
 
-  parts : message ≡ bytes 4 magic ++ (bytes 4 (length bs) ++ (bs ++ bytes 4 s))
+  parts : message ≡ magic ++ (bytes 4 (length bs) ++ (bs ++ bytes 4 s))
   unfolding message
-  parts = append-assoc (bytes 4 magic) (bytes 4 (length bs) ++ bs) (bytes 4 s) ∙ ap (λ (x : List ℕ). bytes 4 magic ++ x) (append-assoc (bytes 4 (length bs)) bs (bytes 4 s))
+  parts = append-assoc magic (bytes 4 (length bs) ++ bs) (bytes 4 s) ∙ ap (λ (x : List ℕ). magic ++ x) (append-assoc (bytes 4 (length bs)) bs (bytes 4 s))
 
-  magic-is : be 4 message ≡ magic
-  unfolding be
-  magic-is = ap (be 4) parts ∙ be-bytes 4 magic (lit< tt) (bytes 4 (length bs) ++ (bs ++ bytes 4 s))
+  magic-is : take 4 message ≡ magic
+  magic-is = ap (take 4) parts
 
   drop4 : drop 4 message ≡ bytes 4 (length bs) ++ (bs ++ bytes 4 s)
-  drop4 = ap (drop 4) parts ∙ front-drop 4 magic (bytes 4 (length bs) ++ (bs ++ bytes 4 s))
+  drop4 = ap (drop 4) parts
 
   length-is : be 4 (drop 4 message) ≡ length bs
   length-is = ap (be 4) drop4 ∙ be-bytes 4 (length bs) (omega arith) (bs ++ bytes 4 s)
@@ -112,7 +113,7 @@ module _ (bs : List ℕ) (small : 12 + length bs ≤ maxMessage) (s : ℕ) (fits
   unfolding frame
   frame-is e =
       let l12 : ltb (length message) 12 ≡ false = le-ltb (length message) 12 (omega (arith, message-length)) in
-      let m4 : eqb (be 4 message) magic ≡ true = eq-eqb (be 4 message) magic magic-is in
+      let m4 : same (take 4 message) magic ≡ true = ap (λ (l : List ℕ). same l magic) magic-is in
       let lim : ltb maxMessage (length message) ≡ false = le-ltb maxMessage (length message) (omega (arith, message-length)) in
       let len : eqb (length message) (12 + be 4 (drop 4 message)) ≡ true = eq-eqb (length message) (12 + be 4 (drop 4 message)) (message-length ∙ ap (λ (n : ℕ). 12 + n) (sym length-is)) in
       let sum : (eqb (stored message) 0 || eqb (stored message) (checksumOf (before message))) ≡ true = rw (stored-is, before-is) e in
@@ -167,7 +168,7 @@ write-count T sound calculate l {m} {r} room e h = rw (write-read T sound calcul
 
 record Accepted (m : List ℕ) : Type 0 where
   long : 12 ≤ length m
-  magic-at : be 4 m ≡ magic
+  magic-at : take 4 m ≡ magic
   small : length m ≤ maxMessage
   length-at : length m ≡ 12 + be 4 (drop 4 m)
   sum-at : (eqb (stored m) 0 || eqb (stored m) (checksumOf (before m))) ≡ true
@@ -182,13 +183,13 @@ accepted : (m : List ℕ) → frame m ≡ 0 → Accepted m
 unfolding frame
 accepted m e =
     let a1 = ltb (length m) 12 in
-    let a2 = not (eqb (be 4 m) magic) in
+    let a2 = not (same (take 4 m) magic) in
     let b1 = ltb maxMessage (length m) in
     let b2 = not (eqb (length m) (12 + be 4 (drop 4 m))) in
     let f = frame-flags (a1 || a2) (b1 || b2) (eqb (stored m) 0 || eqb (stored m) (checksumOf (before m))) e in
     record {
       long = ltb-false (length m) 12 (or-l a1 a2 (f .0));
-      magic-at = eqb-true (be 4 m) magic (not-false (eqb (be 4 m) magic) (or-r a1 a2 (f .0)));
+      magic-at = same-true (take 4 m) magic (not-false (same (take 4 m) magic) (or-r a1 a2 (f .0)));
       small = ltb-false maxMessage (length m) (or-l b1 b2 (f .1 .0));
       length-at = eqb-true (length m) (12 + be 4 (drop 4 m)) (not-false (eqb (length m) (12 + be 4 (drop 4 m))) (or-r b1 b2 (f .1 .0)));
       sum-at = f .1 .1;
@@ -199,10 +200,6 @@ bytes-take zero b f i = omega arith
 bytes-take (suc k) [] f i = omega arith
 bytes-take (suc k) (x ∷ b) f zero = f 0
 bytes-take (suc k) (x ∷ b) f (suc i) = bytes-take k b (λ j. f (suc j)) i
-
--- the checksum that a message has: calculated, or left zero
-abbrev pub choice : List ℕ → Bool
-choice m = not (eqb (stored m) 0)
 
 module _ (m : List ℕ) (f : Bytes m) (p : Accepted m) where
   root-length : length (rootOf m) ≡ length m - 12
@@ -218,17 +215,15 @@ module _ (m : List ℕ) (f : Bytes m) (p : Accepted m) where
   whole-is : headOn (rootOf m) ++ bytes 4 (stored m) ≡ m
   whole-is =
       let b = rootOf m in
-      let k4 : 4 ≤ length m = omega (arith, p .long) in
       let k8 : 4 ≤ length (drop 4 m) = rw length-drop (omega (arith, p .long)) in
-      let t1 : bytes 4 magic ≡ take 4 m = ap (bytes 4) (sym (p .magic-at)) ∙ bytes-be 4 m f k4 in
       let t2 : bytes 4 (length b) ≡ take 4 (drop 4 m) = ap (bytes 4) (root-length ∙ omega (arith, p .length-at)) ∙ bytes-be 4 (drop 4 m) (bytes-drop 4 m f) k8 in
       let s8 : 8 + (length m - 12) ≡ length m - 4 = omega (arith, p .long) in
       let t3 : b ++ drop (length m - 4) m ≡ drop 8 m = ap (λ (i : ℕ). b ++ drop i m) (sym s8) ∙ ap (λ (x : List ℕ). b ++ x) (sym (drop-drop (length m - 12) 8 m)) ∙ take-append-drop (length m - 12) (drop 8 m) in
-      append-assoc (bytes 4 magic) (bytes 4 (length b) ++ b) (bytes 4 (stored m))
-      ∙ ap (λ (x : List ℕ). bytes 4 magic ++ x)
+      append-assoc magic (bytes 4 (length b) ++ b) (bytes 4 (stored m))
+      ∙ ap (λ (x : List ℕ). magic ++ x)
       (append-assoc (bytes 4 (length b)) b (bytes 4 (stored m)) ∙ ap (λ (x : List ℕ). bytes 4 (length b) ++ (b ++ x)) tail-is ∙ ap (λ (x : List ℕ). bytes 4 (length b) ++ x) t3
       ∙ ap (λ (x : List ℕ). x ++ drop 8 m) t2 ∙ ap (λ (x : List ℕ). take 4 (drop 4 m) ++ x) (sym (drop-drop 4 4 m)) ∙ take-append-drop 4 (drop 4 m))
-      ∙ ap (λ (x : List ℕ). x ++ drop 4 m) t1 ∙ take-append-drop 4 m
+      ∙ ap (λ (x : List ℕ). x ++ drop 4 m) (sym (p .magic-at)) ∙ take-append-drop 4 m
 
   before-root : before m ≡ headOn (rootOf m)
   unfolding message

@@ -11,8 +11,9 @@ use Rattle.wire.specs.Choice.{pick}
 use Rattle.lmcp.specs.declared.Row.{Row}
 use Rattle.lmcp.specs.Limits.{deepest}
 use Rattle.lmcp.specs.Run.{Run, got, refused, Tag, tag, bad, prepend, andThen, after, repeat, whole}
-use Rattle.lmcp.specs.Table.{objectKind, Table, RowFits, fieldsOf}
+use Rattle.lmcp.specs.Table.{objectKind, Table, RowFits, RowsFit, fieldsOf}
 use Rattle.lmcp.specs.Walk.{Way, item, field, fields, isNull, object, root}
+use Rattle.lmcp.proofs.Goes.{inside, object-is}
 
 -- ---- what is got is not refused
 
@@ -123,10 +124,6 @@ pub record Leaves {A B : Type 0} (G : List A → Type 0) (W : Way A B) (U : Way 
   pub counts : (w : ℕ) → w ≤ 7 → UndoesTag G (W .count w) (U .count w)
   pub heads : (d t : ℕ) → UndoesTag G (W .head d t) (U .head d t)
 
-abbrev pub RowsFit : List Row → Type 0
-RowsFit [] = Unit
-RowsFit (f ∷ fs) = RowFits f × RowsFit fs
-
 module _ {A B : Type 0} (G : List A → Type 0) (W : Way A B) (U : Way B A) (leaves : Leaves G W U) where
   undo-nil : Undoes {A = A} {B = B} G (got []) (got [])
   undo-nil l ys r g e = record { front = []; split = got-rest e; again = λ t. ap (λ (x : List B). got [] (x ++ t)) (sym (got-made e)) }
@@ -202,9 +199,8 @@ module _ {A B : Type 0} (G : List A → Type 0) (W : Way A B) (U : Way B A) (lea
 
     -- both heads are null, or neither
     same-null : (l : List A) (ys : List B) (r : List A) → G l → object W T deepest 0 l ≡ got ys r → isNull (U .head deepest 0 (ys ++ [])) ≡ isNull (W .head deepest 0 l)
-    unfolding object
     same-null l ys r g e =
-        let p = followed (W .head deepest 0 l) (λ n. fields W (object W T 15) (fieldsOf T n)) e in
+        let p = followed (W .head deepest 0 l) (inside W T deepest) (sym (object-is W T deepest 0 l) ∙ e) in
         let x = leaves .heads deepest 0 l (p .number) (p .one) (p .mid) g (p .first) in
         let q = x .again (p .two ++ []) in
         ap (λ (b : List B). isNull (U .head deepest 0 b)) (ap (λ (n : List B). n ++ []) (p .joined) ∙ append-assoc (p .one) (p .two) [])

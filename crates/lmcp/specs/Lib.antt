@@ -7,3 +7,4 @@ pub mod Read
 pub mod Write
 pub mod Message
 pub mod Ends
+pub mod Worked

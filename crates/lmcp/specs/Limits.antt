@@ -1,5 +1,7 @@
--- The limits of LMCP messages. Definitions only.
+-- The limits and the fixed bytes of LMCP messages. Definitions only.
+use mathlib.Core.List.{List, [], _∷_}
 use Prim.Native.Nat.{ℕ}
+use Rattle.wire.specs.Bytes.{be}
 
 -- the longest whole message, in bytes
 abbrev pub maxMessage : ℕ
@@ -8,3 +10,11 @@ maxMessage = 262144
 -- the deepest object; the root has depth 1
 abbrev pub deepest : ℕ
 deepest = 16
+
+-- "LMCP"
+abbrev pub magic : List ℕ
+magic = 76 ∷ 77 ∷ 67 ∷ 80 ∷ []
+
+-- "PITSURV" and a zero byte
+abbrev pub series : ℕ
+series = be 8 (80 ∷ 73 ∷ 84 ∷ 83 ∷ 85 ∷ 82 ∷ 86 ∷ 0 ∷ [])

@@ -1,7 +1,7 @@
 -- A whole message: "LMCP", the root's length, the root, the checksum. Definitions only.
 use mathlib.Core.Path.{_≡_}
 use mathlib.Core.Bool.{Bool, true, false, not, _&&_, _||_}
-use mathlib.Core.List.{List, [], _∷_, _++_}
+use mathlib.Core.List.{List, _++_}
 use Prim.Native.Nat.{ℕ, _+_, _-_, _%_, _^_}
 use lib.Dec.{ltb, leb, eqb}
 use lib.IntN.{ℤ}
@@ -10,21 +10,18 @@ use lib.Seq.{sets}
 use Rattle.wire.specs.Choice.{pick}
 use Rattle.wire.specs.Bytes.{be, bytes}
 use Rattle.wire.specs.Sum.{sum}
+use Rattle.wire.specs.Same.{same}
 use Rattle.wire.specs.Overlay.{overlay}
 use Rattle.lmcp.specs.declared.Found.{Found}
 use Rattle.lmcp.specs.declared.Found.the-variants.{Numbers, Unread}
 use Rattle.lmcp.specs.declared.Made.{Made}
 use Rattle.lmcp.specs.declared.Made.the-variants.{Bytes, Unwritten}
-use Rattle.lmcp.specs.Limits.{maxMessage}
+use Rattle.lmcp.specs.Limits.{maxMessage, magic}
 use Rattle.lmcp.specs.Run.{got, refused, whole}
 use Rattle.lmcp.specs.Table.{Table}
 use Rattle.lmcp.specs.Walk.{root}
 use Rattle.lmcp.specs.Read.{Read, reading}
 use Rattle.lmcp.specs.Write.{Write, writing}
-
--- "LMCP"
-abbrev pub magic : ℕ
-magic = be 4 (76 ∷ 77 ∷ 67 ∷ 80 ∷ [])
 
 -- the sum of all bytes, modulo 2 ^ 32
 abbrev pub checksumOf : List ℕ → ℕ
@@ -45,13 +42,17 @@ stored m = be 4 (drop (length m - 4) m)
 -- what is wrong with a message before its root: 0 for nothing, else the number of the refusal
 unfoldable pub frame : List ℕ → ℕ
 frame m =
-    pick (ltb (length m) 12 || not (eqb (be 4 m) magic)) 20
+    pick (ltb (length m) 12 || not (same (take 4 m) magic)) 20
     (pick (ltb maxMessage (length m) || not (eqb (length m) (12 + be 4 (drop 4 m)))) 21
     (pick (eqb (stored m) 0 || eqb (stored m) (checksumOf (before m))) 0
     22))
 
 unfoldable pub readMessage : Table → List ℕ → Read
 readMessage T m = pick (eqb (frame m) 0) (whole (root (reading T) T (rootOf m))) (refused (frame m))
+
+-- the checksum that a message has: calculated, or left zero
+abbrev pub choice : List ℕ → Bool
+choice m = not (eqb (stored m) 0)
 
 -- the answer, for a list with room for so many numbers, and what the lent list then holds
 unfoldable pub found : Read → ℕ → Found
@@ -71,13 +72,15 @@ pub record ReadTo (R : Read) (before : List ℤ) (answer : Found) (after : List 
 
 -- all before the checksum, of a root's bytes
 abbrev pub headOn : List ℕ → List ℕ
-headOn bs = bytes 4 magic ++ (bytes 4 (length bs) ++ bs)
+headOn bs = magic ++ (bytes 4 (length bs) ++ bs)
 
--- the checksum is calculated, and then may not be zero, or left zero
+-- the whole message: the checksum is calculated, or left zero
+abbrev pub messageOn : Bool → List ℕ → List ℕ
+messageOn calculate bs = headOn bs ++ bytes 4 (pick calculate (checksumOf (headOn bs)) 0)
+
+-- a calculated checksum may not come out as zero
 unfoldable pub summed : Bool → List ℕ → List ℤ → Write
-summed calculate bs r =
-    pick (calculate && eqb (checksumOf (headOn bs)) 0) (refused 30)
-    (got (headOn bs ++ bytes 4 (pick calculate (checksumOf (headOn bs)) 0)) r)
+summed calculate bs r = pick (calculate && eqb (checksumOf (headOn bs)) 0) (refused 30) (got (messageOn calculate bs) r)
 
 unfoldable pub framed : Bool → Write → Write
 framed calculate (got bs r) = pick (ltb maxMessage (12 + length bs)) (refused 21) (summed calculate bs r)

@@ -7,6 +7,7 @@ use lib.IntN.{ℤ, pos}
 use lib.ListN.{length, drop}
 use Rattle.wire.specs.Choice.{pick}
 use Rattle.wire.specs.Bytes.{be}
+use Rattle.lmcp.specs.Limits.{series}
 use Rattle.lmcp.specs.Run.{Run, got, refused, Tag, tag, bad}
 use Rattle.lmcp.specs.Table.{Table}
 use Rattle.lmcp.specs.Walk.{Way}
@@ -23,10 +24,6 @@ readValue k w b = pick (ltb (length b) w) (refused 25) (judged k w (be w b) (dro
 
 unfoldable pub readCount : ℕ → List ℕ → Tag ℕ ℤ
 readCount w b = pick (ltb (length b) w) (bad 25) (tag (be w b) (pos (be w b) ∷ []) (drop w b))
-
--- "PITSURV" and a zero byte
-abbrev pub series : ℕ
-series = be 8 (80 ∷ 73 ∷ 84 ∷ 83 ∷ 85 ∷ 82 ∷ 86 ∷ 0 ∷ [])
 
 -- n is a type of the table, and the declared one, t, unless any may stand there
 unfoldable pub typed : Table → ℕ → ℕ → Bool

@@ -1,7 +1,7 @@
 -- The message table: what a table is, and series PITSURV. Definitions only.
 use mathlib.Core.Path.{_≡_}
 use mathlib.Core.List.{List, [], _∷_, _++_}
-use Prim.Native.Nat.{ℕ, _+_, _≤_}
+use Prim.Native.Nat.{ℕ, _+_, _^_, _≤_, _<_}
 use lib.ListN.{length, getD}
 use Rattle.lmcp.specs.declared.Row.{Row}
 
@@ -110,6 +110,16 @@ pub record RowFits (f : Row) : Type 0 where
   pub arg-least : (f .kind ≡ objectKind → ⊥) → 1 ≤ f .arg
   pub arg-signed : (f .kind ≡ objectKind → ⊥) → f .arg ≤ 8
   pub arg-plain : (f .kind ≡ objectKind → ⊥) → (f .kind ≡ signedKind → ⊥) → f .arg ≤ 7
+
+abbrev pub RowsFit : List Row → Type 0
+RowsFit [] = Unit
+RowsFit (f ∷ fs) = RowFits f × RowsFit fs
+
+-- a table that fits into headers, and whose rows fit: what both round trips suppose of a table
+pub record Sound (T : Table) : Type 0 where
+  pub version-fits : T .version < 256 ^ 2
+  pub types-fit : length (T .types) ≤ 256 ^ 4
+  pub rows-fit : RowsFit (rowsOf T)
 
 -- ---- series PITSURV, by version; one version is in force, 1
 

@@ -8,11 +8,12 @@ use lib.Signed.{mag}
 use Rattle.wire.specs.Choice.{pick}
 use Rattle.wire.specs.Bytes.{bytes}
 use Rattle.wire.specs.Signed.{unsigned}
+use Rattle.lmcp.specs.Limits.{series}
 use Rattle.lmcp.specs.Run.{Run, got, refused, Tag, tag, bad}
 use Rattle.lmcp.specs.Table.{Table}
 use Rattle.lmcp.specs.Walk.{Way}
 use Rattle.lmcp.specs.Value.{below, fits, denial}
-use Rattle.lmcp.specs.Read.{series, typed}
+use Rattle.lmcp.specs.Read.{typed}
 
 abbrev pub Write : Type 0
 Write = Run ℤ ℕ

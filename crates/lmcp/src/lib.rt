@@ -5,6 +5,18 @@ ghost use lib.ListN.{length, getD};
 ghost use Rattle.lmcp.specs.Table.{pitsurv, rowsOf, startsOf, nothing};
 ghost use Rattle.lmcp.specs.Read.{typed};
 
+// The longest whole message, in bytes.
+pub const MAX_MESSAGE: usize = 262144;
+
+// The deepest object; the root has depth 1.
+pub const DEEPEST: usize = 16;
+
+// The first four bytes of a message.
+pub const MAGIC: [u8; 4] = *b"LMCP";
+
+// The series of every object: "PITSURV" and a zero byte.
+pub const SERIES: u64 = 0x5049545355525600;
+
 // One field of a type: the bytes of its count (0: it has none, but `fixed` elements), the kind of its elements, and their bytes
 // or, of objects, the declared type (0: any).
 pub struct Row {

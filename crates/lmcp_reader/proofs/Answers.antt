@@ -29,6 +29,8 @@ frame-long m e = by (ltb (length m) 12) refl
     by true h = absurd (let z : ⊥ = omega (arith, too-short m (ltb-true (length m) 12 h), e) in z)
     by false h = ltb-false (length m) 12 h
 
+-- ---- a message, by what is wrong with its frame
+
 module _ (m : List ℕ) (list : List ℤ) (n : ℕ) (e : n ≡ frame m) where
   pub answer-framed : (n ≡ 0 → ⊥) → ReadTo (readMessage (pitsurv 1) m) list (Unread n) list
   unfolding readMessage found listed
@@ -37,37 +39,44 @@ module _ (m : List ℕ) (list : List ℤ) (n : ℕ) (e : n ≡ frame m) where
       rw q (record { gave = refl; left = refl })
 
   -- b is the root's bytes
-  module _ (z : n ≡ 0) (b : List ℕ) (same : b ≡ rootOf m) where
-    X : Read
-    X = readRoot 1 b
+  pub answer-root : n ≡ 0 → (b : List ℕ) → b ≡ rootOf m → (r : Found) (after : List ℤ) → ReadTo (whole (readRoot 1 b)) list r after → ReadTo (readMessage (pitsurv 1) m) list r after
+  unfolding readMessage
+  answer-root z b same r after h =
+      let q : whole (readRoot 1 b) ≡ readMessage (pitsurv 1) m = ap (λ (l : List ℕ). whole (readRoot 1 l)) same ∙ simp (eq-eqb (frame m) 0 (sym e ∙ z)) in
+      subst (λ (X : Read). ReadTo X list r after) q h
 
-    message-is : readMessage (pitsurv 1) m ≡ whole X
-    unfolding readMessage X
-    message-is = simp (eq-eqb (frame m) 0 (sym e ∙ z)) (ap (λ (l : List ℕ). whole (readRoot 1 l)) (sym same))
+-- ---- a root, by what the first walk of its bytes gave
 
-    pub answer-stopped : (k : ℕ) → readRoot 1 b ≡ refused k → ReadTo (readMessage (pitsurv 1) m) list (Unread k) list
-    unfolding X whole found listed
-    answer-stopped k q = let r : readMessage (pitsurv 1) m ≡ refused k = message-is ∙ ap whole q in rw r (record { gave = refl; left = refl })
+module _ (v : ℕ) (b : List ℕ) (list : List ℤ) where
+  abbrev Answer : Found → List ℤ → Type 0
+  Answer = ReadTo (whole (readRoot v b)) list
 
-    module _ (at k : ℕ) (h : Sofar Few1 b [] 0 (readRoot 1 b) (got []) at k []) where
-      pub answer-left : (at ≡ length b → ⊥) → ReadTo (readMessage (pitsurv 1) m) list (Unread 28) list
-      unfolding X found listed
-      answer-left d = let r : readMessage (pitsurv 1) m ≡ refused 28 = message-is ∙ run-left h d in rw r (record { gave = refl; left = refl })
+  refuses : (k : ℕ) → whole (readRoot v b) ≡ refused k → Answer (Unread k) list
+  unfolding found listed
+  refuses k q = rw q (record { gave = refl; left = refl })
 
-      module _ (d : at ≡ length b) where
-        read : readMessage (pitsurv 1) m ≡ got (h .ys) []
-        unfolding X
-        read = message-is ∙ run-done h d
+  pub answer-stopped : (k : ℕ) → readRoot v b ≡ refused k → Answer (Unread k) list
+  unfolding whole
+  answer-stopped k q = refuses k (ap whole q)
 
-        pub answer-short : length list < k → ReadTo (readMessage (pitsurv 1) m) list (Unread 13) list
-        unfolding found listed
-        answer-short l =
-            let q : length list < length (h .ys) = omega (arith, h .place) in
-            rw read (record { gave = simp (lt-leb (length (h .ys)) (length list) q); left = simp (lt-leb (length (h .ys)) (length list) q) })
+  module _ (at k : ℕ) (h : Sofar Few1 b [] 0 (readRoot v b) (got []) at k []) where
+    pub answer-left : (at ≡ length b → ⊥) → Answer (Unread 28) list
+    answer-left d = refuses 28 (run-left h d)
 
-        pub answer-good : k ≤ length list → (r : Went) (after : List ℤ) → Ends b list 0 (readRoot 1 b) r after → ReadTo (readMessage (pitsurv 1) m) list (Numbers k) after
-        unfolding found listed
-        answer-good l r after g =
-            let q : length (h .ys) ≤ length list = omega (arith, h .place) in
-            let c : k ≡ length (h .ys) = omega (arith, h .place) in
-            rw read (record { gave = simp (le-leb (length (h .ys)) (length list) q) (ap Numbers c); left = simp (le-leb (length (h .ys)) (length list) q) (run-again h list r after g) })
+    module _ (d : at ≡ length b) where
+      pub answer-short : length list < k → Answer (Unread 13) list
+      unfolding found listed
+      answer-short l =
+          let q : length list < length (h .ys) = omega (arith, h .place) in
+          rw (run-done h d) (record { gave = simp (lt-leb (length (h .ys)) (length list) q); left = simp (lt-leb (length (h .ys)) (length list) q) })
+
+      pub answer-good : k ≤ length list → (r : Went) (after : List ℤ) → Ends b list 0 (readRoot v b) r after → Answer (Numbers k) after
+      unfolding found listed
+      answer-good l r after g =
+          let q : length (h .ys) ≤ length list = omega (arith, h .place) in
+          let c : k ≡ length (h .ys) = omega (arith, h .place) in
+          rw (run-done h d)
+          (record {
+            gave = simp (le-leb (length (h .ys)) (length list) q) (ap Numbers c);
+            left = simp (le-leb (length (h .ys)) (length list) q) (run-again h list r after g);
+          })

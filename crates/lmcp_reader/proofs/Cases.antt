@@ -19,11 +19,12 @@ use Rattle.wire.specs.Bytes.{be, Number}
 use Rattle.wire.specs.Signed.{signed}
 use Rattle.wire.proofs.Choices.{and-false, pick-all}
 use Rattle.wire.proofs.Signs.{halves, signed-low, toZ-signed, wider-high, from-end, from-end-fits}
+use Rattle.lmcp.specs.Limits.{series}
 use Rattle.lmcp.specs.Run.{got, refused, Tag, tag, bad}
 use Rattle.lmcp.specs.Walk.{isNull}
 use Rattle.lmcp.specs.Table.{signedKind, boolKind, charKind, Table}
 use Rattle.lmcp.specs.Value.{fault, numberOf}
-use Rattle.lmcp.specs.Read.{series, typed, known, judged, readValue, readCount, readHeader, readHead}
+use Rattle.lmcp.specs.Read.{typed, known, judged, readValue, readCount, readHeader, readHead}
 use Rattle.lmcp.proofs.Goes.{some-tag}
 use Rattle.lmcp.proofs.Heads.{typed-least, known-type}
 use Rattle.lmcp.proofs.Values.{pow-bytes}

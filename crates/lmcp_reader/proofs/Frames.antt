@@ -4,11 +4,12 @@ use mathlib.Core.Bool.{Bool, true, false, not, _||_, or-true}
 use mathlib.Core.List.{List, []}
 use Prim.Native.Nat.{ℕ, _+_, _-_, _≤_, _<_}
 use lib.Dec.{ltb, eqb}
-use lib.ListN.{length, drop}
+use lib.ListN.{length, take, drop}
 use borrow.Author.Tests.{lt-ltb, le-ltb, eq-eqb, ne-eqb}
 use Rattle.wire.specs.Bytes.{be}
-use Rattle.lmcp.specs.Limits.{maxMessage}
-use Rattle.lmcp.specs.Message.{magic, stored, before, checksumOf, frame}
+use Rattle.wire.specs.Same.{same}
+use Rattle.lmcp.specs.Limits.{maxMessage, magic}
+use Rattle.lmcp.specs.Message.{stored, before, checksumOf, frame}
 
 module _ (m : List ℕ) where
   pub too-short : length m < 12 → 20 ≡ frame m
@@ -16,19 +17,19 @@ module _ (m : List ℕ) where
   too-short h = simp (lt-ltb (length m) 12 h)
 
   module _ (l : 12 ≤ length m) where
-    pub not-magic : (be 4 m ≡ magic → ⊥) → 20 ≡ frame m
+    pub not-magic : same (take 4 m) magic ≡ false → 20 ≡ frame m
     unfolding frame
-    not-magic h = simp (le-ltb (length m) 12 l, ne-eqb (be 4 m) magic h)
+    not-magic h = simp (le-ltb (length m) 12 l, h)
 
-    module _ (g : be 4 m ≡ magic) where
+    module _ (g : same (take 4 m) magic ≡ true) where
       pub too-long : maxMessage < length m → 21 ≡ frame m
       unfolding frame
-      too-long h = simp (le-ltb (length m) 12 l, eq-eqb (be 4 m) magic g, lt-ltb maxMessage (length m) h)
+      too-long h = simp (le-ltb (length m) 12 l, g, lt-ltb maxMessage (length m) h)
 
       module _ (s : length m ≤ maxMessage) where
         pub not-length : (length m ≡ 12 + be 4 (drop 4 m) → ⊥) → 21 ≡ frame m
         unfolding frame
-        not-length h = simp (le-ltb (length m) 12 l, eq-eqb (be 4 m) magic g, le-ltb maxMessage (length m) s, ne-eqb (length m) (12 + be 4 (drop 4 m)) h)
+        not-length h = simp (le-ltb (length m) 12 l, g, le-ltb maxMessage (length m) s, ne-eqb (length m) (12 + be 4 (drop 4 m)) h)
 
         module _ (e : length m ≡ 12 + be 4 (drop 4 m)) where
           pub sum-none : stored m ≡ 0 → 0 ≡ frame m
@@ -36,7 +37,7 @@ module _ (m : List ℕ) where
           sum-none z =
               simp (
                 le-ltb (length m) 12 l,
-                eq-eqb (be 4 m) magic g,
+                g,
                 le-ltb maxMessage (length m) s,
                 eq-eqb (length m) (12 + be 4 (drop 4 m)) e,
                 eq-eqb (stored m) 0 z,
@@ -47,7 +48,7 @@ module _ (m : List ℕ) where
           sum-right q =
               simp (
                 le-ltb (length m) 12 l,
-                eq-eqb (be 4 m) magic g,
+                g,
                 le-ltb maxMessage (length m) s,
                 eq-eqb (length m) (12 + be 4 (drop 4 m)) e,
                 eq-eqb (stored m) (checksumOf (before m)) q,
@@ -59,7 +60,7 @@ module _ (m : List ℕ) where
           sum-wrong z q =
               simp (
                 le-ltb (length m) 12 l,
-                eq-eqb (be 4 m) magic g,
+                g,
                 le-ltb maxMessage (length m) s,
                 eq-eqb (length m) (12 + be 4 (drop 4 m)) e,
                 ne-eqb (stored m) 0 z,

@@ -9,22 +9,14 @@ ghost use Prim.Native.Nat.{_+_, _-_, _*_, _^_, _≤_, _<_};
 ghost use lib.IntN.{pos};
 ghost use lib.ListN.{length, drop, set, getD};
 ghost use Rattle.wire.specs.Signed.{signed};
-ghost use Rattle.lmcp.specs.Run.{repeat};
+ghost use Rattle.lmcp.specs.Run.{repeat, whole};
 ghost use Rattle.lmcp.specs.Table.{RowFits, rowsOf, fieldsOf, pitsurv, nothing, signedKind};
 ghost use Rattle.lmcp.specs.Value.{fault, numberOf};
 ghost use Rattle.lmcp.specs.Read.{readValue, readCount, known, readHead};
 ghost use Rattle.lmcp.specs.Message.{frame, readMessage, ReadTo};
 ghost use Rattle.lmcp_reader.specs.Steps.{readObject, readItem, readField, readFields, readRoot, Ends, Marks};
 
-const MAX_MESSAGE: usize = 262144;
-
-const DEEPEST: usize = 16;
-
 const VERSION: u64 = 1;
-// "LMCP", and "PITSURV" with a zero byte.
-const MAGIC: u64 = 1280131920;
-
-const SERIES: u64 = 5785247913224590848;
 
 // The number z at a place, if the list reaches so far.
 fn put(list: &mut [i64], to: usize, z: i64)
@@ -122,7 +114,7 @@ fn known_at(s: &[u8], at: usize, version: u64, declared: usize) -> bool
     requires { ⌜ at + 14 ≤ length (now s) ⌝ }
     ensures { λ r. ⌜ r ≡ known (pitsurv version) declared (drop at (now (s .entry))) ⌝ }
 {
-    if wire::number(s, at, 8) != SERIES {
+    if wire::number(s, at, 8) != lmcp::SERIES {
         return false;
     }
     if wire::number(s, at + 12, 2) != version {
@@ -164,7 +156,8 @@ fn head_at(
     if known_at(s, at + 1, version, declared) {
         let n = wire::number(s, at + 9, 4);
         put(list, to, plain_of(n));
-        return Mark::Of(n as usize, at + 15, to + 1);
+        let next = at + 15;
+        return Mark::Of(n as usize, next, to + 1);
     }
     Mark::Bad(24)
 }
@@ -313,14 +306,35 @@ fn root_at(s: &[u8], version: u64, list: &mut [i64]) -> Went
     if wire::number(s, 0, 1) == 0 {
         return Went::Stopped(23);
     }
-    object_at(s, 0, version, DEEPEST, 0, list, 0)
+    object_at(s, 0, version, lmcp::DEEPEST, 0, list, 0)
 }
 
 // The same walk over no list at all: it checks and counts, and writes nothing.
 fn count_root(s: &[u8], version: u64, list: &mut [i64]) -> Went
     ensures { λ r. ⌜ (now (list .exit) ≡ now (list .entry)) × Ends (now (s .entry)) [] 0 (readRoot version (now (s .entry))) r [] ⌝ }
 {
-    root_at(s, version, &mut list[..0])
+    let none = 0;
+    root_at(s, version, &mut list[..none])
+}
+
+// The numbers of a root: one walk that checks and counts, and then, where all is in order, the same walk, which writes.
+fn read_root(s: &[u8], version: u64, list: &mut [i64]) -> Found
+    ensures { λ r. ⌜ ReadTo (whole (readRoot version (now (s .entry)))) (now (list .entry)) r (now (list .exit)) ⌝ }
+{
+    let first = count_root(s, version, list);
+    match first {
+        Went::Stopped(e) => Found::Unread(e),
+        Went::To(at, count) => {
+            if at != s.len() {
+                return Found::Unread(28);
+            }
+            if list.len() < count {
+                return Found::Unread(13);
+            }
+            root_at(s, version, list);
+            Found::Numbers(count)
+        }
+    }
 }
 
 // 0, or what is wrong with a message before its root.
@@ -330,10 +344,11 @@ fn frame_of(m: &[u8]) -> u8
     if m.len() < 12 {
         return 20;
     }
-    if wire::number(m, 0, 4) != MAGIC {
+    let magic = lmcp::MAGIC;
+    if !wire::same_at(m, 0, &magic) {
         return 20;
     }
-    if MAX_MESSAGE < m.len() {
+    if lmcp::MAX_MESSAGE < m.len() {
         return 21;
     }
     let n = wire::number(m, 4, 4) as usize;
@@ -351,7 +366,7 @@ fn frame_of(m: &[u8]) -> u8
     22
 }
 
-// Reads a message into the start of the list, by one walk that checks and counts and one that writes.
+// Reads a message into the start of the list.
 pub fn read_message(message: &[u8], list: &mut [i64]) -> Found
     ensures { λ r. ⌜ ReadTo (readMessage (pitsurv 1) (now (message .entry))) (now (list .entry)) r (now (list .exit)) ⌝ }
 {
@@ -360,19 +375,5 @@ pub fn read_message(message: &[u8], list: &mut [i64]) -> Found
         return Found::Unread(wrong);
     }
     let end = message.len() - 4;
-    let s = &message[8..end];
-    let first = count_root(s, VERSION, list);
-    match first {
-        Went::Stopped(e) => Found::Unread(e),
-        Went::To(at, count) => {
-            if at != s.len() {
-                return Found::Unread(28);
-            }
-            if list.len() < count {
-                return Found::Unread(13);
-            }
-            root_at(s, VERSION, list);
-            Found::Numbers(count)
-        }
-    }
+    read_root(&message[8..end], VERSION, list)
 }

@@ -24,12 +24,13 @@ use Rattle.wire.proofs.Choices.{never, pick-all}
 use Rattle.wire.proofs.Numbers.{length-bytes}
 use Rattle.wire.proofs.Overlays.{overlay-append, overlay-sets}
 use Rattle.wire.proofs.Signs.{halves, Below, below}
+use Rattle.lmcp.specs.Limits.{series}
 use Rattle.lmcp.specs.Run.{got, refused, Tag, tag, bad}
 use Rattle.lmcp.specs.Table.{signedKind, boolKind, charKind, Table}
 use Rattle.lmcp.specs.Walk.{isNull}
 use Rattle.lmcp.specs.Value.{values, fits, denial}
 use Rattle.lmcp.specs.Value as value
-use Rattle.lmcp.specs.Read.{series, typed}
+use Rattle.lmcp.specs.Read.{typed}
 use Rattle.lmcp.specs.Write.{writeValue, writeCount, header, typedBy, writeHead}
 use Rattle.lmcp.proofs.Goes.{some-tag}
 use Rattle.lmcp.proofs.Heads.{typed-least, typedBy-mag}

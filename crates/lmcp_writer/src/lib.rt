@@ -17,17 +17,9 @@ ghost use Rattle.lmcp.specs.Table.{RowFits, rowsOf, fieldsOf, pitsurv, nothing,
 ghost use Rattle.lmcp.specs.Value.{below, values, fits, denial};
 ghost use Rattle.lmcp.specs.Write.{writeValue, writeCount, header, typedBy, writeHead};
 ghost use Rattle.lmcp.specs.Message.{checksumOf, writeMessage, WrittenTo};
-ghost use Rattle.lmcp_writer.specs.Steps.{writeObject, writeItem, writeField, writeFields, writeRoot, Ends, Marks};
-
-const MAX_MESSAGE: usize = 262144;
-
-const DEEPEST: usize = 16;
+ghost use Rattle.lmcp_writer.specs.Steps.{writeObject, writeItem, writeField, writeFields, writeRoot, Laid, Ends, Marks};
 
 const VERSION: u64 = 1;
-// "LMCP", and "PITSURV" with a zero byte.
-const MAGIC: u64 = 1280131920;
-
-const SERIES: u64 = 5785247913224590848;
 
 // The size of a number: n for n and for -(n + 1).
 fn size_of(z: i64) -> u64
@@ -148,7 +140,7 @@ fn put_header(out: &mut [u8], to: usize, version: u64, n: u64)
     ensures { λ _. ⌜ now (out .exit) ≡ overlay (now (out .entry)) to (header (pitsurv version) n) ⌝ }
 {
     wire::put_number(out, to, 1, 1);
-    wire::put_number(out, to + 1, 8, SERIES);
+    wire::put_number(out, to + 1, 8, lmcp::SERIES);
     wire::put_number(out, to + 9, 4, n);
     wire::put_number(out, to + 13, 2, version);
 }
@@ -330,14 +322,15 @@ fn put_root(list: &[i64], version: u64, out: &mut [u8]) -> Went
     if below_of(1, z) {
         return Went::Stopped(23);
     }
-    put_object(list, 0, version, DEEPEST, 0, out, 8)
+    put_object(list, 0, version, lmcp::DEEPEST, 0, out, 8)
 }
 
 // The same walk over no output at all: it checks and counts, and writes nothing.
 fn count_root(list: &[i64], version: u64, out: &mut [u8]) -> Went
     ensures { λ r. ⌜ (now (out .exit) ≡ now (out .entry)) × Ends (now (list .entry)) [] 8 (writeRoot version (now (list .entry))) r [] ⌝ }
 {
-    put_root(list, version, &mut out[..0])
+    let none = 0;
+    put_root(list, version, &mut out[..none])
 }
 
 // At a place the checksum of all bytes before it, or zero.
@@ -353,29 +346,46 @@ fn put_checksum(out: &mut [u8], calculate: bool, end: usize)
     wire::put_number(out, end, 4, 0);
 }
 
-// Writes the message of a list to the start of the output, by one walk that checks and counts and one that writes. No calculated
-// checksum comes out as zero (`lmcp`, Never), so refusal 30 has no branch.
-pub fn write_message(list: &[i64], calculate: bool, out: &mut [u8]) -> Made
-    ensures { λ r. ⌜ WrittenTo (writeMessage (pitsurv 1) calculate (now (list .entry))) (now (out .entry)) r (now (out .exit)) ⌝ }
+// The message of a list whose root ends at a place: "LMCP", the root's length, the root, the checksum.
+fn put_message(list: &[i64], version: u64, calculate: bool, end: usize, out: &mut [u8])
+    requires { ⌜ (8 ≤ end) × (end ≤ length (now out)) ⌝ }
+    ensures { λ _. ⌜ Laid version (now (list .entry)) calculate end (now (out .entry)) (now (out .exit)) ⌝ }
 {
-    let first = count_root(list, VERSION, out);
+    let magic = lmcp::MAGIC;
+    wire::put_bytes(out, 0, &magic);
+    wire::put_number(out, 4, 4, (end - 8) as u64);
+    put_root(list, version, out);
+    put_checksum(out, calculate, end);
+}
+
+// Writes the message of a list, of a version, by one walk that checks and counts and one that writes.
+fn write_root(list: &[i64], version: u64, calculate: bool, out: &mut [u8]) -> Made
+    ensures { λ r. ⌜ WrittenTo (writeMessage (pitsurv version) calculate (now (list .entry))) (now (out .entry)) r (now (out .exit)) ⌝ }
+{
+    let first = count_root(list, version, out);
     match first {
         Went::Stopped(e) => Made::Unwritten(e),
         Went::To(at, end) => {
+            let size = end + 4;
             if at != list.len() {
                 return Made::Unwritten(28);
             }
-            if MAX_MESSAGE < end + 4 {
+            if lmcp::MAX_MESSAGE < size {
                 return Made::Unwritten(21);
             }
-            if out.len() < end + 4 {
+            if out.len() < size {
                 return Made::Unwritten(13);
             }
-            wire::put_number(out, 0, 4, MAGIC);
-            wire::put_number(out, 4, 4, (end - 8) as u64);
-            put_root(list, VERSION, out);
-            put_checksum(out, calculate, end);
-            Made::Bytes(end + 4)
+            put_message(list, version, calculate, end, out);
+            Made::Bytes(size)
         }
     }
+}
+
+// Writes the message of a list to the start of the output. No calculated checksum comes out as zero (`lmcp`, Never), so refusal
+// 30 has no branch.
+pub fn write_message(list: &[i64], calculate: bool, out: &mut [u8]) -> Made
+    ensures { λ r. ⌜ WrittenTo (writeMessage (pitsurv 1) calculate (now (list .entry))) (now (out .entry)) r (now (out .exit)) ⌝ }
+{
+    write_root(list, VERSION, calculate, out)
 }

@@ -4,5 +4,6 @@ pub mod Overlay
 pub mod Same
 pub mod Seven
 pub mod Signed
+pub mod Strides
 pub mod Sum
 pub mod Taken
