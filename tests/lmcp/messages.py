@@ -2,6 +2,7 @@
 import struct
 
 LIMIT = 262144
+HOLDS = 262144  # numbers that lmcp_bytes holds
 SERIES = b"PITSURV\0"
 ANY = "LmcpObject"
 
@@ -205,7 +206,7 @@ def list_lines(stream):
     while len(stream) - at >= 5 and len(stream) - at - 5 >= 8 * int.from_bytes(stream[at + 1:at + 5], "big"):
         n = int.from_bytes(stream[at + 1:at + 5], "big")
         l = list(struct.unpack(f">{n}q", stream[at + 5:at + 5 + 8 * n]))
-        answers.append(answer("bytes", lambda l, c: write(l, c).hex(), l, stream[at] != 0))
+        answers.append(f"longer than {HOLDS} numbers" if n > HOLDS else answer("bytes", lambda l, c: write(l, c).hex(), l, stream[at] != 0))
         at += 5 + 8 * n
     return lines(answers, at < len(stream))
 

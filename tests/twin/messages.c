@@ -123,11 +123,11 @@ static void large_list(int turn) {
     else if (turn < 9) marks(between(5000, 14000));
     else if (turn < 11) marks(65535);
     else if (turn == 12) {
-        /* whole within what lmcp_bytes holds, and numbers after it that it does not hold */
+        /* more than lmcp_bytes holds, whole within what it holds */
         sized(262200);
         while (numbers < HELD + 20) tell(0);
     } else if (turn > 12) {
-        /* not whole within it; in the last with a fault in the front */
+        /* and not whole within it; in the last with a fault */
         for (int i = 0; i < 5; i++) {
             tell(6);
             text(65535);
@@ -376,14 +376,6 @@ static void damage_list(void) {
     }
 }
 
-/* What is answered to the list in `list`. One that is longer than the program holds goes by its front: a walk that goes on past
-   it is 21, since each number makes a byte at least, and a root that is whole within it is 28. */
-static u32 made_of_list(int calculate, u64 *length) {
-    if (numbers <= HELD) return ref_write_message(list, numbers, calculate, message, length);
-    u32 refusal = ref_write_root(list, HELD, message, length);
-    return refusal == 25 ? 21 : refusal == 0 ? 28 : refusal;
-}
-
 /* The list in `list`, as a program's input and what it must write. A checksum byte other than 0 calculates. */
 static void expect_bytes_of(struct stream *s, int calculate) {
     u8 bytes[8];
@@ -396,7 +388,11 @@ static void expect_bytes_of(struct stream *s, int calculate) {
         fwrite(bytes, 1, 8, s->in);
     }
     s->number++;
-    u32 refusal = made_of_list(calculate, &length);
+    if (numbers > HELD) {
+        fprintf(s->expected, "%llu longer than %d numbers\n", s->number, HELD);
+        return;
+    }
+    u32 refusal = ref_write_message(list, numbers, calculate, message, &length);
     if (refusal != 0) {
         fprintf(s->expected, "%llu refused %u\n", s->number, refusal);
         met[refusal]++;

@@ -1,6 +1,74 @@
-// Prints what the sequence watch says of each datagram on standard input.
+// Which numbers of a flight were missed. Standard input holds datagrams, each after a 2-byte big-endian length, from one sender; of each that
+// has good form the sequence watch is asked, and a line says what it notes.
+ghost use Rattle.output.specs.Output.{Pours};
+ghost use Rattle.watch.specs.Noted.{notes};
+ghost use Rattle.gaps.specs.Lines.{answerText, line, Judged};
+use datagram::Read;
+use stream::Input;
+use stream::Kind;
+use stream::Next;
+use watch::Answer;
+use watch::Seen;
+use watch::Watch;
+
+// What the watch notes of a datagram of sender 0, or the reader's refusal, which leaves the watch as it is.
+fn judge(w: Watch, d: &[u8]) -> Seen
+    ensures { λ r. ⌜ Judged w (now (d .entry)) r ⌝ }
+{
+    let read = datagram::read_datagram(d, datagram::MAX_PAYLOAD, datagram::MAX_FRAGMENTS);
+    match read {
+        Read::Good(header) => watch::see(w, 0, header.sequence),
+        Read::Refused(number) => Seen {
+            answer: Answer::Refused(number),
+            watch: w,
+        },
+    }
+}
+
+fn pour_answer(out: &mut [u8], at: usize, answer: Answer) -> usize
+    ensures { λ r. ⌜ Pours (now (out .entry)) at (answerText (notes answer)) (now (out .exit)) r ⌝ }
+{
+    match answer {
+        Answer::First => output::pour(out, at, b" first\n"),
+        Answer::Forward(missing) => output::pour_counted_line(out, at, b" forward ", missing as u64),
+        Answer::Same => output::pour(out, at, b" same\n"),
+        Answer::Late(by) => output::pour_counted_line(out, at, b" late ", by as u64),
+        Answer::Refused(number) => output::pour_counted_line(out, at, b" refused ", number as u64),
+    }
+}
+
+// Line n.
+fn pour_line(out: &mut [u8], at: usize, n: u64, answer: Answer) -> usize
+    ensures { λ r. ⌜ Pours (now (out .entry)) at (line n (notes answer)) (now (out .exit)) r ⌝ }
+{
+    let next = output::pour_decimal(out, at, n);
+    pour_answer(out, next, answer)
+}
+
+// One line a datagram, and the last line.
+fn run(buf: &mut [u8], out: &mut [u8]) {
+    let mut w = watch::new();
+    let mut input = Input { at: 0, end: 0 };
+    let mut at: usize = 0;
+    let mut n: u64 = 0;
+    while n < stream::MANY {
+        let next = stream::next_record(buf, input, Kind::Bytes2);
+        let Next::Record(from, len, left) = next else {
+            output::finish(out, at, n, next);
+            return;
+        };
+        n += 1;
+        input = left;
+        let seen = judge(w, wire::part(buf, from, len));
+        let watch = seen.watch;
+        let answer = seen.answer;
+        w = watch;
+        at = pour_line(out, at, n, answer);
+    }
+}
+
 fn main() {
     let mut buf = [0u8; 131072];
     let mut out = [0u8; 65536];
-    gaps_run::run(&mut buf, &mut out);
+    run(&mut buf, &mut out);
 }

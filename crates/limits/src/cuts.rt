@@ -1,94 +1,43 @@
-// Limits of the cutter.
+// The cutter, and the parts of what it makes. A case is: the letter of the name and its length, the payload's length, M, the datagram asked for,
+// and the length of the output; of the parts, how much of the datagram is read.
 use cutter::Cut;
 
+// The first `room` bytes of d get the datagram that a case asks for.
+fn made(case: &[u8], payload: &[u8], d: &mut [u8], room: usize) -> Cut {
+    let letter = (wire::number(case, 0, 8) % 256) as u8;
+    let name = [letter; 65];
+    let size = wire::least(room, d.len());
+    cutter::cut_datagram(
+        wire::part(&name, 0, crate::number(case, 8)),
+        wire::part(payload, 0, crate::number(case, 16)),
+        7,
+        crate::number(case, 24),
+        crate::number(case, 32),
+        &mut d[..size],
+    )
+}
+
 // The number of datagrams and the length of the one asked for, or the refusal.
-fn answer(out: &mut [u8], at: usize, c: Cut) -> usize {
-    match c {
+pub(crate) fn cut(out: &mut [u8], at: usize, case: &[u8], payload: &[u8], d: &mut [u8]) -> usize {
+    let cut = made(case, payload, d, crate::number(case, 40));
+    match cut {
         Cut::Made { count, len } => {
-            let a = crate::page::label(&mut *out, at, b"", count as u64, b" datagrams, ");
-            crate::page::line(out, a, b"", b"length ", len as u64)
+            let next = output::pour_counted(out, at, b"datagrams ", count as u64);
+            output::pour_counted(out, next, b" length ", len as u64)
         }
-        Cut::Refused(n) => crate::page::line(out, at, b"", b"refused ", n as u64),
+        Cut::Refused(n) => output::pour_counted(out, at, b"refused ", n as u64),
     }
 }
 
-// Datagram k of a message named TILE with p bytes, for datagrams of m bytes.
-fn cut(out: &mut [u8], at: usize, p: usize, m: usize, k: usize) -> usize {
-    let payload = [1u8; 262145];
-    let mut d = [0u8; 65536];
-    let a = crate::page::label(&mut *out, at, b"TILE, p ", p as u64, b", M ");
-    let b = crate::page::label(&mut *out, a, b"", m as u64, b", datagram ");
-    let c = crate::page::label(&mut *out, b, b"", k as u64, b": ");
-    answer(
-        out,
-        c,
-        cutter::cut_datagram(b"TILE", wire::part(&payload, 0, p), 7, m, k, &mut d),
-    )
-}
-
-// M 95 and 96, 65,507 and 65,508; p 262,144 and over.
-pub(crate) fn sizes(out: &mut [u8], at: usize) -> usize {
-    let mut a = cut(&mut *out, at, 0, 95, 0);
-    a = cut(&mut *out, a, 0, 96, 0);
-    a = cut(&mut *out, a, 65494, 65507, 0);
-    a = cut(&mut *out, a, 65495, 65507, 0);
-    a = cut(&mut *out, a, 0, 65508, 0);
-    a = cut(&mut *out, a, 262144, 65507, 4);
-    cut(&mut *out, a, 262145, 65507, 0)
-}
-
-// TILE at M 96 with p 83, 84, 147 and 148.
-pub(crate) fn tile(out: &mut [u8], at: usize) -> usize {
-    let mut a = cut(&mut *out, at, 83, 96, 0);
-    a = cut(&mut *out, a, 83, 96, 1);
-    a = cut(&mut *out, a, 84, 96, 0);
-    a = cut(&mut *out, a, 84, 96, 1);
-    a = cut(&mut *out, a, 84, 96, 2);
-    a = cut(&mut *out, a, 147, 96, 1);
-    cut(&mut *out, a, 148, 96, 2)
-}
-
-// TILE at M 96 with p 19,451, which takes 256 fragments, and one byte more.
-pub(crate) fn most(out: &mut [u8], at: usize) -> usize {
-    let a = cut(&mut *out, at, 19451, 96, 255);
-    cut(&mut *out, a, 19452, 96, 0)
-}
-
-// A message that takes 22 bytes, into d.
-fn output(out: &mut [u8], at: usize, d: &mut [u8]) -> usize {
-    let a = crate::page::label(
-        &mut *out,
-        at,
-        b"message of 22 bytes into ",
-        d.len() as u64,
-        b": ",
-    );
-    answer(
-        out,
-        a,
-        cutter::cut_datagram(b"TILE", b"123456789", 7, 96, 0, d),
-    )
-}
-
-fn named(out: &mut [u8], at: usize, n: usize) -> usize {
-    let name = b"abcdefghijklmnopqrstuvwxyzabcdefghijklmnopqrstuvwxyzabcdefghijkl";
-    let mut d = [0u8; 96];
-    let a = crate::page::label(&mut *out, at, b"cut with a name of ", n as u64, b" bytes: ");
-    answer(
-        out,
-        a,
-        cutter::cut_datagram(wire::part(name, 0, n), b"", 7, 96, 0, &mut d),
-    )
-}
-
-// An output one too short, and names of 1, 63 and 64 bytes.
-pub(crate) fn outputs(out: &mut [u8], at: usize) -> usize {
-    let mut short = [0u8; 21];
-    let mut exact = [0u8; 22];
-    let mut a = output(&mut *out, at, &mut short);
-    a = output(&mut *out, a, &mut exact);
-    a = named(&mut *out, a, 0);
-    a = named(&mut *out, a, 1);
-    a = named(&mut *out, a, 63);
-    named(&mut *out, a, 64)
+// The name part and the payload part of what was made, or of the front of it.
+pub(crate) fn parts(out: &mut [u8], at: usize, case: &[u8], payload: &[u8], d: &mut [u8]) -> usize {
+    let cut = made(case, payload, d, d.len());
+    let Cut::Made { count: _, len } = cut else {
+        return output::pour(out, at, b"not made");
+    };
+    let n = wire::least(len, crate::number(case, 40));
+    let a = output::pour(out, at, b"name:");
+    let b = output::pour_hex(out, a, datagram::name_part(wire::part(d, 0, n)));
+    let c = output::pour(out, b, b" payload:");
+    output::pour_hex(out, c, datagram::payload_part(wire::part(d, 0, n)))
 }

@@ -1,58 +1,122 @@
-// Both sides of every limit of document 01, over the proved crates: a line a case. What it must write was written from the paper.
+// Cases of the limits that no other program reaches, over the proved crates. Standard input holds cases, each as one byte that names the call,
+// a 4-byte big-endian count and that many 8-byte numbers; a line says what the call answers. `tests/vectors` makes the cases, and what must be
+// said of them, from the paper.
 mod cuts;
-mod datagrams;
-mod messages;
-mod page;
-mod receiving;
+mod lent;
 mod watching;
 
-fn main() {
-    let mut out = [0u8; 16384];
+use stream::Input;
+use stream::Kind;
+use stream::Next;
+
+// The number at a place of a case.
+fn number(case: &[u8], place: usize) -> usize {
+    wire::number(case, place, 8) as usize
+}
+
+// The rest of a line, by the byte that names the call.
+fn answer(
+    out: &mut [u8],
+    at: usize,
+    call: u64,
+    case: &[u8],
+    state: &mut [u64],
+    names: &mut [u8],
+    store: &mut [u8],
+    ledger: &mut [u32],
+    payload: &[u8],
+    d: &mut [u8],
+) -> usize {
+    match call {
+        1 => cuts::cut(out, at, case, payload, d),
+        2 => cuts::parts(out, at, case, payload, d),
+        3 => watching::seen(out, at, case),
+        4 => lent::opened(out, at, case, state, names),
+        5 => lent::received(out, at, case, state, names, store, ledger),
+        6 => lent::forgotten(out, at, case, state, names),
+        _ => output::pour(out, at, b"no such call"),
+    }
+}
+
+// Line n.
+fn one_more(
+    out: &mut [u8],
+    at: usize,
+    n: u64,
+    call: u64,
+    case: &[u8],
+    state: &mut [u64],
+    names: &mut [u8],
+    store: &mut [u8],
+    ledger: &mut [u32],
+    payload: &[u8],
+    d: &mut [u8],
+) -> usize {
+    let a = output::pour_decimal(out, at, n);
+    let b = output::pour(out, a, b" ");
+    let c = answer(
+        out, b, call, case, state, names, store, ledger, payload, d,
+    );
+    output::pour(out, c, b"\n")
+}
+
+// One line a case, and the last line.
+fn run(
+    buf: &mut [u8],
+    out: &mut [u8],
+    state: &mut [u64],
+    names: &mut [u8],
+    store: &mut [u8],
+    ledger: &mut [u32],
+    payload: &[u8],
+    d: &mut [u8],
+) {
+    let mut input = Input { at: 0, end: 0 };
     let mut at: usize = 0;
-    at = datagram_limits(&mut out, at);
-    at = cutter_limits(&mut out, at);
-    at = watching::senders(&mut out, at);
-    at = receiver_limits(&mut out, at);
-    at = lent_limits(&mut out, at);
-    at = message_limits(&mut out, at);
-    io::write_all(1, wire::part(&out, 0, at));
+    let mut n: u64 = 0;
+    while n < stream::MANY {
+        let next = stream::next_record(buf, input, Kind::Numbers);
+        let Next::Record(from, len, left) = next else {
+            output::finish(out, at, n, next);
+            return;
+        };
+        n += 1;
+        input = left;
+        let call = wire::number(stream::head(buf, from, Kind::Numbers), 0, 1);
+        at = one_more(
+            out,
+            at,
+            n,
+            call,
+            wire::part(buf, from, len),
+            state,
+            names,
+            store,
+            ledger,
+            payload,
+            d,
+        );
+    }
 }
 
-fn datagram_limits(out: &mut [u8], at: usize) -> usize {
-    let mut a = datagrams::smalls(&mut *out, at);
-    a = datagrams::fragments(&mut *out, a);
-    a = datagrams::names(&mut *out, a);
-    a = datagrams::counts(&mut *out, a);
-    datagrams::places(&mut *out, a)
-}
-
-fn cutter_limits(out: &mut [u8], at: usize) -> usize {
-    let mut a = cuts::sizes(&mut *out, at);
-    a = cuts::tile(&mut *out, a);
-    a = cuts::most(&mut *out, a);
-    cuts::outputs(&mut *out, a)
-}
-
-fn receiver_limits(out: &mut [u8], at: usize) -> usize {
-    let mut a = receiving::stores(&mut *out, at);
-    a = receiving::sizes(&mut *out, a);
-    a = receiving::counts(&mut *out, a);
-    a = receiving::slots(&mut *out, a);
-    receiving::memory(&mut *out, a)
-}
-
-fn lent_limits(out: &mut [u8], at: usize) -> usize {
-    let mut a = receiving::lent_states(&mut *out, at);
-    a = receiving::lent_stores(&mut *out, a);
-    a = receiving::states(&mut *out, a);
-    receiving::more_states(&mut *out, a)
-}
-
-fn message_limits(out: &mut [u8], at: usize) -> usize {
-    let mut a = messages::ranges(&mut *out, at);
-    a = messages::wider_ranges(&mut *out, a);
-    a = messages::values(&mut *out, a);
-    a = messages::types(&mut *out, a);
-    a = messages::chains(&mut *out, a);
-    messages::depths(&mut *out, a)
+// What is lent is one longer than the longest that is lawful.
+fn main() {
+    let mut buf = [0u8; 4096];
+    let mut out = [0u8; 4096];
+    let mut state = [0u64; receiver::STATE_WORDS + 1];
+    let mut names = [0u8; receiver::NAME_BYTES + 1];
+    let mut store = [0u8; 128];
+    let mut ledger = [0u32; receiver::LEDGER + 1];
+    let payload = [65u8; datagram::MAX_PAYLOAD + 1];
+    let mut d = [0u8; cutter::MOST_SIZE];
+    run(
+        &mut buf,
+        &mut out,
+        &mut state,
+        &mut names,
+        &mut store,
+        &mut ledger,
+        &payload,
+        &mut d,
+    );
 }

@@ -1,16 +1,26 @@
 // Survey messages from lists of numbers. Standard input holds lists, each as one byte (0: leave the checksum zero, else calculate it), a
-// 4-byte big-endian count and that many 8-byte big-endian two's-complement numbers; a line gives the bytes of each, or its refusal.
+// 4-byte big-endian count and that many 8-byte big-endian two's-complement numbers; a line gives the bytes of each, or its refusal, or says
+// that the list is longer than the program holds.
+ghost use mathlib.Core.Path.{_≡_};
+ghost use mathlib.Core.List.{[], _∷_, _++_};
+ghost use Prim.Native.Nat.{_/_, _≤_};
+ghost use lib.ListN.{length, take};
+ghost use lib.Seq.{sets};
+ghost use Rattle.wire.specs.Signed.{signed};
+ghost use Rattle.output.specs.Output.{Pours};
+ghost use Rattle.lmcp_bytes.specs.Lines.{numbersOf, calculated, longerText, madeText, Written};
 use lmcp::Made;
 use stream::Input;
 use stream::Kind;
 use stream::Next;
-ghost use mathlib.Core.Path.{_≡_};
-ghost use Rattle.wire.specs.Signed.{signed};
 
-// No line is longer but for its bytes, which go out so many at a time.
-const LINE: usize = 64;
+// The numbers that the program holds, and the bytes of the longest message.
+const NUMBERS: usize = 262144;
 
-const PIECE: usize = 1024;
+const BYTES: usize = 262144;
+
+// A record's head, and one number more than the program holds.
+const BUFFER: usize = 8 * NUMBERS + 256;
 
 // The signed number with these 64 bits.
 fn signed_of(u: u64) -> i64
@@ -24,12 +34,14 @@ fn signed_of(u: u64) -> i64
     -1 - m
 }
 
-// The numbers of a record's body, as many as the list holds. Answers how many the body has.
-fn take_list(body: &[u8], list: &mut [i64]) -> usize {
+// The numbers of a record's body, which the list holds.
+fn take_list(body: &[u8], list: &mut [i64]) -> usize
+    requires { ⌜ length (now body) / 8 ≤ length (now list) ⌝ }
+    ensures { λ r. ⌜ (r ≡ length (now (body .entry)) / 8) × (now (list .exit) ≡ sets (now (list .entry)) 0 (numbersOf (length (now (body .entry)) / 8) (now (body .entry)))) ⌝ }
+{
     let n = body.len() / 8;
-    let most = wire::least(n, list.len());
     let mut i: usize = 0;
-    while i < most {
+    while i < n {
         let z = signed_of(wire::number(body, 8 * i, 8));
         list[i] = z;
         i += 1;
@@ -38,117 +50,83 @@ fn take_list(body: &[u8], list: &mut [i64]) -> usize {
 }
 
 // The first n numbers of a list.
-fn front(list: &[i64], n: usize) -> &[i64] {
+fn front(list: &[i64], n: usize) -> &[i64]
+    ensures { λ r. ⌜ now r ≡ take n (now (list .entry)) ⌝ }
+{
     let k = wire::least(n, list.len());
     &list[..k]
 }
 
-// What is said of a list by what the writer says of its front, which is all that the program holds. Each number makes a byte or more, so a
-// root that goes on past the front is too long; and what is whole within the front has numbers left over.
-fn beyond(made: Made) -> Made {
-    match made {
-        Made::Bytes(_) => Made::Unwritten(28),
-        Made::Unwritten(e) => {
-            if e == 25 {
-                return Made::Unwritten(21);
-            }
-            if e == 21 {
-                return Made::Unwritten(28);
-            }
-            Made::Unwritten(e)
-        }
-    }
+// The byte before the count says whether to calculate.
+fn calculates(head: &[u8]) -> bool
+    ensures { λ r. ⌜ r ≡ calculated (now (head .entry)) ⌝ }
+{
+    wire::number(head, 0, 1) != 0
 }
 
-fn write_list(body: &[u8], calculate: bool, list: &mut [i64], bytes: &mut [u8]) -> Made {
-    let n = take_list(body, list);
-    let made = lmcp_writer::write_message(front(list, n), calculate, bytes);
-    if list.len() < n {
-        return beyond(made);
-    }
-    made
+fn pour_longer(out: &mut [u8], at: usize, n: usize) -> usize
+    ensures { λ r. ⌜ Pours (now (out .entry)) at (longerText n) (now (out .exit)) r ⌝ }
+{
+    let next = output::pour_counted(out, at, b" longer than ", n as u64);
+    output::pour(out, next, b" numbers\n")
 }
 
-// The byte before the count, which stands before the body.
-fn calculates(buf: &[u8], from: usize) -> bool {
-    if from < 5 {
-        return false;
-    }
-    wire::number(buf, from - 5, 1) != 0
-}
-
-// The first n bytes, in hexadecimal.
-fn put_message(out: &mut [u8], at: usize, bytes: &[u8], n: usize) -> usize {
-    let most = wire::least(n, bytes.len());
-    let mut next = at;
-    let mut i: usize = 0;
-    while i < most {
-        let from = stream::drain(out, next, 2 * PIECE);
-        let k = wire::least(PIECE, most - i);
-        next = stream::put_hex(out, from, wire::part(bytes, i, k));
-        i += PIECE;
-    }
-    next
-}
-
-fn put_answer(out: &mut [u8], at: usize, bytes: &[u8], made: Made) -> usize {
+fn pour_made(out: &mut [u8], at: usize, bytes: &[u8], made: Made) -> usize
+    ensures { λ r. ⌜ Pours (now (out .entry)) at (madeText (now (bytes .entry)) made) (now (out .exit)) r ⌝ }
+{
     match made {
         Made::Bytes(n) => {
-            let next = stream::put_text(out, at, b" bytes ");
-            put_message(out, next, bytes, n)
+            let a = output::pour(out, at, b" bytes ");
+            let b = output::pour_hex(out, a, wire::part(bytes, 0, n));
+            output::pour(out, b, b"\n")
         }
-        Made::Unwritten(e) => stream::put_counted(out, at, b" refused ", e as u64),
+        Made::Unwritten(e) => output::pour_counted_line(out, at, b" refused ", e as u64),
     }
 }
 
-fn put_line(out: &mut [u8], at: usize, n: u64, bytes: &[u8], made: Made) -> usize {
-    let from = stream::drain(out, at, LINE);
-    let next = stream::put_decimal(out, from, n);
-    let end = put_answer(out, next, bytes, made);
-    let last = stream::drain(out, end, LINE);
-    stream::put_text(out, last, b"\n")
+// List n is written, and its line goes out. Answers the place after it.
+fn one_more(
+    out: &mut [u8],
+    at: usize,
+    n: u64,
+    calculate: bool,
+    list: &mut [i64],
+    bytes: &mut [u8],
+    body: &[u8],
+) -> usize
+    ensures { λ r. ⌜ Written calculate (now (body .entry)) n (now (list .entry)) (now (bytes .entry)) (now (out .entry)) at (now (list .exit)) (now (bytes .exit)) (now (out .exit)) r ⌝ }
+{
+    let next = output::pour_decimal(out, at, n);
+    if list.len() < body.len() / 8 {
+        return pour_longer(out, next, list.len());
+    }
+    let count = take_list(body, list);
+    let made = lmcp_writer::write_message(front(list, count), calculate, bytes);
+    pour_made(out, next, bytes, made)
 }
 
-// The last line, and all that is not written yet.
-fn finish(out: &mut [u8], at: usize, word: &[u8], n: u64) {
-    let from = stream::drain(out, at, LINE);
-    let next = stream::put_counted(out, from, word, n);
-    let end = stream::put_text(out, next, b"\n");
-    stream::write_out(out, end);
-}
-
-// One line a list. A proved loop has to end, so it counts the lists, up to a number that no input reaches.
+// One line a list, and the last line.
 fn run(buf: &mut [u8], list: &mut [i64], bytes: &mut [u8], out: &mut [u8]) {
     let mut input = Input { at: 0, end: 0 };
     let mut at: usize = 0;
     let mut n: u64 = 0;
-    while n < 18446744073709551615 {
+    while n < stream::MANY {
         let next = stream::next_record(buf, input, Kind::Numbers);
-        match next {
-            Next::Record(from, len, left) => {
-                let calculate = calculates(buf, from);
-                let made = write_list(wire::part(buf, from, len), calculate, list, bytes);
-                n += 1;
-                input = left;
-                at = put_line(out, at, n, bytes, made);
-            }
-            Next::End => {
-                finish(out, at, b"end ", n);
-                return;
-            }
-            Next::Cut => {
-                finish(out, at, b"cut ", n);
-                return;
-            }
-        }
+        let Next::Record(from, len, left) = next else {
+            output::finish(out, at, n, next);
+            return;
+        };
+        n += 1;
+        input = left;
+        let calculate = calculates(stream::head(buf, from, Kind::Numbers));
+        at = one_more(out, at, n, calculate, list, bytes, wire::part(buf, from, len));
     }
 }
 
-// The list holds a number for each byte of the longest message, and the buffer one number more.
 fn main() {
-    let mut buf = [0u8; 2097408];
-    let mut list = [0i64; 262144];
-    let mut bytes = [0u8; 262144];
+    let mut buf = [0u8; BUFFER];
+    let mut list = [0i64; NUMBERS];
+    let mut bytes = [0u8; BYTES];
     let mut out = [0u8; 65536];
     run(&mut buf, &mut list, &mut bytes, &mut out);
 }

@@ -1,85 +1,82 @@
 // What is in survey messages. Standard input holds messages, each after a 4-byte big-endian length; a line gives the numbers of each,
 // or its refusal.
+ghost use mathlib.Core.List.{[], _∷_, _++_};
+ghost use lib.ListN.{take};
+ghost use Rattle.output.specs.Output.{Pours};
+ghost use Rattle.lmcp_list.specs.Lines.{spaced, foundText, line, Listed};
 use lmcp::Found;
 use stream::Input;
 use stream::Kind;
 use stream::Next;
 
-// No number with its space is longer, and no line but for its numbers.
-const NUMBER: usize = 32;
-
-const LINE: usize = 64;
+// The numbers that the program holds.
+const NUMBERS: usize = 262144;
 
 // The first n numbers of the list, each after a space.
-fn put_numbers(out: &mut [u8], at: usize, list: &[i64], n: usize) -> usize {
+fn pour_numbers(out: &mut [u8], at: usize, list: &[i64], n: usize) -> usize
+    ensures { λ r. ⌜ Pours (now (out .entry)) at (spaced (take n (now (list .entry)))) (now (out .exit)) r ⌝ }
+{
     let most = wire::least(n, list.len());
     let mut next = at;
     let mut i: usize = 0;
     while i < most {
-        let from = stream::drain(out, next, NUMBER);
-        let after = stream::put_text(out, from, b" ");
-        next = stream::put_signed(out, after, list[i]);
+        let after = output::pour(out, next, b" ");
+        next = output::pour_signed(out, after, list[i]);
         i += 1;
     }
     next
 }
 
-fn put_answer(out: &mut [u8], at: usize, list: &[i64], found: Found) -> usize {
+fn pour_found(out: &mut [u8], at: usize, list: &[i64], found: Found) -> usize
+    ensures { λ r. ⌜ Pours (now (out .entry)) at (foundText (now (list .entry)) found) (now (out .exit)) r ⌝ }
+{
     match found {
         Found::Numbers(n) => {
-            let next = stream::put_text(out, at, b" list");
-            put_numbers(out, next, list, n)
+            let next = output::pour(out, at, b" list");
+            pour_numbers(out, next, list, n)
         }
-        Found::Unread(e) => stream::put_counted(out, at, b" refused ", e as u64),
+        Found::Unread(e) => output::pour_counted(out, at, b" refused ", e as u64),
     }
 }
 
-fn put_line(out: &mut [u8], at: usize, n: u64, list: &[i64], found: Found) -> usize {
-    let from = stream::drain(out, at, LINE);
-    let next = stream::put_decimal(out, from, n);
-    let end = put_answer(out, next, list, found);
-    let last = stream::drain(out, end, LINE);
-    stream::put_text(out, last, b"\n")
+// Line n.
+fn pour_line(out: &mut [u8], at: usize, n: u64, list: &[i64], found: Found) -> usize
+    ensures { λ r. ⌜ Pours (now (out .entry)) at (line n (now (list .entry)) found) (now (out .exit)) r ⌝ }
+{
+    let a = output::pour_decimal(out, at, n);
+    let b = pour_found(out, a, list, found);
+    output::pour(out, b, b"\n")
 }
 
-// The last line, and all that is not written yet.
-fn finish(out: &mut [u8], at: usize, word: &[u8], n: u64) {
-    let from = stream::drain(out, at, LINE);
-    let next = stream::put_counted(out, from, word, n);
-    let end = stream::put_text(out, next, b"\n");
-    stream::write_out(out, end);
+// Message n is read into the list, and its line goes out. Answers the place after it.
+fn one_more(out: &mut [u8], at: usize, n: u64, list: &mut [i64], message: &[u8]) -> usize
+    ensures { λ r. ⌜ Listed (now (message .entry)) n (now (list .entry)) (now (out .entry)) at (now (list .exit)) (now (out .exit)) r ⌝ }
+{
+    let found = lmcp_reader::read_message(message, list);
+    pour_line(out, at, n, list, found)
 }
 
-// One line a message. A proved loop has to end, so it counts the messages, up to a number that no input reaches.
+// One line a message, and the last line.
 fn run(buf: &mut [u8], list: &mut [i64], out: &mut [u8]) {
     let mut input = Input { at: 0, end: 0 };
     let mut at: usize = 0;
     let mut n: u64 = 0;
-    while n < 18446744073709551615 {
+    while n < stream::MANY {
         let next = stream::next_record(buf, input, Kind::Bytes4);
-        match next {
-            Next::Record(from, len, left) => {
-                let found = lmcp_reader::read_message(wire::part(buf, from, len), list);
-                n += 1;
-                input = left;
-                at = put_line(out, at, n, list, found);
-            }
-            Next::End => {
-                finish(out, at, b"end ", n);
-                return;
-            }
-            Next::Cut => {
-                finish(out, at, b"cut ", n);
-                return;
-            }
-        }
+        let Next::Record(from, len, left) = next else {
+            output::finish(out, at, n, next);
+            return;
+        };
+        n += 1;
+        input = left;
+        at = one_more(out, at, n, list, wire::part(buf, from, len));
     }
 }
 
-// The buffer holds more than the longest message, so that a longer one is refused by its front; the list has a number for each byte.
+// The buffer holds more than the longest message, so that a longer one is refused by its front.
 fn main() {
     let mut buf = [0u8; 270336];
-    let mut list = [0i64; 262144];
+    let mut list = [0i64; NUMBERS];
     let mut out = [0u8; 65536];
     run(&mut buf, &mut list, &mut out);
 }

@@ -1,5 +1,5 @@
-pub mod Puts
-pub mod Texts
 pub mod Slices
 pub mod Passing
 pub mod Taking
+pub mod Held
+pub mod Once

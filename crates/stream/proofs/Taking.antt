@@ -1,23 +1,23 @@
 -- How a record is taken from the unread bytes and from what comes. Assumes nothing.
 use mathlib.Core.Path.{_≡_, refl, ap, sym, _∙_, subst}
-use mathlib.Core.Bool.{true, false, _&&_}
+use mathlib.Core.Bool.{true, false}
 use mathlib.Core.List.{List, [], _∷_, _++_, append-assoc}
 use Prim.Native.Nat.{ℕ, zero, suc, _+_, _-_, _*_, _≤_, _<_, min}
 use native.Mathlib.Omega.{arith}
-use lib.ListN.{length, drop, getD, length-append, length-drop, List·getD-append}
-use lib.Seq.{slice, length-slice, drop-append-le, drop-drop, slice-empty}
-use lib.Dec.{leb, ltb}
-use borrow.Author.Tests.{le-leb, lt-leb, le-ltb}
+use lib.ListN.{length, take, drop, getD, length-append, length-drop, List·getD-append}
+use lib.Seq.{slice, length-slice, take-take, drop-append-le, drop-drop, slice-empty}
+use lib.Dec.{leb}
+use borrow.Author.Tests.{le-leb, lt-leb}
 use Rattle.wire.specs.Bytes.{be}
 use Rattle.wire.proofs.Choices.{and-of, and-false}
-use Rattle.stream.specs.declared.input.Kind.{Kind}
-use Rattle.stream.specs.declared.input.Kind.the-variants.{Bytes2, Bytes4, Numbers}
-use Rattle.stream.specs.declared.input.Input.{Input}
-use Rattle.stream.specs.declared.input.Skip.{Skip}
-use Rattle.stream.specs.declared.input.Skip.the-variants.{Done, Ended}
-use Rattle.stream.specs.declared.input.Next.{Next}
-use Rattle.stream.specs.declared.input.Next.the-variants.{Record, End, Cut}
-use Rattle.stream.specs.Records.{headOf, widthOf, unitOf, bodyLength, isWhole, unread, holds, Took, Lacks, Gives}
+use Rattle.stream.specs.declared.Kind.{Kind}
+use Rattle.stream.specs.declared.Kind.the-variants.{Bytes2, Bytes4, Numbers, Entry}
+use Rattle.stream.specs.declared.Input.{Input}
+use Rattle.stream.specs.declared.Skip.{Skip}
+use Rattle.stream.specs.declared.Skip.the-variants.{Done, Ended}
+use Rattle.stream.specs.declared.Next.{Next}
+use Rattle.stream.specs.declared.Next.the-variants.{Record, End, Cut}
+use Rattle.stream.specs.Records.{headOf, widthOf, unitOf, bodyLength, isWhole, unread, Roomy, holds, Took, Ends, Lacks, Gives}
 use Rattle.stream.specs.Windows.{Within, Headed, Fronted, Grown, Ready, Gone, Lacking, Dropped, afterSkip}
 use Rattle.stream.proofs.Slices.{slice-rest, slice-slice, slice-within, slice-append}
 use Rattle.stream.proofs.Passing.{grown-joined}
@@ -71,6 +71,7 @@ body-front kind x y h =
     narrow Bytes2 = omega arith
     narrow Bytes4 = omega arith
     narrow Numbers = omega arith
+    narrow Entry = omega arith
 
 whole-true : (kind : Kind) (x : List ℕ) → headOf kind ≤ length x → headOf kind + bodyLength kind x ≤ length x → isWhole kind x ≡ true
 unfolding isWhole
@@ -80,15 +81,22 @@ whole-false : (kind : Kind) (x : List ℕ) → length x < headOf kind + bodyLeng
 unfolding isWhole
 whole-false kind x h = rw (lt-leb (headOf kind + bodyLength kind x) (length x) h) (and-false (leb (headOf kind) (length x)))
 
-cut-of : (kind : Kind) (b x : List ℕ) → isWhole kind x ≡ false → (ltb (headOf kind + 1) (length b) && isWhole kind x) ≡ false
-cut-of kind b x e = rw e (and-false (ltb (headOf kind + 1) (length b)))
+-- a head has a byte or more, and few
+pub some-head : (kind : Kind) → (0 < headOf kind) × (headOf kind ≤ 18)
+some-head Bytes2 = (omega arith, omega arith)
+some-head Bytes4 = (omega arith, omega arith)
+some-head Numbers = (omega arith, omega arith)
+some-head Entry = (omega arith, omega arith)
+
+pub whole-none : (kind : Kind) → isWhole kind [] ≡ false
+whole-none kind = whole-false kind [] (omega (arith, some-head kind .0))
 
 -- the buffer is too short, or there is no whole head
 pub lacks-room : (kind : Kind) (b : List ℕ) (i : Input) → length b ≤ headOf kind + 1 → Lacks kind b i
-lacks-room kind b i h = record { came = []; cut = rw (le-ltb (headOf kind + 1) (length b) h) refl }
+lacks-room kind b i h = record { came = []; some = λ r. absurd (let z : ⊥ = omega arith in z); cut = λ r. absurd (let z : ⊥ = omega arith in z) }
 
-pub lacks-head : (kind : Kind) (b : List ℕ) (i : Input) (came : List ℕ) → length (unread b i ++ came) < headOf kind → Lacks kind b i
-lacks-head kind b i came h = record { came = came; cut = cut-of kind b (unread b i ++ came) (whole-false kind (unread b i ++ came) (omega arith)) }
+pub lacks-head : (kind : Kind) (b : List ℕ) (i : Input) (came : List ℕ) → 0 < length (unread b i ++ came) → length (unread b i ++ came) < headOf kind → Lacks kind b i
+lacks-head kind b i came z h = record { came = came; some = λ r. z; cut = λ r. whole-false kind (unread b i ++ came) (omega arith) }
 
 -- ---- the body
 
@@ -103,11 +111,15 @@ module _ {kind : Kind} {b : List ℕ} {one : Input} {body : ℕ} (h : Headed kin
   body-is : (y : List ℕ) → bodyLength kind (unread b one ++ y) ≡ body
   body-is y = body-front kind (unread b one) y (omega (arith, long, h .head)) ∙ sym (h .is)
 
+  some : (y : List ℕ) → 0 < length (unread b one ++ y)
+  some y = omega (arith, long, h .head, length-append (unread b one) y, some-head kind .0)
+
   pub lacks-body : two .end - two .at < headOf kind + len → Lacks kind b one
   lacks-body s =
       record {
         came = r .came;
-        cut = cut-of kind b (unread b one ++ r .came) (whole-false kind (unread b one ++ r .came) (omega (arith, held, body-is (r .came), size)));
+        some = λ _. some (r .came);
+        cut = λ _. whole-false kind (unread b one ++ r .came) (omega (arith, held, body-is (r .came), size));
       }
 
   -- what is held after the body
@@ -140,28 +152,39 @@ module _ {kind : Kind} {b : List ℕ} {one : Input} {body : ℕ} (h : Headed kin
     lacks-rest l =
         record {
           came = r .came ++ l .came;
-          cut =
-              cut-of kind b (unread b one ++ (r .came ++ l .came))
-              (whole-false kind (unread b one ++ (r .came ++ l .came)) (omega (arith, long-after (l .came), body-is (r .came ++ l .came), l .fewer)));
+          some = λ _. some (r .came ++ l .came);
+          cut = λ _. whole-false kind (unread b one ++ (r .came ++ l .came)) (omega (arith, long-after (l .came), body-is (r .came ++ l .came), l .fewer));
         }
+
+    -- a part of the head and the body, wherever the rest was dropped
+    part-of : {d : List ℕ} {left : Input} (g : Gone c (two .at + headOf kind + len) (two .end) (body - len) d left) (f t : ℕ) → t ≤ headOf kind + len
+        → slice (two .at + f) (two .at + t) d ≡ slice f t (unread b one ++ (r .came ++ g .came))
+    part-of {d} {left} g f t l =
+        let place : ℕ = two .at + headOf kind + len in
+        let n : two .at + t ≤ place = omega arith in
+        ap (drop (two .at + f)) (sym (take-take (two .at + t) place d n) ∙ ap (take (two .at + t)) (g .kept) ∙ take-take (two .at + t) place c n)
+        ∙ sym (slice-slice c (two .at) f t (two .end) (omega (arith, r .order)) (r .within))
+        ∙ ap (slice f t) (r .joined)
+        ∙ sym (slice-append (unread b one ++ r .came) (g .came) f t (omega (arith, held)))
+        ∙ ap (slice f t) (append-assoc (unread b one) (r .came) (g .came))
 
     pub took : {d : List ℕ} {left : Input} → Gone c (two .at + headOf kind + len) (two .end) (body - len) d left → Took kind b one d (two .at + headOf kind) len left
     took {d} {left} g =
         let all : List ℕ = unread b one ++ (r .came ++ g .came) in
         let n : bodyLength kind all ≡ body = body-is (r .came ++ g .came) in
         let low : len ≤ body = omega (arith, size) in
-        let f : headOf kind + len ≤ length (unread b one ++ r .came) = omega (arith, held) in
         record {
           came = r .came ++ g .came;
+          room = h .room;
           whole = whole-true kind all (omega (arith, long-after (g .came))) (omega (arith, long-after (g .came), n, g .enough));
           size = size ∙ ap (λ (k : ℕ). min k (length b - (headOf kind + 1))) (sym n);
+          headed = omega arith;
+          head =
+              ap (λ (k : ℕ). slice k (two .at + headOf kind) d) (let e : two .at + headOf kind - headOf kind ≡ two .at + 0 = omega arith in e)
+              ∙ part-of g 0 (headOf kind) (omega arith);
           body =
-              ap (drop (two .at + headOf kind)) (g .kept)
-              ∙ ap (λ (k : ℕ). slice (two .at + headOf kind) k c) (let e : two .at + headOf kind + len ≡ two .at + (headOf kind + len) = omega arith in e)
-              ∙ sym (slice-slice c (two .at) (headOf kind) (headOf kind + len) (two .end) (omega (arith, r .order)) (r .within))
-              ∙ ap (slice (headOf kind) (headOf kind + len)) (r .joined)
-              ∙ sym (slice-append (unread b one ++ r .came) (g .came) (headOf kind) (headOf kind + len) f)
-              ∙ ap (slice (headOf kind) (headOf kind + len)) (append-assoc (unread b one) (r .came) (g .came));
+              ap (λ (k : ℕ). slice (two .at + headOf kind) k d) (let e : two .at + headOf kind + len ≡ two .at + (headOf kind + len) = omega arith in e)
+              ∙ part-of g (headOf kind) (headOf kind + len) (omega arith);
           within = omega (arith, g .same-length, r .room);
           rest =
               g .now-unread
@@ -192,10 +215,6 @@ module _ {kind : Kind} {b : List ℕ} {one : Input} {body : ℕ} (h : Headed kin
 
 -- ---- from the input as it was
 
-nil-left : (x y : List ℕ) → x ++ y ≡ [] → x ≡ []
-nil-left [] y e = refl
-nil-left (a ∷ x) y e = absurd (let z : _≡_ {A = ℕ} 0 1 = cc in omega arith)
-
 -- the input within the buffer
 within-unread : (b : List ℕ) (i r : Input) → Within i (length b) r → unread b r ≡ unread b i
 within-unread b i r w = slice-within b (i .at) (i .end) (r .at) (r .end) (w .end) (w .at)
@@ -207,32 +226,46 @@ module _ (kind : Kind) {b c : List ℕ} {i inside one : Input} {want : ℕ} (w :
   all : (y : List ℕ) → unread c one ++ y ≡ unread b i ++ (ready .came ++ y)
   all y = ap (λ (x : List ℕ). x ++ y) joined ∙ append-assoc (unread b i) (ready .came) y
 
-  -- nothing is unread, or less than a head
-  pub ends : one .at ≡ one .end → unread b i ≡ []
-  ends e =
-      nil-left (unread b i) (ready .came)
-      (sym joined ∙ ap (λ (k : ℕ). slice k (one .end) c) e ∙ slice-empty (one .end) c)
+  -- a buffer has the same room
+  room-before : Roomy kind c → Roomy kind b
+  room-before = subst (λ (n : ℕ). headOf kind + 1 < n) (ready .same-length)
 
-  pub lacks-a-head : one .end - one .at < headOf kind → Lacks kind b i
-  lacks-a-head h =
-      lacks-head kind b i (ready .came)
-      (omega (arith, ap length joined, length-slice (one .at) (one .end) c (ready .within)))
+  room-after : Roomy kind b → Roomy kind c
+  room-after = subst (λ (n : ℕ). headOf kind + 1 < n) (sym (ready .same-length))
+
+  -- nothing is unread, or less than a head
+  pub ends : Roomy kind b → one .at ≡ one .end → Ends kind b i
+  ends r e =
+      record {
+        came = ready .came;
+        room = r;
+        none = sym joined ∙ ap (λ (k : ℕ). slice k (one .end) c) e ∙ slice-empty (one .end) c;
+      }
+
+  held-before : length (unread b i ++ ready .came) ≡ one .end - one .at
+  held-before = ap length (sym joined) ∙ length-slice (one .at) (one .end) c (ready .within)
+
+  pub lacks-a-head : one .at < one .end → one .end - one .at < headOf kind → Lacks kind b i
+  lacks-a-head z h = lacks-head kind b i (ready .came) (omega (arith, held-before)) (omega (arith, held-before))
 
   pub gives-before : (d : List ℕ) (r : Next) → Gives kind c one d r → Gives kind b i d r
   gives-before d (Record at len left) t =
       let e = all (t .came) in
       record {
         came = ready .came ++ t .came;
+        room = room-before (t .room);
         whole = subst (λ (x : List ℕ). isWhole kind x ≡ true) e (t .whole);
         size = t .size ∙ (λ j. min (bodyLength kind (e j)) (holds kind (ready .same-length j)));
+        headed = t .headed;
+        head = t .head ∙ ap (take (headOf kind)) e;
         body = t .body ∙ ap (slice (headOf kind) (headOf kind + len)) e;
         within = t .within;
         rest = t .rest ∙ ap (λ (x : List ℕ). drop (headOf kind + bodyLength kind x) x) e;
       }
-  gives-before d End t = nil-left (unread b i) (ready .came) (sym joined ∙ t)
+  gives-before d End t = record { came = ready .came ++ t .came; room = room-before (t .room); none = sym (all (t .came)) ∙ t .none }
   gives-before d Cut t =
       record {
         came = ready .came ++ t .came;
-        cut = subst (λ (x : List ℕ). (ltb (headOf kind + 1) (length b) && isWhole kind x) ≡ false) (all (t .came))
-            (subst (λ (n : ℕ). (ltb (headOf kind + 1) n && isWhole kind (unread c one ++ t .came)) ≡ false) (ready .same-length) (t .cut));
+        some = λ r. subst (λ (x : List ℕ). 0 < length x) (all (t .came)) (t .some (room-after r));
+        cut = λ r. subst (λ (x : List ℕ). isWhole kind x ≡ false) (all (t .came)) (t .cut (room-after r));
       }

@@ -1,5 +1,3 @@
-pub mod Text
-pub mod Put
-pub mod Drained
 pub mod Records
+pub mod Whole
 pub mod Windows

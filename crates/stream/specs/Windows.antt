@@ -5,12 +5,12 @@ use Prim.Native.Nat.{ℕ, _+_, _-_, _≤_, _<_, min}
 use lib.ListN.{length, take, drop}
 use lib.Seq.{slice}
 use Rattle.stream.specs.Records.{headOf, bodyLength, unread}
-use Rattle.stream.specs.declared.input.Kind.{Kind}
-use Rattle.stream.specs.declared.input.Input.{Input}
-use Rattle.stream.specs.declared.input.Next.{Next}
-use Rattle.stream.specs.declared.input.Next.the-variants.{Record, Cut}
-use Rattle.stream.specs.declared.input.Skip.{Skip}
-use Rattle.stream.specs.declared.input.Skip.the-variants.{Done, Ended}
+use Rattle.stream.specs.declared.Kind.{Kind}
+use Rattle.stream.specs.declared.Input.{Input}
+use Rattle.stream.specs.declared.Next.{Next}
+use Rattle.stream.specs.declared.Next.the-variants.{Record, Cut}
+use Rattle.stream.specs.declared.Skip.{Skip}
+use Rattle.stream.specs.declared.Skip.the-variants.{Done, Ended}
 
 -- the same unread bytes, within a buffer of n
 pub record Within (i : Input) (n : ℕ) (r : Input) : Type 0 where

@@ -1,0 +1,45 @@
+-- What is said of a datagram. Assumes nothing.
+use mathlib.Core.Path.{sym, ap, _∙_}
+use Rattle.gaps.specs.Lines.{saidOf, afterOf}
+use borrow.Author.Needs.{needs}
+use Rattle.gaps.proofs.judge.Statement.{statement}
+use Rattle.gaps.proofs.judge.Tie as tie
+
+read-datagram-requires : tie.Need-read-datagram-requires
+read-datagram-requires c κs = search needs
+
+enum-known-read : tie.Need-enum-known-read
+enum-known-read c = search needs
+
+see-requires : tie.Need-see-requires
+see-requires c κs = search needs
+
+enum-known-read-2 : tie.Need-enum-known-read-2
+enum-known-read-2 c = search needs
+
+returns : tie.Need-returns
+returns c =
+    let k = c .before .before in
+    let r = k .before .before in
+    let w = r .before .before .args .w in
+    let e = sym (k .read .given .1) ∙ r .read-datagram .ensures in
+    record { answer = c .see .ensures .answer ∙ ap (saidOf w) e; watch = c .see .ensures .watch ∙ ap (afterOf w) e }
+
+returns-2 : tie.Need-returns-2
+returns-2 c =
+    let k = c .before in
+    let r = k .before .before in
+    let w = r .before .before .args .w in
+    let e = sym (k .read2 .given .1) ∙ r .read-datagram .ensures in
+    record { answer = ap (saidOf w) e; watch = ap (afterOf w) e }
+
+pub judge-spec : {M : Type 1} → statement M
+judge-spec =
+    tie.close
+    (tie.spec
+    read-datagram-requires
+    enum-known-read
+    see-requires
+    enum-known-read-2
+    returns
+    returns-2)

@@ -1,0 +1,38 @@
+-- The lines of the program `gaps`, in ASCII, and what they are about. Definitions only.
+use mathlib.Core.Path.{_≡_}
+use mathlib.Core.List.{List, [], _∷_, _++_}
+use Prim.Native.Nat.{ℕ}
+use Rattle.datagram.specs.declared.Read.{Read}
+use Rattle.datagram.specs.declared.Read.the-variants.{Good, Refused}
+use Rattle.datagram.specs.Limits.{maxPayload, maxFragments}
+use Rattle.datagram.specs.Read.{readDatagram}
+use Rattle.watch.specs.declared.Watch.{Watch}
+use Rattle.watch.specs.declared.Seen.{Seen}
+use Rattle.watch.specs.Noted.{Noted, first, forward, same, late, refused, notes}
+use Rattle.watch.specs.Watching.{asked, after}
+use Rattle.text.specs.Text.{decimal}
+
+-- what is said of a datagram of sender 0, by what the reader made of it, and the watch afterwards
+abbrev pub saidOf : Watch → Read → Noted
+saidOf w (Good header) = asked w 0 (header .sequence)
+saidOf w (Refused number) = refused number
+
+abbrev pub afterOf : Watch → Read → Watch
+afterOf w (Good header) = after w 0 (header .sequence)
+afterOf w (Refused number) = w
+
+pub record Judged (w : Watch) (d : List ℕ) (r : Seen) : Type 0 where
+  pub answer : notes (r .answer) ≡ saidOf w (readDatagram maxPayload maxFragments d)
+  pub watch : r .watch ≡ afterOf w (readDatagram maxPayload maxFragments d)
+
+-- " first", " forward 3", " same", " late 2" or " refused 4", and the end of the line
+abbrev pub answerText : Noted → List ℕ
+answerText first = 32 ∷ 102 ∷ 105 ∷ 114 ∷ 115 ∷ 116 ∷ 10 ∷ []
+answerText (forward missing) = (32 ∷ 102 ∷ 111 ∷ 114 ∷ 119 ∷ 97 ∷ 114 ∷ 100 ∷ 32 ∷ []) ++ decimal missing ++ 10 ∷ []
+answerText same = 32 ∷ 115 ∷ 97 ∷ 109 ∷ 101 ∷ 10 ∷ []
+answerText (late by) = (32 ∷ 108 ∷ 97 ∷ 116 ∷ 101 ∷ 32 ∷ []) ++ decimal by ++ 10 ∷ []
+answerText (refused number) = (32 ∷ 114 ∷ 101 ∷ 102 ∷ 117 ∷ 115 ∷ 101 ∷ 100 ∷ 32 ∷ []) ++ decimal number ++ 10 ∷ []
+
+-- line n
+abbrev pub line : ℕ → Noted → List ℕ
+line n said = decimal n ++ answerText said

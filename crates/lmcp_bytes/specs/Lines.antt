@@ -1,0 +1,57 @@
+-- The lines of the program `lmcp_bytes`, in ASCII, and what they are about. Definitions only.
+use mathlib.Core.Path.{_≡_}
+use mathlib.Core.Bool.{Bool, true, false, not}
+use mathlib.Core.List.{List, [], _∷_, _++_}
+use Prim.Native.Nat.{ℕ, zero, suc, _/_}
+use lib.IntN.{ℤ}
+use lib.ListN.{length, take, drop}
+use lib.Seq.{sets}
+use lib.Dec.{ltb, eqb}
+use Rattle.wire.specs.Bytes.{be}
+use Rattle.wire.specs.Signed.{signed}
+use Rattle.lmcp.specs.declared.Made.{Made}
+use Rattle.lmcp.specs.declared.Made.the-variants.{Bytes, Unwritten}
+use Rattle.lmcp.specs.Table.{pitsurv}
+use Rattle.lmcp.specs.Message.{writeMessage, WrittenTo}
+use Rattle.text.specs.Text.{decimal, hex}
+use Rattle.output.specs.Output.{Pours}
+
+-- the first n numbers of a record's body, of 8 bytes each, in two's complement
+abbrev pub numbersOf : ℕ → List ℕ → List ℤ
+numbersOf zero b = []
+numbersOf (suc n) b = signed 64 (be 8 b) ∷ numbersOf n (drop 8 b)
+
+-- the head's first byte: 0 leaves the checksum zero
+abbrev pub calculated : List ℕ → Bool
+calculated head = not (eqb (be 1 head) 0)
+
+-- " longer than 262144 numbers"
+abbrev pub longerText : ℕ → List ℕ
+longerText n =
+    (32 ∷ 108 ∷ 111 ∷ 110 ∷ 103 ∷ 101 ∷ 114 ∷ 32 ∷ 116 ∷ 104 ∷ 97 ∷ 110 ∷ 32 ∷ []) ++ decimal n
+    ++ 32 ∷ 110 ∷ 117 ∷ 109 ∷ 98 ∷ 101 ∷ 114 ∷ 115 ∷ 10 ∷ []
+
+-- " bytes 4c4d4350" or " refused 29"
+abbrev pub madeText : List ℕ → Made → List ℕ
+madeText bytes (Bytes n) = (32 ∷ 98 ∷ 121 ∷ 116 ∷ 101 ∷ 115 ∷ 32 ∷ []) ++ hex (take n bytes) ++ 10 ∷ []
+madeText bytes (Unwritten e) = (32 ∷ 114 ∷ 101 ∷ 102 ∷ 117 ∷ 115 ∷ 101 ∷ 100 ∷ 32 ∷ []) ++ decimal e ++ 10 ∷ []
+
+-- The list that a body holds was written as a message, and line n gives its bytes or its refusal.
+pub record Made′ (calculate : Bool) (body : List ℕ) (n : ℕ) (list : List ℤ) (bytes out : List ℕ) (at : ℕ) (list′ : List ℤ) (bytes′ out′ : List ℕ) (r : ℕ) : Type 0 where
+  pub taken : list′ ≡ sets list 0 (numbersOf (length body / 8) body)
+  pub made : Made
+  pub written : WrittenTo (writeMessage (pitsurv 1) calculate (numbersOf (length body / 8) body)) bytes made bytes′
+  pub said : Pours out at (decimal n ++ madeText bytes′ made) out′ r
+
+-- It has more numbers than the program's list, and line n says so; nothing else is touched.
+pub record Longer (n : ℕ) (list : List ℤ) (bytes out : List ℕ) (at : ℕ) (list′ : List ℤ) (bytes′ out′ : List ℕ) (r : ℕ) : Type 0 where
+  pub same-list : list′ ≡ list
+  pub same-bytes : bytes′ ≡ bytes
+  pub said : Pours out at (decimal n ++ longerText (length list)) out′ r
+
+abbrev pub byLength : Bool → Bool → List ℕ → ℕ → List ℤ → List ℕ → List ℕ → ℕ → List ℤ → List ℕ → List ℕ → ℕ → Type 0
+byLength true calculate body n list bytes out at list′ bytes′ out′ r = Longer n list bytes out at list′ bytes′ out′ r
+byLength false calculate body n list bytes out at list′ bytes′ out′ r = Made′ calculate body n list bytes out at list′ bytes′ out′ r
+
+abbrev pub Written : Bool → List ℕ → ℕ → List ℤ → List ℕ → List ℕ → ℕ → List ℤ → List ℕ → List ℕ → ℕ → Type 0
+Written calculate body n list = byLength (ltb (length list) (length body / 8)) calculate body n list

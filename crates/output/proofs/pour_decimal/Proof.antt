@@ -1,0 +1,26 @@
+-- A number in decimal: it is short. Assumes nothing.
+use native.Mathlib.Omega.{arith}
+use Rattle.text.proofs.Texts.{length-word}
+use Rattle.output.proofs.Sending.{pours-put}
+use borrow.Author.Needs.{needs}
+use Rattle.output.proofs.pour_decimal.Statement.{statement}
+use Rattle.output.proofs.pour_decimal.Tie as tie
+
+drain-requires : tie.Need-drain-requires
+drain-requires c κs = search needs
+
+put-decimal-requires : tie.Need-put-decimal-requires
+put-decimal-requires c κs = search needs
+
+same-length : tie.Need-same-length
+same-length c = search needs
+
+returns : tie.Need-returns
+returns c =
+    let p = c .before .before in
+    let d = p .before .before in
+    let s = d .before .before .before in
+    pours-put (omega (arith, length-word (s .args .n) (s .fits .n .fits))) (d .drain .ensures) (p .put-decimal .ensures)
+
+pub pour-decimal-spec : {M : Type 1} → statement M
+pour-decimal-spec = tie.close (tie.spec drain-requires put-decimal-requires same-length returns)

@@ -1,0 +1,32 @@
+-- A signed number in decimal: it is short. Assumes nothing.
+use native.Mathlib.Omega.{arith}
+use mathlib.Core.Path.{ap}
+use mir.Syntax.{w64}
+use mir.ValLaws.{toZ-ofZ}
+use Rattle.text.specs.Text.{signedDecimal}
+use Rattle.text.proofs.Puts.{put-is}
+use Rattle.wire.proofs.Signs.{sfits-within}
+use Rattle.text.proofs.Texts.{length-signed}
+use Rattle.output.proofs.Sending.{pours-put}
+use borrow.Author.Needs.{needs}
+use Rattle.output.proofs.pour_signed.Statement.{statement}
+use Rattle.output.proofs.pour_signed.Tie as tie
+
+drain-requires : tie.Need-drain-requires
+drain-requires c κs = search needs
+
+put-signed-requires : tie.Need-put-signed-requires
+put-signed-requires c κs = search needs
+
+same-length : tie.Need-same-length
+same-length c = search needs
+
+returns : tie.Need-returns
+returns c =
+    let p = c .before .before in
+    let d = p .before .before in
+    let s = d .before .before .before in
+    pours-put (omega (arith, length-signed (s .args .z) (sfits-within w64 (s .args .z) (s .fits .z)))) (d .drain .ensures) (put-is (p .put-signed .ensures) (ap signedDecimal (toZ-ofZ w64 (s .args .z) (s .fits .z))))
+
+pub pour-signed-spec : {M : Type 1} → statement M
+pour-signed-spec = tie.close (tie.spec drain-requires put-signed-requires same-length returns)

@@ -1,0 +1,36 @@
+-- The lines of the program `replay`, in ASCII, and what they are about. Definitions only.
+use mathlib.Core.Path.{_≡_}
+use mathlib.Core.List.{List, [], _∷_, _++_}
+use Prim.Native.Nat.{ℕ}
+use Rattle.steps.specs.declared.Answer.{Answer}
+use Rattle.steps.specs.declared.Answer.the-variants.{Refused, Kept, Repeat, Delivered}
+use Rattle.steps.specs.declared.Emptied.{Emptied}
+use Rattle.steps.specs.declared.Emptied.the-variants.{Nobody, Was}
+use Rattle.receiver.specs.View.{view}
+use Rattle.receiver.specs.Calls.{received}
+use Rattle.text.specs.Text.{decimal}
+use Rattle.output.specs.Output.{Pours}
+
+-- " refused 7", " kept", " repeat" or " delivered 3"
+abbrev pub answerText : Answer → List ℕ
+answerText (Refused number) = (32 ∷ 114 ∷ 101 ∷ 102 ∷ 117 ∷ 115 ∷ 101 ∷ 100 ∷ 32 ∷ []) ++ decimal number
+answerText Kept = 32 ∷ 107 ∷ 101 ∷ 112 ∷ 116 ∷ []
+answerText Repeat = 32 ∷ 114 ∷ 101 ∷ 112 ∷ 101 ∷ 97 ∷ 116 ∷ []
+answerText (Delivered place len) = (32 ∷ 100 ∷ 101 ∷ 108 ∷ 105 ∷ 118 ∷ 101 ∷ 114 ∷ 101 ∷ 100 ∷ 32 ∷ []) ++ decimal len
+
+-- the end of the line, and before it an emptied key: " emptied 0 7"
+abbrev pub emptiedText : Emptied → List ℕ
+emptiedText Nobody = 10 ∷ []
+emptiedText (Was key) =
+    (32 ∷ 101 ∷ 109 ∷ 112 ∷ 116 ∷ 105 ∷ 101 ∷ 100 ∷ 32 ∷ []) ++ decimal (key .sender) ++ ((32 ∷ []) ++ decimal (key .sequence) ++ 10 ∷ [])
+
+-- line n
+abbrev pub line : ℕ → Answer → Emptied → List ℕ
+line n answer emptied = decimal n ++ answerText answer ++ emptiedText emptied
+
+-- Datagram d of sender 0 was received over the lent state, names, store and ledger, as the step list has it, and line n says so.
+pub record Replayed (w n store ledger d : List ℕ) (number : ℕ) (out : List ℕ) (at : ℕ) (w′ n′ store′ ledger′ out′ : List ℕ) (r : ℕ) : Type 0 where
+  pub machine : view w′ n′ ≡ received w n store ledger 0 d .machine
+  pub stored : store′ ≡ received w n store ledger 0 d .store
+  pub entered : ledger′ ≡ received w n store ledger 0 d .ledger
+  pub said : Pours out at (line number (received w n store ledger 0 d .answer) (received w n store ledger 0 d .emptied)) out′ r

@@ -1,0 +1,62 @@
+-- Reading on until enough is unread. The loop's invariant: bytes came after the end, up to e. Assumes nothing.
+use Prim.Native.Nat.{_-_, _≤_}
+use borrow.Author.Needs.{needs}
+use Rattle.stream.specs.Windows.{Grown}
+use Rattle.stream.proofs.Passing.{grown-none, grown-more, grown-is}
+use Rattle.stream.proofs.fill.Statement.{statement}
+use Rattle.stream.proofs.fill.Tie as tie
+
+abbrev Inv-loop : tie.InvT-loop
+Inv-loop buf₀ at end want e₀ buf e = (at ≤ end) × Grown buf₀ end buf e
+
+abbrev μ-loop : tie.MeasureT-loop
+μ-loop buf₀ at end want e₀ buf e = want - (e - at)
+
+loop-holds : tie.Need-loop-holds Inv-loop μ-loop
+loop-holds c = let s = c .before in (s .pre .0, grown-none (s .args .buf .now) (s .args .end) (s .pre .1))
+
+sub-loop : tie.Need-sub-loop Inv-loop μ-loop
+sub-loop c = search needs
+
+read-from-requires : tie.Need-read-from-requires Inv-loop μ-loop
+read-from-requires c κs = search needs
+
+same-length : tie.Need-same-length Inv-loop μ-loop
+same-length c = search needs
+
+returns : tie.Need-returns Inv-loop μ-loop
+returns c =
+    let r = c .before .before .before in
+    let l = r .before .before .before in
+    grown-is (grown-more (l .loop .inv .1) (r .read-from .ensures)) (c .if1 .taken)
+
+loop-less : tie.Need-loop-less Inv-loop μ-loop
+loop-less c = search needs
+
+loop-again : tie.Need-loop-again Inv-loop μ-loop
+loop-again c =
+    let r = c .before .before .before in
+    let l = r .before .before .before in
+    (l .loop .inv .0, grown-more (l .loop .inv .1) (r .read-from .ensures))
+
+same-length-2 : tie.Need-same-length-2 Inv-loop μ-loop
+same-length-2 c = search needs
+
+returns-2 : tie.Need-returns-2 Inv-loop μ-loop
+returns-2 c = c .before .loop .inv .1
+
+pub fill-spec : {M : Type 1} → statement M
+fill-spec =
+    tie.close
+    (tie.spec
+    Inv-loop
+    μ-loop
+    loop-holds
+    sub-loop
+    read-from-requires
+    same-length
+    returns
+    loop-less
+    loop-again
+    same-length-2
+    returns-2)

@@ -1,0 +1,120 @@
+-- The next record of the input. Assumes nothing.
+use mathlib.Core.Path.{_≡_, ap, _∙_}
+use mathlib.Core.List.{List}
+use Prim.Native.Nat.{ℕ, _+_, _-_, _≤_}
+use native.Mathlib.Omega.{arith}
+use Rattle.stream.specs.Records.{headOf, bodyLength}
+use lib.ListN.{take, drop}
+use lib.Seq.{slice}
+use Rattle.stream.proofs.Slices.{take-drop}
+use Rattle.stream.proofs.Taking.{some-head, lacks-room, lacks-a-head, ends, gives-before}
+use borrow.Author.Needs.{needs}
+use Rattle.stream.proofs.next_record.Statement.{statement}
+use Rattle.stream.proofs.next_record.Tie as tie
+
+-- the part that the length is read from is what is unread
+taken : (b : List ℕ) (at end : ℕ) → at ≤ end → take (end - at) (drop at b) ≡ slice at end b
+taken b at end h = take-drop at (end - at) b ∙ ap (λ (k : ℕ). slice at k b) (let e : at + (end - at) ≡ end = omega arith in e)
+
+head-of-requires : tie.Need-head-of-requires
+head-of-requires c κs = search needs
+
+add-if1 : tie.Need-add-if1
+add-if1 c = record { fits = omega (arith, c .head-of .ensures, some-head (c .before .before .args .kind) .1) }
+
+returns : tie.Need-returns
+returns c =
+    let h = c .before in
+    let a = h .before .before .args in
+    lacks-room (a .kind) (a .buf .now) (a .input) (rw (h .head-of .ensures) at (c .if1 .taken))
+
+within-requires : tie.Need-within-requires
+within-requires c κs = search needs
+
+ready-requires : tie.Need-ready-requires
+ready-requires c κs = search needs
+
+same-length : tie.Need-same-length
+same-length c = search needs
+
+returns-2 : tie.Need-returns-2
+returns-2 c =
+    let r = c .before .before .before in
+    let w = r .before .before in
+    let h = w .before .before in
+    let a = h .before .before .args in
+    ends (a .kind) (w .within .ensures) (r .ready .ensures) (omega (arith, h .head-of .ensures, w .before .if1 .left)) (c .if2 .taken)
+
+sub-if3 : tie.Need-sub-if3
+sub-if3 c = search needs
+
+same-length-2 : tie.Need-same-length-2
+same-length-2 c = search needs
+
+returns-3 : tie.Need-returns-3
+returns-3 c =
+    let r = c .before .before .before .before in
+    let w = r .before .before in
+    let h = w .before .before in
+    let a = h .before .before .args in
+    lacks-a-head (a .kind) (w .within .ensures) (r .ready .ensures) (omega (arith, c .before .if2 .left, r .ready .ensures .order)) (rw (h .head-of .ensures) at (c .if3 .taken))
+
+sub-body-length : tie.Need-sub-body-length
+sub-body-length c = search needs
+
+part-body-length-start : tie.Need-part-body-length-start
+part-body-length-start c = search needs
+
+part-body-length-end : tie.Need-part-body-length-end
+part-body-length-end c = search needs
+
+body-length-requires : tie.Need-body-length-requires
+body-length-requires c κs = search needs
+
+take-body-requires : tie.Need-take-body-requires
+take-body-requires c κs =
+    let b = c .before in
+    let t = b .before .before .before in
+    let r = t .before .before .before .before in
+    let h = r .before .before .before .before in
+    let a = h .before .before .args in
+    record {
+      order = r .ready .ensures .order;
+      within = r .ready .ensures .within;
+      room = omega (arith, h .head-of .ensures, r .before .before .before .if1 .left, r .ready .ensures .same-length);
+      head = omega (arith, h .head-of .ensures, t .if3 .left);
+      is = b .body-length .ensures ∙ ap (bodyLength (a .kind)) (taken (r .ready .last .0) (r .ready .result .at) (r .ready .result .end) (r .ready .ensures .order));
+    }
+
+same-length-3 : tie.Need-same-length-3
+same-length-3 c = search needs
+
+returns-4 : tie.Need-returns-4
+returns-4 c =
+    let t = c .before .before in
+    let r = t .before .before .before .before .before .before .before .before .before in
+    let w = r .before .before in
+    let a = w .before .before .before .before .args in
+    gives-before (a .kind) (w .within .ensures) (r .ready .ensures) (t .take-body .last .0) (t .take-body .result) (t .take-body .ensures)
+
+pub next-record-spec : {M : Type 1} → statement M
+next-record-spec =
+    tie.close
+    (tie.spec
+    head-of-requires
+    add-if1
+    returns
+    within-requires
+    ready-requires
+    same-length
+    returns-2
+    sub-if3
+    same-length-2
+    returns-3
+    sub-body-length
+    part-body-length-start
+    part-body-length-end
+    body-length-requires
+    take-body-requires
+    same-length-3
+    returns-4)

@@ -1,0 +1,26 @@
+-- A number of at most 4 bytes. Assumes nothing.
+use mathlib.Core.Path.{_≡_, ap, _∙_, subst}
+use Prim.Native.Nat.{ℕ, _^_, _<_, _≤_, min}
+use native.Mathlib.Omega.{arith}
+use native.Mathlib.Nat.{lt-of-lt-of-le, pow-le-pow-right}
+use lib.ListN.{drop}
+use Rattle.wire.specs.Bytes.{be}
+use borrow.Author.Needs.{needs}
+use Rattle.stream.proofs.number_at.Statement.{statement}
+use Rattle.stream.proofs.number_at.Tie as tie
+
+number-requires : tie.Need-number-requires
+number-requires c κs = search needs
+
+returns : tie.Need-returns
+returns c =
+    let n = c .number .ensures in
+    let k = c .before .before .args .k in
+    let e : min k 8 ≡ k = omega arith in
+    let m : 256 ^ k ≤ 256 ^ 4 = pow-le-pow-right (omega arith) (c .before .before .pre) in (
+      n .value ∙ ap (λ (j : ℕ). be j (drop (c .before .before .args .at) (c .before .before .args .b .now))) e,
+      lt-of-lt-of-le (subst (λ (j : ℕ). c .number .result < 256 ^ j) e (n .fits)) m,
+    )
+
+pub number-at-spec : {M : Type 1} → statement M
+number-at-spec = tie.close (tie.spec number-requires returns)

@@ -1,0 +1,57 @@
+-- The whole input: the buffer is filled, and where it is full one read more tells whether the input is longer. Assumes nothing.
+use mathlib.Core.Path.{_≡_, subst}
+use Prim.Native.Nat.{ℕ}
+use native.Mathlib.Omega.{arith}
+use lib.ListN.{length}
+use Rattle.stream.specs.Windows.{Grown}
+use Rattle.stream.proofs.Held.{held-all, exceeds}
+use borrow.Author.Needs.{needs}
+use Rattle.stream.proofs.read_all.Statement.{statement}
+use Rattle.stream.proofs.read_all.Tie as tie
+
+fill-requires : tie.Need-fill-requires
+fill-requires c κs = search needs
+
+same-length : tie.Need-same-length
+same-length c = search needs
+
+returns : tie.Need-returns
+returns c = held-all (c .before .before .before .fill .ensures)
+
+slice-aggregate-read-from : tie.Need-slice-aggregate-read-from
+slice-aggregate-read-from c = search needs
+
+read-from-requires : tie.Need-read-from-requires
+read-from-requires c κs = search needs
+
+same-length-2 : tie.Need-same-length-2
+same-length-2 c = search needs
+
+returns-2 : tie.Need-returns-2
+returns-2 c = held-all (c .before .before .before .before .before .before .before .fill .ensures)
+
+same-length-3 : tie.Need-same-length-3
+same-length-3 c = search needs
+
+returns-3 : tie.Need-returns-3
+returns-3 c =
+    let r = c .before .before in
+    let t = r .before .before in
+    let f = t .before .before .before in
+    let b = f .before .before .before .args .buf .now in
+    let e : f .fill .result ≡ length b = omega (arith, t .if1 .left, f .fill .ensures .within, f .fill .ensures .same-length) in
+    exceeds (subst (λ (k : ℕ). Grown b 0 (f .fill .last .0) k) e (f .fill .ensures)) (r .read-from .ensures) (c .if2 .left)
+
+pub read-all-spec : {M : Type 1} → statement M
+read-all-spec =
+    tie.close
+    (tie.spec
+    fill-requires
+    same-length
+    returns
+    slice-aggregate-read-from
+    read-from-requires
+    same-length-2
+    returns-2
+    same-length-3
+    returns-3)

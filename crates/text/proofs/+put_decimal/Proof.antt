@@ -1,0 +1,87 @@
+-- A number in decimal: the text of n / 10, then the last digit. The measure is n. Assumes nothing.
+use mathlib.Core.Path.{sym, ap, _∙_}
+use mathlib.Core.List.{[], _∷_, _++_}
+use borrow.Author.Needs.{needs}
+use Rattle.text.specs.Text.{decimal}
+use Rattle.text.proofs.Puts.{put-then, put-is}
+use Rattle.text.proofs.Texts.{decimal-low, decimal-high}
+use Prim.Native.Nat.{ℕ, _/_, _<_}
+use borrow.Fn.Kinds.{In}
+use borrow.Fn.PlainCycle.{Measures, is, falls, and}
+use Rattle.text.proofs.put_decimal.Reads as put-decimal
+use Rattle.text.proofs.put_decimal.Kinds as put-decimal-kinds
+use Rattle.text.proofs.+put_decimal.Lts-put_decimal as put-decimal-lts
+use Rattle.text.proofs.letter.Reads as letter-reads
+use Rattle.text.proofs.put_one.Reads as put-one-reads
+use Rattle.text.proofs.+put_decimal.{statement}
+use Rattle.text.proofs.+put_decimal.Tie.{close}
+
+abbrev μ-put-decimal : Measures 1 put-decimal-kinds.ps ℕ
+μ-put-decimal κs a = a .1 .1 .0
+
+abbrev put-decimal-at : ℕ → In 1 put-decimal-kinds.ps
+put-decimal-at t =
+    and 1 put-decimal-kinds.ps (is 1 put-decimal-kinds.ps μ-put-decimal t) put-decimal.Pre
+
+abbrev put-decimal-below : ℕ → In 1 put-decimal-kinds.ps
+put-decimal-below t =
+    and 1 put-decimal-kinds.ps (falls 1 put-decimal-kinds.ps _<_ μ-put-decimal t) put-decimal.Pre
+
+abbrev callees : ℕ → put-decimal-lts.Claims
+callees t = (
+  letter-reads.Asked,
+  letter-reads.Learnt,
+  put-one-reads.Asked,
+  put-one-reads.Learnt,
+  put-decimal-below t,
+  put-decimal.Post,
+)
+
+put-decimal-letter-requires : (t : ℕ) → put-decimal-lts.Need-letter-requires (callees t) (put-decimal-at t) put-decimal.Post
+put-decimal-letter-requires t c κs = search needs
+
+put-decimal-put-one-requires : (t : ℕ) → put-decimal-lts.Need-put-one-requires (callees t) (put-decimal-at t) put-decimal.Post
+put-decimal-put-one-requires t c κs = search needs
+
+put-decimal-same-length : (t : ℕ) → put-decimal-lts.Need-same-length (callees t) (put-decimal-at t) put-decimal.Post
+put-decimal-same-length t c = search needs
+
+put-decimal-returns : (t : ℕ) → put-decimal-lts.Need-returns (callees t) (put-decimal-at t) put-decimal.Post
+put-decimal-returns t c =
+    let l = c .before .before .before in
+    let n = l .before .before .before .before .args .n in
+    put-is (c .before .before .put-one .ensures)
+    (ap (λ (b : ℕ). b ∷ []) (l .letter .ensures) ∙ sym (decimal-low n (l .before .before .if1 .taken)))
+
+put-decimal-put-decimal-requires : (t : ℕ) → put-decimal-lts.Need-put-decimal-requires (callees t) (put-decimal-at t) put-decimal.Post
+put-decimal-put-decimal-requires t c κs = search needs
+
+put-decimal-letter-requires-2 : (t : ℕ) → put-decimal-lts.Need-letter-requires-2 (callees t) (put-decimal-at t) put-decimal.Post
+put-decimal-letter-requires-2 t c κs = search needs
+
+put-decimal-put-one-requires-2 : (t : ℕ) → put-decimal-lts.Need-put-one-requires-2 (callees t) (put-decimal-at t) put-decimal.Post
+put-decimal-put-one-requires-2 t c κs = search needs
+
+put-decimal-same-length-2 : (t : ℕ) → put-decimal-lts.Need-same-length-2 (callees t) (put-decimal-at t) put-decimal.Post
+put-decimal-same-length-2 t c = search needs
+
+put-decimal-returns-2 : (t : ℕ) → put-decimal-lts.Need-returns-2 (callees t) (put-decimal-at t) put-decimal.Post
+put-decimal-returns-2 t c =
+    let l = c .before .before .before in
+    let d = l .before .before .before .before in
+    let n = d .before .before .before .before .args .n in
+    put-is (put-then (d .put-decimal .ensures) (c .before .before .put-one2 .ensures))
+    (ap (λ (b : ℕ). decimal (n / 10) ++ b ∷ []) (l .letter2 .ensures) ∙ sym (decimal-high n (d .before .before .if1 .left)))
+
+pub +put-decimal-spec : {M : Type 1} → statement M
++put-decimal-spec = close μ-put-decimal λ t. put-decimal-lts.spec (callees t) (put-decimal-at t)
+    put-decimal.Post
+    (put-decimal-letter-requires t)
+    (put-decimal-put-one-requires t)
+    (put-decimal-same-length t)
+    (put-decimal-returns t)
+    (put-decimal-put-decimal-requires t)
+    (put-decimal-letter-requires-2 t)
+    (put-decimal-put-one-requires-2 t)
+    (put-decimal-same-length-2 t)
+    (put-decimal-returns-2 t)

@@ -1,0 +1,76 @@
+-- A signed number in decimal. Assumes nothing.
+use mathlib.Core.Path.{_≡_, sym, ap, _∙_, subst}
+use mathlib.Core.Bool.{Bool}
+use mathlib.Core.List.{_∷_}
+use Prim.Native.Nat.{ℕ}
+use lib.IntN.{ℤ, pos, natAbs}
+use lib.Signed.{ltZ}
+use mir.Syntax.{w64}
+use mir.Val.{toZ, ofZ}
+use mir.ValLaws.{toZ-ofZ}
+use borrow.Author.Needs.{needs}
+use Rattle.text.specs.Text.{decimal}
+use Rattle.text.proofs.Puts.{put-then, put-is}
+use Rattle.text.proofs.Texts.{signed-below, signed-above}
+use Rattle.text.proofs.put_signed.Statement.{statement}
+use Rattle.text.proofs.put_signed.Tie as tie
+
+-- the number as the machine reads it back
+same : (c : tie.Start) → toZ w64 (ofZ w64 (c .args .z)) ≡ c .args .z
+same c = toZ-ofZ w64 (c .args .z) (c .fits .z)
+
+-- and what a test of it says
+tested : (c : tie.Start) {b : Bool} → ltZ (toZ w64 (ofZ w64 (c .args .z))) (pos 0) ≡ b → ltZ (c .args .z) (pos 0) ≡ b
+tested c {b} = subst (λ (z : ℤ). ltZ z (pos 0) ≡ b) (same c)
+
+put-one-requires : tie.Need-put-one-requires
+put-one-requires c κs = search needs
+
+negated-requires : tie.Need-negated-requires
+negated-requires c κs = search needs
+
+put-decimal-requires : tie.Need-put-decimal-requires
+put-decimal-requires c κs = search needs
+
+same-length : tie.Need-same-length
+same-length c = search needs
+
+returns : tie.Need-returns
+returns c =
+    let d = c .before .before in
+    let one = d .before .before .before .before .before in
+    let t = one .before .before in
+    let s = t .before .before in
+    put-is (put-then (one .put-one .ensures) (d .put-decimal .ensures))
+    (ap (λ (n : ℕ). 45 ∷ decimal n) (d .before .negated .ensures ∙ ap natAbs (same s)) ∙ sym (signed-below (s .args .z) (tested s (t .if1 .taken))))
+
+counted-requires : tie.Need-counted-requires
+counted-requires c κs = search needs
+
+put-decimal-requires-2 : tie.Need-put-decimal-requires-2
+put-decimal-requires-2 c κs = search needs
+
+same-length-2 : tie.Need-same-length-2
+same-length-2 c = search needs
+
+returns-2 : tie.Need-returns-2
+returns-2 c =
+    let d = c .before .before in
+    let t = d .before .before .before in
+    let s = t .before .before in
+    put-is (d .put-decimal2 .ensures)
+    (ap decimal (d .before .counted .ensures ∙ ap natAbs (same s)) ∙ sym (signed-above (s .args .z) (tested s (t .if1 .left))))
+
+pub put-signed-spec : {M : Type 1} → statement M
+put-signed-spec =
+    tie.close
+    (tie.spec
+    put-one-requires
+    negated-requires
+    put-decimal-requires
+    same-length
+    returns
+    counted-requires
+    put-decimal-requires-2
+    same-length-2
+    returns-2)
