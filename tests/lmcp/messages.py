@@ -171,10 +171,7 @@ def write(l, calculate):
         refuse(28)
     if 12 + len(out) > LIMIT:
         refuse(21)
-    m = framed(bytes(out), calculate)
-    if calculate and m[-4:] == b"\0\0\0\0":
-        refuse(30)
-    return m
+    return framed(bytes(out), calculate)
 
 
 # ---- what the two filters print

@@ -224,7 +224,6 @@ u32 ref_write_message(const i64 *list, u64 numbers, int calculate, u8 *out, u64 
     memcpy(out, "LMCP", 4);
     ref_put(out + 4, 4, root);
     u32 sum = calculate ? ref_checksum(out, 8 + root) : 0;
-    if (calculate && sum == 0) return 30;
     ref_put(out + 8 + root, 4, sum);
     *length = 12 + root;
     return 0;

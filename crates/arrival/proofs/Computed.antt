@@ -16,13 +16,14 @@ use Rattle.steps.specs.Held.{noneHeld, isHeld, hold}
 use Rattle.steps.specs.Memory.{among, emptyMemory, isRemembered, remember, memoryOk, since}
 use Rattle.steps.specs.Slots.{oldest, openCount, lower, release, seat, opening, filled}
 use Rattle.steps.specs.Receive.{opened, stay, sameFragment, agrees, step3, decide, step5, act, receive, sound, step}
-use Rattle.steps.specs.Marked.{A, B}
+use Rattle.steps.specs.Runs.{run}
+use Rattle.steps.specs.Worked.{A-of, B-of}
 use Rattle.arrival.specs.Demand.{Distinct, SentCut, AtCompletion, NoneEmptied, NeverOverEight, NeverTooLate, after, delivery, done, unfinished, completes, completed}
-use Rattle.arrival.specs.Worked.{A-of, B-of, small-of, fromEach, inTwo, paperScene, paperFeed, twinScene, nineScene, crowdedFeed, manyScene, manyFeed}
+use Rattle.arrival.specs.Worked.{small-of, fromEach, inTwo, paperScene, paperFeed, twinScene, nineScene, crowdedFeed, manyScene, manyFeed}
 use Rattle.arrival.proofs.Pieces.{fragmentSaid}
 
 pub paper-at-completion : AtCompletion paperScene paperFeed
-unfolding delivery after done completes step sound receive decide act stay step3 step5 sameFragment agrees seat oldest release lower opening openCount filled opened emptyMemory isRemembered remember memoryOk among isHeld hold noneHeld said readDatagram readSmall readFragment formed goodForm nameLength goodName untilZero be overlay A B small-of
+unfolding delivery after run done completes step sound receive decide act stay step3 step5 sameFragment agrees seat oldest release lower opening openCount filled opened emptyMemory isRemembered remember memoryOk among isHeld hold noneHeld said readDatagram readSmall readFragment formed goodForm nameLength goodName untilZero be overlay A-of B-of small-of
 paper-at-completion = (((((tt, refl), refl), refl), refl), refl)
 
 -- two messages of one key
@@ -35,7 +36,7 @@ twins-shut-out p =
 pub large-shut-out : SentCut 2 (inTwo 7) → ⊥
 unfolding said readDatagram readFragment formed goodForm nameLength goodName untilZero be A-of
 large-shut-out s =
-    let three : 3 ≡ s .cut .size = ap (λ (r : Said). fragmentSaid r .size) (s .cut .good 0 (s .some-parts)) ∙ s .cut .sizes 0 (s .some-parts) in
+    let three : 3 ≡ s .cut .size = ap (λ (r : Said). fragmentSaid r .size) (s .cut .good 0 (s .cut .at-least-one)) ∙ s .cut .sizes 0 (s .cut .at-least-one) in
     let most : s .cut .size ≤ 2 = s .no-larger in
     omega arith
 

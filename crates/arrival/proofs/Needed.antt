@@ -19,9 +19,10 @@ use Rattle.steps.specs.Memory.{among, emptyMemory, isRemembered, remember, memo
 use Rattle.steps.specs.Slots.{oldest, openCount, lower, release, releaseOf, seat, opening, filled}
 use Rattle.steps.specs.Receive.{Machine, After, opened, stay, sameFragment, agrees, step3, decide, step5, act, receive, sound, step, forget}
 use Rattle.steps.specs.Answers.{Reply, refusedBy, kept, delivered, reply}
-use Rattle.steps.specs.Marked.{A, B}
+use Rattle.steps.specs.Runs.{run}
+use Rattle.steps.specs.Worked.{A-of, B-of}
 use Rattle.arrival.specs.Demand.{Feed, Delivery, after, delivery, deliveries, done, unfinished, completes, completed, Promised}
-use Rattle.arrival.specs.Worked.{A-of, B-of, small-of, A-gap, B-gap, fromEach, EachNeeded, twinScene, twinFeed, gapScene, bothFeed, largeScene, barredScene, oneScene, strangerFeed, lackingFeed, nineScene, crowdedFeed, manyScene, manyFeed}
+use Rattle.arrival.specs.Worked.{small-of, A-gap, B-gap, fromEach, EachNeeded, twinScene, twinFeed, gapScene, bothFeed, largeScene, barredScene, oneScene, strangerFeed, lackingFeed, nineScene, crowdedFeed, manyScene, manyFeed}
 use Rattle.arrival.proofs.Tests.{tests, giving}
 
 not-handed : {d : Delivery} → _≡_ {A = Option Delivery} none (some d) → ⊥
@@ -55,7 +56,7 @@ others-met = refl
 
 -- and the promise is broken: most often the arrival that completes a message hands over nothing
 pub each-needed : EachNeeded
-unfolding delivery after done completes step sound receive decide act stay step3 step5 sameFragment agrees seat oldest release releaseOf lower opening openCount filled opened emptyMemory isRemembered remember memoryOk others forgetKeys forget among isHeld hold noneHeld said readDatagram readSmall readFragment formed goodForm nameLength goodName untilZero be overlay A B small-of A-of B-of A-gap B-gap fromEach
+unfolding delivery after run done completes step sound receive decide act stay step3 step5 sameFragment agrees seat oldest release releaseOf lower opening openCount filled opened emptyMemory isRemembered remember memoryOk others forgetKeys forget among isHeld hold noneHeld said readDatagram readSmall readFragment formed goodForm nameLength goodName untilZero be overlay small-of A-of B-of A-gap B-gap fromEach
 each-needed = record {
   distinct = λ p. not-handed (p .at-completion .1);
   lawfully-cut = λ p. not-handed (p .at-completion .1);

@@ -27,21 +27,21 @@ use Rattle.steps.specs.Search.{allBelow, count}
 use Rattle.steps.specs.Memory.{keyOf, Memory, isRemembered, remember, rememberAll, memoryOk, Lately, among}
 use Rattle.steps.specs.Slots.{Slot, busy, noSlot, slotAt, padded, findOpen, findFree, opening}
 use Rattle.steps.specs.Receive.{Machine, After, opened, stay, step3, step5, act, deliveredSmall, receive, slotOk, sound, step, sequenceOf}
+use Rattle.steps.specs.Answers.{emptiedKey}
+use Rattle.steps.specs.Runs.{World, worldOf, fresh, keyIn, run}
+use Rattle.steps.proofs.Running.{left-more}
 use Rattle.steps.proofs.Tables.{all-of, count-flip, count-none, count-all}
 use Rattle.steps.proofs.Memories.{recalled, strange, memory-ok}
 use Rattle.steps.proofs.Seats.{busyAt, look, Found, open-found, open-none, free-found, free-none, Changed, set-changed, set-here}
 use Rattle.steps.proofs.Stores.{part-fits}
 use Rattle.steps.proofs.Branches.{step-sound, receive-refused, small-again, small-whole, fragment-again, fragment-free, fragment-open}
-use Rattle.arrival.specs.Demand.{Message, SentSmall, SentCut, Scene, key, parts, datagram, size, message, slotBytes, Event, part, noise, Feed, start, _▹_, senderOf, bytesOf, World, call, after, got, begun, done, completes, completed, keysOf, unfinished, handed, nameIn, own}
+use Rattle.arrival.specs.Demand.{Message, SentSmall, SentCut, Scene, key, parts, datagram, size, message, slotBytes, Event, part, noise, Feed, start, _▹_, bytesOf, arrival, arrivals, call, after, got, begun, done, completes, completed, keysOf, unfinished, handed, nameIn, own}
 use Rattle.arrival.proofs.Within.{small-within}
 use Rattle.arrival.proofs.Pieces.{piece, Cut, cut-of, payload-fits, few-parts}
 use Rattle.arrival.proofs.Joining.{Holds, holds-open, arrives-again, arrives-new}
 use Rattle.arrival.proofs.Sitting.{Owner, Placed, Slots, slots-same, owner-holds}
 use Rattle.arrival.proofs.Storing.{storedOut, stored-slots, stored-is, stored-bytes}
-use Rattle.arrival.proofs.Track.{Lawful, MayArrive, Arrival, Fair, got-own, got-other, got-again, begun-own, begun-other, not-begun, done-other, done-stays, done-again, live-other, completes-yes, completes-not, completes-past, completed-none, completed-some, done-keys, ended-dead}
-
-abbrev pub worldOf : After → World
-worldOf a = record { machine = a .machine; store = a .store; ledger = a .ledger }
+use Rattle.arrival.proofs.Track.{Lawful, MayArrive, Arrives, Fair, got-own, got-other, got-again, begun-own, begun-other, not-begun, done-other, done-stays, done-again, live-other, completes-yes, completes-not, completes-past, completed-none, completed-some, done-keys, ended-dead}
 
 -- The invariant: the slots are those of the unfinished messages, and the memory is that of the completed ones.
 pub record Inv (σ : Scene) (f : Feed) (w : World) : Type 0 where
@@ -50,14 +50,11 @@ pub record Inv (σ : Scene) (f : Feed) (w : World) : Type 0 where
   pub sized : w .machine .slotSize ≡ slotBytes σ
   pub memory : w .machine .memory ≡ rememberAll (keysOf σ (completed σ f))
 
-abbrev pub keyIn : Scene → Event → Key
-keyIn σ e = keyOf (senderOf σ e) (sequenceOf (said (slotBytes σ) maxFragments (bytesOf σ e)))
-
 -- an arrival goes as demanded
 pub record Fine (σ : Scene) (f : Feed) (e : Event) (a : After) : Type 0 where
   pub inv : Inv σ (f ▹ e) (worldOf a)
-  pub hands : handed (keyIn σ e) (bytesOf σ e) a ≡ Option·map (own σ) (completes σ f e)
-  pub spared : a .emptied ≡ Nobody
+  pub hands : handed (keyIn (slotBytes σ) (arrival σ e)) (bytesOf σ e) a ≡ Option·map (own σ) (completes σ f e)
+  pub spared : emptiedKey (a .emptied) ≡ none
 
 -- ---- a name in 63 bytes is read back
 
@@ -284,7 +281,7 @@ module _ (σ : Scene) (law : Lawful σ) (f : Feed) (fair : Fair σ f) (w : World
     its-key : keyOf (m .sender) (fr .sequence) ≡ key m
     its-key = ap (keyOf (m .sender)) (cut .its-sequence k (c .exists))
 
-    key-here : keyIn σ (part i k) ≡ key m
+    key-here : keyIn (slotBytes σ) (arrival σ (part i k)) ≡ key m
     key-here = ap (λ (r : Said). keyOf (m .sender) (sequenceOf r)) (cut .reads k (c .exists)) ∙ its-key
 
     good-name : goodName (m .name) ≡ true
@@ -416,7 +413,7 @@ module _ (σ : Scene) (law : Lawful σ) (f : Feed) (fair : Fair σ f) (w : World
 
 -- ---- the whole feed
 
-pub arrival-fine : (σ : Scene) → Lawful σ → (f : Feed) → Fair σ f → (w : World) → Inv σ f w → (e : Event) → Arrival σ f e → Fine σ f e (call σ w e)
+pub arrival-fine : (σ : Scene) → Lawful σ → (f : Feed) → Fair σ f → (w : World) → Inv σ f w → (e : Event) → Arrives σ f e → Fine σ f e (call σ w e)
 arrival-fine σ law f fair w v (part i k) c = part-out σ law f fair w v i k c
 arrival-fine σ law f fair w v (noise from d) c = noise-out σ f w v from d (c .number) (c .refuses)
 
@@ -429,7 +426,7 @@ idle-start σ i = go (message σ i .fragmented)
     go false = refl
 
 start-inv : (σ : Scene) → Lawful σ → Inv σ start (after σ start)
-unfolding after opened completed rememberAll
+unfolding after run opened completed rememberAll
 start-inv σ law = record {
   slots = record {
     eight = length-replicate slotCount noSlot;
@@ -448,7 +445,11 @@ start-inv σ law = record {
     fresh : (s : ℕ) → s < slotCount → busy (look (replicate slotCount noSlot) s) ≡ false
     fresh s b = ap busy (getD-replicate slotCount s noSlot noSlot b)
 
-pub invariant : (σ : Scene) → Lawful σ → (f : Feed) → Fair σ f → Inv σ f (after σ f)
+-- one call more
+pub after-more : (σ : Scene) (f : Feed) (e : Event) → after σ (f ▹ e) ≡ worldOf (call σ (after σ f) e)
 unfolding after
+after-more σ f e = left-more (fresh (σ .store) (σ .ledger)) (arrivals σ f) (arrival σ e)
+
+pub invariant : (σ : Scene) → Lawful σ → (f : Feed) → Fair σ f → Inv σ f (after σ f)
 invariant σ law start fair = start-inv σ law
-invariant σ law (f ▹ e) fair = arrival-fine σ law f (fair .0) (after σ f) (invariant σ law f (fair .0)) e (fair .1) .inv
+invariant σ law (f ▹ e) fair = subst (Inv σ (f ▹ e)) (sym (after-more σ f e)) (arrival-fine σ law f (fair .0) (after σ f) (invariant σ law f (fair .0)) e (fair .1) .inv)

@@ -57,8 +57,8 @@ module _ (C sender q : ℕ) (name payload : List ℕ) (m : ℕ) (w : Cuttable ma
 
     in-fragments : length payload ≤ C → SentCut C ours
     in-fragments fits = record {
-      some-parts = rw its-parts (count-some (length name) (length payload) m (w .sized) large);
       cut = record {
+        at-least-one = rw its-parts (count-some (length name) (length payload) m (w .sized) large);
         sequence = q;
         size = length payload;
         piece = cutFragment q name payload m;

@@ -82,14 +82,14 @@ module _ (C : ℕ) (m : Message) (s : SentCut C m) where
   fr-formed k h = fragment-formed C maxFragments (datagram m k) (cut .piece k) (said-here k h)
 
   fr-begins : (k : ℕ) → k < parts m → length (joined (λ j. cut .piece j .bytes) k) ≡ cut .piece k .offset
-  fr-begins = begin-at (parts m) (cut .piece) (fr-formed 0 (s .some-parts) .first (cut .numbers 0 (s .some-parts))) (cut .follows)
+  fr-begins = begin-at (parts m) (cut .piece) (fr-formed 0 (s .cut .at-least-one) .first (cut .numbers 0 (s .cut .at-least-one))) (cut .follows)
 
   -- P is the payload's length
   whole-size : cut .size ≡ length (m .payload)
   whole-size = go (parts m) refl
     where
       go : (n : ℕ) → n ≡ parts m → cut .size ≡ length (m .payload)
-      go zero e = absurd (let z : ⊥ = omega (arith, s .some-parts) in z)
+      go zero e = absurd (let z : ⊥ = omega (arith, s .cut .at-least-one) in z)
       go (suc k) e =
           let h : k < parts m = omega arith in
           sym (cut .sizes k h)
@@ -104,14 +104,14 @@ module _ (C : ℕ) (m : Message) (s : SentCut C m) where
 
   pub cut-of : Cut C m
   cut-of = record {
-    some-parts = s .some-parts;
+    some-parts = s .cut .at-least-one;
     reads = λ k h. said-here k h ∙ ap fragment (sym (piece-is k h));
     formed = λ k h. subst (Formed C maxFragments) (sym (piece-is k h)) (fr-formed k h);
     its-number = λ k h. ap (λ (f : Fragment). f .number) (piece-is k h) ∙ cut .numbers k h;
     its-sequence = λ k h. ap (λ (f : Fragment). f .sequence) (piece-is k h) ∙ cut .sequences k h ∙ s .its-sequence;
     its-size = λ k h. ap (λ (f : Fragment). f .size) (piece-is k h) ∙ cut .sizes k h ∙ whole-size;
     its-count = λ k h. ap (λ (f : Fragment). f .count) (piece-is k h) ∙ cut .counts k h;
-    its-name = ap (λ (f : Fragment). f .name) (piece-is 0 (s .some-parts)) ∙ s .its-name;
+    its-name = ap (λ (f : Fragment). f .name) (piece-is 0 (s .cut .at-least-one)) ∙ s .its-name;
     begins = λ k h.
         ap length (joined-same (λ j. piece C m j .bytes) (λ j. cut .piece j .bytes) k (λ j l. bytes-are j (omega arith)))
         ∙ fr-begins k h ∙ ap (λ (f : Fragment). f .offset) (sym (piece-is k h));

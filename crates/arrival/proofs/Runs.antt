@@ -7,19 +7,17 @@ use Prim.Native.Nat.{ℕ}
 use lib.Dec.{eqb}
 use lib.ListN.{length}
 use Rattle.wire.specs.Choice.{pick}
-use Rattle.datagram.specs.Limits.{maxFragments}
-use Rattle.datagram.specs.Said.{said}
-use Rattle.steps.specs.declared.Key.{Key}
-use Rattle.steps.specs.Memory.{keyOf}
-use Rattle.steps.specs.Receive.{Machine, After, opened, step, sequenceOf}
-use Rattle.steps.specs.Answers.{Reply, reply}
+use Rattle.steps.specs.Receive.{Machine, After, opened, step}
+use Rattle.steps.specs.Answers.{Reply, reply, emptiedKey}
+use Rattle.steps.specs.Runs.{World, keyIn, run}
 use Rattle.receiver.specs.declared.Outcome.{Outcome}
 use Rattle.receiver.specs.declared.Call.{Call}
 use Rattle.receiver.specs.View.{view, shaped}
 use Rattle.receiver.specs.Calls.{refusalOf, Opens, Receives, received}
-use Rattle.arrival.specs.Demand.{Scene, slotBytes, Event, Feed, start, _▹_, senderOf, bytesOf, Delivery, nameIn, handedBy, handed, push, call, after, own, completed, delivery, deliveries, Supposed, Promised}
-use Rattle.arrival.specs.Runs.{Lent, Calls, opens, calls, handedOver, CodePromised}
+use Rattle.arrival.specs.Demand.{Scene, slotBytes, Event, Feed, start, _▹_, senderOf, bytesOf, arrival, Delivery, nameIn, handedBy, handed, push, call, after, own, completed, delivery, deliveries, NoneEmptied, Supposed, Promised}
+use Rattle.arrival.specs.Runs.{Lent, Calls, opens, calls, handsOver, handedOver, EachCall, CodePromised}
 use Rattle.arrival.proofs.Track.{Lawful, fair-of}
+use Rattle.arrival.proofs.Order.{after-more}
 use Rattle.arrival.proofs.Demand3.{delivered-own, demand3}
 
 -- what is lent shows the world of the step list
@@ -40,7 +38,7 @@ was-shaped false e = absurd (Option·some-ne-none 9 e)
 module _ (σ : Scene) where
   opening-shows : (w n : List ℕ) (r : Call) (w′ n′ : List ℕ) → Opens w n (length (σ .store)) r w′ n′ → refusalOf r ≡ none
       → Shows σ start (record { state = w′; names = n′; store = σ .store; ledger = σ .ledger })
-  unfolding after
+  unfolding after run
   opening-shows w n r w′ n′ o q =
       let s : shaped w n ≡ true = was-shaped (shaped w n) (sym (o .gave) ∙ q) in
       record {
@@ -59,22 +57,24 @@ module _ (σ : Scene) where
     module _ (r : Outcome) (l′ : Lent)
         (k : Receives (l .state) (l .names) (l .store) (l .ledger) (senderOf σ e) (bytesOf σ e) r (l′ .state) (l′ .names) (l′ .store) (l′ .ledger)) where
       call-shows : Shows σ (f ▹ e) l′
-      unfolding after
       call-shows = record {
         shape = shaped-on (l .state) (l .names) (l′ .state) (l′ .names) (k .words) (k .bytes) (h .shape);
-        machine = k .leaves .machine ∙ ap (λ (a : After). a .machine) received-is;
-        store = k .leaves .store ∙ ap (λ (a : After). a .store) received-is;
-        ledger = k .leaves .ledger ∙ ap (λ (a : After). a .ledger) received-is;
+        machine = k .leaves .machine ∙ ap (λ (a : After). a .machine) received-is ∙ sym (ap (λ (w : World). w .machine) (after-more σ f e));
+        store = k .leaves .store ∙ ap (λ (a : After). a .store) received-is ∙ sym (ap (λ (w : World). w .store) (after-more σ f e));
+        ledger = k .leaves .ledger ∙ ap (λ (a : After). a .ledger) received-is ∙ sym (ap (λ (w : World). w .ledger) (after-more σ f e));
       }
 
       -- and hands over the same
-      call-hands : handedBy (keyOf (senderOf σ e) (sequenceOf (said (slotBytes σ) maxFragments (bytesOf σ e)))) (nameIn (r .name)) (reply (bytesOf σ e) (l′ .store) (r .answer))
-          ≡ delivery σ f e
+      call-hands : handsOver (slotBytes σ) (arrival σ e) r (l′ .store) ≡ delivery σ f e
       unfolding delivery
       call-hands = λ i.
-          handedBy (keyOf (senderOf σ e) (sequenceOf (said (slotBytes σ) maxFragments (bytesOf σ e))))
+          handedBy (keyIn (slotBytes σ) (arrival σ e))
           (nameIn ((k .leaves .name ∙ ap (λ (a : After). a .name) received-is) i))
           (reply (bytesOf σ e) ((k .leaves .store ∙ ap (λ (a : After). a .store) received-is) i) ((k .leaves .answer ∙ ap (λ (a : After). a .answer) received-is) i))
+
+      -- and empties the same
+      call-empties : r .emptied ≡ call σ (after σ f) e .emptied
+      call-empties = k .leaves .emptied ∙ ap (λ (a : After). a .emptied) received-is
 
   shows : {f : Feed} {l : Lent} → Calls σ f l → Shows σ f l
   shows (opens w n r w′ n′ o q) = opening-shows w n r w′ n′ o q
@@ -85,6 +85,11 @@ module _ (σ : Scene) where
   hands (opens w n r w′ n′ o q) = refl
   hands (calls {f = f} {l = l} c e r l′ k) = λ i. push (call-hands f l (shows c) e r l′ k i) (hands c i)
 
+  each-call : {f : Feed} {l : Lent} → (c : Calls σ f l) → NoneEmptied σ f → EachCall c
+  each-call (opens w n r w′ n′ o q) z = tt
+  each-call (calls {f = f} {l = l} c e r l′ k) z =
+      (each-call c (z .0), call-hands f l (shows c) e r l′ k, ap emptiedKey (call-empties f l (shows c) e r l′ k) ∙ z .1)
+
 -- DEMAND 3 FOR THE CODE
 pub code-demand3 : (σ : Scene) (f : Feed) → Supposed σ f → (l : Lent) (c : Calls σ f l) → CodePromised σ f l c
 code-demand3 σ f s l c =
@@ -94,6 +99,7 @@ code-demand3 σ f s l c =
       machine = h .machine;
       store = h .store;
       ledger = h .ledger;
+      each-call = each-call σ c (demand3 σ f s .none-emptied);
       delivered = hands σ c;
       their-own = hands σ c ∙ delivered-own σ law f (fair-of σ f (s .mixture) (s .never-over-eight) (s .never-too-late));
       promised = demand3 σ f s;

@@ -190,8 +190,8 @@ module _ (C : ℕ) (m : Message) (e : sentCut C m ≡ true) where
 
   cut-sent : SentCut C m
   cut-sent = record {
-    some-parts = ltb-true 0 n (and-l (ltb 0 n) _ e);
     cut = record {
+      at-least-one = ltb-true 0 n (and-l (ltb 0 n) _ e);
       sequence = m .sequence;
       size = length (m .payload);
       piece = fr;

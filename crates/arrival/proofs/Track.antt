@@ -34,15 +34,15 @@ pub record MayArrive (σ : Scene) (f : Feed) (i k : ℕ) : Type 0 where
   pub room : count (unfinished σ f (f ▹ part i k)) (size σ) ≤ slotCount
   pub recent : done σ f i ≡ true → Lately (keysOf σ (completed σ f)) (key (message σ i))
 
-abbrev pub Arrival : Scene → Feed → Event → Type 0
-Arrival σ f (part i k) = MayArrive σ f i k
-Arrival σ f (noise from d) = RefusedForForm (slotBytes σ) d
+abbrev pub Arrives : Scene → Feed → Event → Type 0
+Arrives σ f (part i k) = MayArrive σ f i k
+Arrives σ f (noise from d) = RefusedForForm (slotBytes σ) d
 
 abbrev pub Fair : Scene → Feed → Type 0
 Fair σ start = Unit {0}
-Fair σ (f ▹ e) = Fair σ f × Arrival σ f e
+Fair σ (f ▹ e) = Fair σ f × Arrives σ f e
 
-arrival-of : (σ : Scene) (f : Feed) (e : Event) → MayCome σ e → count (unfinished σ f (f ▹ e)) (size σ) ≤ slotCount → StillKnown σ f e → Arrival σ f e
+arrival-of : (σ : Scene) (f : Feed) (e : Event) → MayCome σ e → count (unfinished σ f (f ▹ e)) (size σ) ≤ slotCount → StillKnown σ f e → Arrives σ f e
 arrival-of σ f (part i k) a b c = record { known = a .0; exists = a .1; room = b; recent = c }
 arrival-of σ f (noise from d) a b c = a
 
@@ -138,7 +138,7 @@ pub has-parts : (σ : Scene) → Lawful σ → (i : ℕ) → i < size σ → 0 <
 has-parts σ law i b = go (message σ i) (law .sent i b)
   where
     by : (m : Message) (c : Bool) → pick c (SentCut (slotBytes σ) m) (SentSmall m) → 0 < parts m
-    by m true s = s .some-parts
+    by m true s = s .cut .at-least-one
     by m false s = omega (arith, s .single)
 
     go : (m : Message) → Sent (slotBytes σ) m → 0 < parts m

@@ -7,14 +7,14 @@ use Rattle.datagram.specs.Read.{readSmall, goodForm, formed, readFragment, read
 use Rattle.datagram.specs.Said.{said}
 use Rattle.cutter.specs.Trip.{joined}
 use Rattle.steps.specs.Memory.{since}
-use Rattle.steps.specs.Marked.{A, B}
+use Rattle.steps.specs.Worked.{A-of, B-of}
 use Rattle.arrival.specs.Demand.{done, unfinished, completes, completed, Promised}
-use Rattle.arrival.specs.Worked.{A-of, B-of, small-of, paperScene, paperFeed, nineScene, fromEach, nineFeed}
+use Rattle.arrival.specs.Worked.{small-of, paperScene, paperFeed, nineScene, fromEach, nineFeed}
 use Rattle.arrival.proofs.Tests.{tests, allPass, tested}
 use Rattle.arrival.proofs.Demand3.{demand3}
 
 paper-meets : tests paperScene paperFeed ≡ allPass
-unfolding tests done unfinished completes completed since joined said readDatagram readSmall readFragment formed goodForm nameLength goodName untilZero be A B small-of
+unfolding tests done unfinished completes completed since joined said readDatagram readSmall readFragment formed goodForm nameLength goodName untilZero be A-of B-of small-of
 paper-meets = refl
 
 pub paper-promised : Promised paperScene paperFeed

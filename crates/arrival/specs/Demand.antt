@@ -15,11 +15,12 @@ use Rattle.cutter.specs.Trip.{joined}
 use Rattle.steps.specs.Limits.{slotCount, ledgerLength, slotSizeOf}
 use Rattle.steps.specs.Search.{allBelow, one, count}
 use Rattle.steps.specs.declared.Key.{Key}
-use Rattle.steps.specs.declared.Emptied.the-variants.{Nobody}
 use Rattle.steps.specs.Memory.{keyOf, sameKey, Lately}
 use Rattle.steps.specs.Slots.{busy, slotAt}
-use Rattle.steps.specs.Receive.{Machine, After, opened, step, sequenceOf}
-use Rattle.steps.specs.Answers.{Reply, refusedBy, kept, repeat, delivered, reply}
+use Rattle.steps.specs.Receive.{After}
+use Rattle.steps.specs.Answers.{Reply, refusedBy, kept, repeat, delivered, reply, emptiedKey}
+use Rattle.steps.specs.Runs.{World, fresh, Arrival, from, keyIn, run, leftBy}
+use Rattle.steps.specs.Runs as runs
 
 -- ==== "Take messages with distinct sender and sequence number, each sent small, or lawfully cut and no larger than a slot."
 
@@ -49,7 +50,6 @@ pub record SentSmall (m : Message) : Type 0 where
 
 -- fragments lawfully cut, in any lawful way, no larger than a slot of C bytes, with its sequence, name and payload
 pub record SentCut (C : ℕ) (m : Message) : Type 0 where
-  pub some-parts : 0 < parts m
   pub cut : LawfullyCut maxPayload maxFragments (parts m) (datagram m)
   pub no-larger : cut .size ≤ C
   pub its-sequence : cut .sequence ≡ m .sequence
@@ -131,18 +131,20 @@ EachComes σ f = (i k : ℕ) → i < size σ → k < parts (message σ i) → go
 
 -- ==== "always with the same store and ledger, changed by nobody else .. and nobody calls forget"
 
-pub record World : Type 0 where
-  pub machine : Machine
-  pub store : List ℕ
-  pub ledger : List ℕ
+abbrev pub arrival : Scene → Event → Arrival
+arrival σ e = from (senderOf σ e) (bytesOf σ e)
+
+-- in the order of arrival
+abbrev pub arrivals : Scene → Feed → List Arrival
+arrivals σ start = []
+arrivals σ (f ▹ e) = arrivals σ f ++ arrival σ e ∷ []
 
 abbrev pub call : Scene → World → Event → After
-call σ w e = step (w .machine) (w .store) (w .ledger) (senderOf σ e) (bytesOf σ e)
+call σ w e = runs.call w (arrival σ e)
 
 -- a fresh receiver, and then nothing but calls, each with what the one before left
 unfoldable pub after : Scene → Feed → World
-after σ start = record { machine = opened (length (σ .store)); store = σ .store; ledger = σ .ledger }
-after σ (f ▹ e) = let a : After = call σ (after σ f) e in record { machine = a .machine; store = a .store; ledger = a .ledger }
+after σ f = let w : World = fresh (σ .store) (σ .ledger) in leftBy w (run w (arrivals σ f))
 
 -- ==== "Suppose there are never more than eight fragmented messages begun and unfinished, counting the one arriving"
 
@@ -226,7 +228,7 @@ handed k d a = handedBy k (nameIn (a .name)) (reply d (a .store) (a .answer))
 -- what arrival e hands over, after the feed f
 unfoldable pub delivery : Scene → Feed → Event → Option Delivery
 delivery σ f e =
-    handed (keyOf (senderOf σ e) (sequenceOf (said (slotBytes σ) maxFragments (bytesOf σ e)))) (bytesOf σ e) (call σ (after σ f) e)
+    handed (keyIn (slotBytes σ) (arrival σ e)) (bytesOf σ e) (call σ (after σ f) e)
 
 abbrev pub own : Scene → ℕ → Delivery
 own σ i = record { key = key (message σ i); name = message σ i .name; bytes = message σ i .payload }
@@ -268,7 +270,7 @@ inOrderOfCompletion σ f = oneAfterAnother σ (completed σ f)
 
 abbrev pub NoneEmptied : Scene → Feed → Type 0
 NoneEmptied σ start = Unit {0}
-NoneEmptied σ (f ▹ e) = NoneEmptied σ f × (call σ (after σ f) e .emptied ≡ Nobody)
+NoneEmptied σ (f ▹ e) = NoneEmptied σ f × (emptiedKey (call σ (after σ f) e .emptied) ≡ none)
 
 abbrev pub NoneOpen : Scene → Feed → Type 0
 NoneOpen σ f = (s : ℕ) → s < slotCount → busy (slotAt (after σ f .machine .slots) s) ≡ false

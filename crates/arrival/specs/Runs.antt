@@ -1,19 +1,16 @@
 -- What demand 3 gives for the code: calls of `open` and `receive`, one after another, over lent memory that nobody else changes. Definitions only.
 use mathlib.Core.Path.{_≡_}
-use mathlib.Core.Option.{none}
+use mathlib.Core.Option.{Option, none}
 use mathlib.Core.List.{List, [], _∷_, map}
 use Prim.Native.Nat.{ℕ, _<_}
 use lib.ListN.{length}
-use Rattle.datagram.specs.Limits.{maxFragments}
-use Rattle.datagram.specs.Said.{said}
-use Rattle.steps.specs.Memory.{keyOf}
-use Rattle.steps.specs.Receive.{sequenceOf}
-use Rattle.steps.specs.Answers.{reply}
+use Rattle.steps.specs.Answers.{reply, emptiedKey}
+use Rattle.steps.specs.Runs.{Arrival, keyIn}
 use Rattle.receiver.specs.declared.Outcome.{Outcome}
 use Rattle.receiver.specs.declared.Call.{Call}
 use Rattle.receiver.specs.View.{view}
 use Rattle.receiver.specs.Calls.{refusalOf, Opens, Receives}
-use Rattle.arrival.specs.Demand.{Scene, slotBytes, Event, Feed, start, _▹_, senderOf, bytesOf, Delivery, nameIn, handedBy, push, after, own, completed, deliveries, Promised}
+use Rattle.arrival.specs.Demand.{Scene, slotBytes, Event, Feed, start, _▹_, senderOf, bytesOf, arrival, Delivery, nameIn, handedBy, push, after, own, completed, delivery, deliveries, Promised}
 
 -- what is lent
 pub record Lent : Type 0 where
@@ -31,18 +28,27 @@ pub data Calls (σ : Scene) : Feed → Lent → Type 0 where
       → Receives (l .state) (l .names) (l .store) (l .ledger) (senderOf σ e) (bytesOf σ e) r (l′ .state) (l′ .names) (l′ .store) (l′ .ledger)
       → Calls σ (f ▹ e) l′
 
+-- what a call handed over to that arrival, with slots of C bytes, by its outcome and the store that it left
+abbrev pub handsOver : ℕ → Arrival → Outcome → List ℕ → Option Delivery
+handsOver C x r store = handedBy (keyIn C x) (nameIn (r .name)) (reply (x .datagram) store (r .answer))
+
 -- all that the calls handed over, the latest first
 abbrev pub handedOver : {σ : Scene} {f : Feed} {l : Lent} → Calls σ f l → List Delivery
 handedOver (opens w n r w′ n′ o q) = []
-handedOver {σ} (calls c e r l′ k) =
-    push (handedBy (keyOf (senderOf σ e) (sequenceOf (said (slotBytes σ) maxFragments (bytesOf σ e)))) (nameIn (r .name)) (reply (bytesOf σ e) (l′ .store) (r .answer)))
-    (handedOver c)
+handedOver {σ} (calls c e r l′ k) = push (handsOver (slotBytes σ) (arrival σ e) r (l′ .store)) (handedOver c)
+
+-- each call hands over what `step` hands over at that arrival, and empties no key
+abbrev pub EachCall : {σ : Scene} {f : Feed} {l : Lent} → Calls σ f l → Type 0
+EachCall (opens w n r w′ n′ o q) = Unit {0}
+EachCall {σ} (calls {f = f} c e r l′ k) =
+    EachCall c × (handsOver (slotBytes σ) (arrival σ e) r (l′ .store) ≡ delivery σ f e) × (emptiedKey (r .emptied) ≡ none)
 
 -- a run of calls is a run of `step`, so that what is promised of the one is promised of the other
 pub record CodePromised (σ : Scene) (f : Feed) (l : Lent) (c : Calls σ f l) : Type 0 where
   pub machine : view (l .state) (l .names) ≡ after σ f .machine
   pub store : l .store ≡ after σ f .store
   pub ledger : l .ledger ≡ after σ f .ledger
+  pub each-call : EachCall c
   pub delivered : handedOver c ≡ deliveries σ f
   -- the messages' own keys, names and bytes, in order of completion
   pub their-own : handedOver c ≡ map (own σ) (completed σ f)

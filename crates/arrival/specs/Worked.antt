@@ -7,7 +7,7 @@ use lib.ListN.{replicate}
 use Rattle.steps.specs.Limits.{ledgerLength}
 use Rattle.steps.specs.Receive.{Machine, After, opened, step, forget}
 use Rattle.steps.specs.Answers.{Reply, refusedBy, kept, delivered, reply}
-use Rattle.steps.specs.Marked.{A, B}
+use Rattle.steps.specs.Worked.{A-of, B-of}
 use Rattle.arrival.specs.Demand.{Message, Scene, Event, part, noise, Feed, start, _▹_, Promised}
 use Rattle.arrival.specs.Ours.{table}
 
@@ -15,13 +15,7 @@ use Rattle.arrival.specs.Ours.{table}
 abbrev pub sceneOf : List Message → Scene
 sceneOf ms = record { store = replicate 32 9; ledger = replicate ledgerLength 7; messages = ms }
 
--- ---- messages of sequence q: the paper's A and B with another sequence, and a small one
-
-unfoldable pub A-of : ℕ → List ℕ
-A-of q = 0x4c ∷ 0x43 ∷ 0x30 ∷ 0x33 ∷ 0 ∷ 0 ∷ 0 ∷ q ∷ 0 ∷ 0 ∷ 0 ∷ 3 ∷ 0 ∷ 0 ∷ 0 ∷ 0 ∷ 0 ∷ 0 ∷ 0 ∷ 2 ∷ 0x50 ∷ 0 ∷ 0x41 ∷ []
-
-unfoldable pub B-of : ℕ → List ℕ
-B-of q = 0x4c ∷ 0x43 ∷ 0x30 ∷ 0x33 ∷ 0 ∷ 0 ∷ 0 ∷ q ∷ 0 ∷ 0 ∷ 0 ∷ 3 ∷ 0 ∷ 0 ∷ 0 ∷ 1 ∷ 0 ∷ 1 ∷ 0 ∷ 2 ∷ 0x42 ∷ 0x43 ∷ []
+-- ---- messages of sequence q: the paper's A and B with that sequence, and a small one
 
 unfoldable pub small-of : ℕ → ℕ → List ℕ
 small-of q x = 0x4c ∷ 0x43 ∷ 0x30 ∷ 0x32 ∷ 0 ∷ 0 ∷ 0 ∷ q ∷ 0x50 ∷ 0 ∷ x ∷ []
@@ -36,7 +30,7 @@ inOne q x = record { sender = 0; sequence = q; name = 0x50 ∷ []; payload = x �
 
 abbrev pub paperScene : Scene
 paperScene = sceneOf (
-    record { sender = 0; sequence = 7; name = 0x50 ∷ []; payload = 0x41 ∷ 0x42 ∷ 0x43 ∷ []; fragmented = true; datagrams = A ∷ B ∷ [] }
+    inTwo 7
     ∷ record { sender = 1; sequence = 7; name = 0x50 ∷ []; payload = 0x41 ∷ []; fragmented = false; datagrams = small-of 7 0x41 ∷ [] }
     ∷ [])
 
@@ -113,12 +107,12 @@ manyFeed = fromEach start 0 0 65 ▹ part 0 0
 -- ---- and what is lost, though the calls are the same, when somebody changes the store or the ledger, or calls forget, between B and A
 
 abbrev afterB : After
-afterB = step (opened 32) (replicate 32 9) (replicate ledgerLength 7) 0 B
+afterB = step (opened 32) (replicate 32 9) (replicate ledgerLength 7) 0 (B-of 7)
 
 abbrev pub inBetween : (Machine → Machine) → (List ℕ → List ℕ) → (List ℕ → List ℕ) → Reply
 inBetween m s l =
-    let a : After = step (m (afterB .machine)) (s (afterB .store)) (l (afterB .ledger)) 0 A in
-    reply A (a .store) (a .answer)
+    let a : After = step (m (afterB .machine)) (s (afterB .store)) (l (afterB .ledger)) 0 (A-of 7) in
+    reply (A-of 7) (a .store) (a .answer)
 
 -- ---- each premise is needed: none of these is promised
 

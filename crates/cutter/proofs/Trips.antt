@@ -24,7 +24,7 @@ use Rattle.datagram.proofs.Names.{name-read}
 use Rattle.cutter.specs.Cut.{Sized, isSmall, carries, beginsAt, countOf, pieceOf, headBytes, smallBytes, fragmentBytes, datagramOf}
 use Rattle.cutter.specs.Trip.{Cuttable, cutFragment, cutSaid, smallHeader, cutHeader}
 use Rattle.cutter.proofs.Written.{length-head, fragment-first, fragment-later}
-use Rattle.cutter.proofs.Counts.{begins-next, begins-below, piece-length, piece-full, piece-last}
+use Rattle.cutter.proofs.Counts.{begins-next, begins-below, count-some, piece-length, piece-full, piece-last}
 use Rattle.cutter.proofs.Headers.{num-at, Headed, headed, read-first, read-later}
 
 -- a part that was put together is found again
@@ -184,6 +184,7 @@ module _ (C N q : ℕ) (name payload : List ℕ) (m : ℕ) (w : Cuttable C N q n
   -- the fragments of a message are lawfully cut
   pub lawfully-cut : LawfullyCut C N n (datagramOf q name payload m)
   lawfully-cut = record {
+    at-least-one = count-some c p m (w .sized) large;
     sequence = q;
     size = p;
     piece = cutFragment q name payload m;

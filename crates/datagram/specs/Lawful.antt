@@ -5,9 +5,10 @@ use Prim.Native.Nat.{ℕ, _+_, _<_}
 use lib.ListN.{length}
 use Rattle.datagram.specs.Said.{Fragment, fragment, said}
 
--- The datagrams d 0 to d (n - 1) are one message, lawfully cut: fragments 0 to n - 1 each have good form, with the same sequence, P and n,
+-- The datagrams d 0 to d (n - 1), at least one, are one message, lawfully cut: fragments 0 to n - 1 each have good form, with the same sequence, P and n,
 -- and each begins where the one before ends.
 pub record LawfullyCut (maxSize maxCount n : ℕ) (d : ℕ → List ℕ) : Type 0 where
+  pub at-least-one : 0 < n
   pub sequence : ℕ
   pub size : ℕ
   pub piece : ℕ → Fragment

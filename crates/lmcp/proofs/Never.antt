@@ -1,6 +1,6 @@
--- Refusal 30 never comes: the bytes "LMCP" alone sum to 300, and no message within the limit sums to 2 ^ 32. Assumes nothing.
+-- The sum that is never zero: the bytes "LMCP" alone sum to 300, and no message within the whole-length limit sums to 2 ^ 32. Assumes nothing.
 use mathlib.Core.Path.{_≡_, refl, ap, sym, _∙_, subst}
-use mathlib.Core.Bool.{Bool, true, false, _&&_}
+use mathlib.Core.Bool.{Bool, true, false, not}
 use mathlib.Core.List.{List, [], _∷_, _++_}
 use Prim.Native.Nat.{ℕ, zero, suc, _+_, _*_, _/_, _%_, _^_, _≤_, _<_}
 use native.Mathlib.Omega.{arith}
@@ -16,16 +16,17 @@ use Rattle.wire.specs.Sum.{sum}
 use Rattle.wire.proofs.Choices.{pick-all}
 use Rattle.wire.proofs.Numbers.{length-bytes}
 use Rattle.wire.proofs.Sums.{sum-append}
-use Rattle.lmcp.specs.Limits.{maxMessage, magic, series}
+use Rattle.lmcp.specs.Limits.{maxMessage, SumsBelow, magic, series}
 use Rattle.lmcp.specs.Run.{Run, got, refused, tag, bad, whole}
 use Rattle.lmcp.specs.Table.{charKind, Table}
 use Rattle.lmcp.specs.Walk.{root}
 use Rattle.lmcp.specs.Value.{below, fits, denial}
 use Rattle.lmcp.specs.Write.{Write, writeValue, writeCount, header, typedBy, writeHead, writing}
-use Rattle.lmcp.specs.Message.{checksumOf, headOn, messageOn, summed, framed, writeMessage}
+use Rattle.lmcp.specs.Message.{checksumOf, stored, choice, headOn, messageOn, writeMessage}
 use Rattle.lmcp.proofs.Makes.{Fine, FineTag, Pieces, fine-root}
+use Rattle.lmcp.proofs.Trips.{whole-got, message, stored-is, Framed, framed-got, framed-sum}
 
--- ---- all that is written is bytes, and the walk's refusals are below 30
+-- ---- all that is written is bytes
 
 bytes-append : (a b : List ℕ) → Bytes a → Bytes b → Bytes (a ++ b)
 bytes-append [] b f g i = g i
@@ -47,33 +48,32 @@ bytes-header T n =
     bytes-append (1 ∷ []) (bytes 8 series ++ (bytes 4 n ++ bytes 2 (T .version))) (bytes-one 1 (omega arith))
     (bytes-append (bytes 8 series) (bytes 4 n ++ bytes 2 (T .version)) (bytes-bytes 8 series) (bytes-append (bytes 4 n) (bytes 2 (T .version)) (bytes-bytes 4 n) (bytes-bytes 2 (T .version))))
 
--- a walk that makes bytes and refuses by a number below 30
-abbrev Lawful : Write → Type 0
-Lawful = Fine Bytes (λ n. n < 30)
+-- a walk that makes bytes, or refuses
+abbrev MakesBytes : Write → Type 0
+MakesBytes = Fine Bytes (λ n. Unit)
 
-values-lawful : (k w : ℕ) (l : List ℤ) → Lawful (writeValue k w l)
-unfolding writeValue denial
-values-lawful k w [] = lit< tt
-values-lawful k w (z ∷ l) =
-    pick-all Lawful (fits k w z) (λ e. bytes-bytes w (unsigned (8 * w) z)) (λ e. pick-all (λ (n : ℕ). n < 30) (eqb k charKind) (λ q. lit< tt) (λ q. lit< tt))
+values-bytes : (k w : ℕ) (l : List ℤ) → MakesBytes (writeValue k w l)
+unfolding writeValue
+values-bytes k w [] = tt
+values-bytes k w (z ∷ l) = pick-all MakesBytes (fits k w z) (λ e. bytes-bytes w (unsigned (8 * w) z)) (λ e. tt)
 
-counts-lawful : (w : ℕ) (l : List ℤ) → FineTag {A = ℤ} {B = ℕ} Bytes (λ n. n < 30) (writeCount w l)
+counts-bytes : (w : ℕ) (l : List ℤ) → FineTag {A = ℤ} {B = ℕ} Bytes (λ n. Unit) (writeCount w l)
 unfolding writeCount
-counts-lawful w [] = lit< tt
-counts-lawful w (z ∷ l) = pick-all (FineTag Bytes (λ n. n < 30)) (below (2 ^ (8 * w)) z) (λ e. bytes-bytes w (mag z)) (λ e. lit< tt)
+counts-bytes w [] = tt
+counts-bytes w (z ∷ l) = pick-all (FineTag Bytes (λ n. Unit)) (below (2 ^ (8 * w)) z) (λ e. bytes-bytes w (mag z)) (λ e. tt)
 
-heads-lawful : (T : Table) (d t : ℕ) (l : List ℤ) → FineTag {A = ℤ} {B = ℕ} Bytes (λ n. n < 30) (writeHead T d t l)
+heads-bytes : (T : Table) (d t : ℕ) (l : List ℤ) → FineTag {A = ℤ} {B = ℕ} Bytes (λ n. Unit) (writeHead T d t l)
 unfolding writeHead
-heads-lawful T d t [] = lit< tt
-heads-lawful T d t (z ∷ l) =
-    pick-all (FineTag Bytes (λ n. n < 30)) (below 1 z) (λ e. bytes-one 0 (omega arith))
-    (λ e. pick-all (FineTag Bytes (λ n. n < 30)) (eqb d 0) (λ e. lit< tt)
-    (λ e. pick-all (FineTag Bytes (λ n. n < 30)) (typedBy T t z) (λ e. bytes-header T (mag z)) (λ e. lit< tt)))
+heads-bytes T d t [] = tt
+heads-bytes T d t (z ∷ l) =
+    pick-all (FineTag Bytes (λ n. Unit)) (below 1 z) (λ e. bytes-one 0 (omega arith))
+    (λ e. pick-all (FineTag Bytes (λ n. Unit)) (eqb d 0) (λ e. tt)
+    (λ e. pick-all (FineTag Bytes (λ n. Unit)) (typedBy T t z) (λ e. bytes-header T (mag z)) (λ e. tt)))
 
-pub root-lawful : (T : Table) (l : List ℤ) → Fine Bytes (λ n. n < 30) (root (writing T) T l)
-root-lawful T l =
-    fine-root Bytes (λ n. n < 30) (writing T)
-    (record { none = λ i. omega arith; both = bytes-append; null-root = lit< tt; values = values-lawful; counts = counts-lawful; heads = heads-lawful T }) T l
+pub root-bytes : (T : Table) (l : List ℤ) → Fine {A = ℤ} {B = ℕ} Bytes (λ n. Unit) (root (writing T) T l)
+root-bytes T l =
+    fine-root Bytes (λ n. Unit) (writing T)
+    (record { none = λ i. omega arith; both = bytes-append; null-root = tt; values = values-bytes; counts = counts-bytes; heads = heads-bytes T }) T l
 
 -- ---- sums
 
@@ -86,40 +86,32 @@ sum-magic : sum magic ≡ 300
 unfolding sum
 sum-magic = refl
 
-pub never-zero : (bs : List ℕ) → Bytes bs → 12 + length bs ≤ maxMessage → checksumOf (headOn bs) ≡ 0 → ⊥
-never-zero bs f h e =
+-- THE LAW of the whole-length limit: while a message within the limit sums to less than 2 ^ 32, no calculated checksum is zero
+pub never-zero : (limit : ℕ) → SumsBelow limit → (bs : List ℕ) → Bytes bs → 12 + length bs ≤ limit → checksumOf (headOn bs) ≡ 0 → ⊥
+never-zero limit below bs f h e =
     let s1 = sum-append magic (bytes 4 (length bs) ++ bs) in
     let s2 = sum-append (bytes 4 (length bs)) bs in
     let total : sum (headOn bs) ≡ 300 + (sum (bytes 4 (length bs)) + sum bs) = s1 ∙ ap (λ (n : ℕ). n + sum (bytes 4 (length bs) ++ bs)) sum-magic ∙ ap (λ (n : ℕ). 300 + n) s2 in
     omega (arith, total, length-bytes 4 (length bs), sum-le (bytes 4 (length bs)) (bytes-bytes 4 (length bs)), sum-le bs f)
 
--- without the row of 30 the definition is the same
-pub never-summed : (calculate : Bool) (bs : List ℕ) (r : List ℤ) → Bytes bs → 12 + length bs ≤ maxMessage
-    → summed calculate bs r ≡ got (messageOn calculate bs) r
-unfolding summed
-never-summed true bs r f h = rw (ne-eqb (checksumOf (headOn bs)) 0 (never-zero bs f h)) refl
-never-summed false bs r f h = refl
+-- the limit in force is such a limit, by computing with its number: another number must show it again
+pub limit-sums-below : SumsBelow maxMessage
+limit-sums-below = lit< tt
 
-Not30 : Write → Type 0
-Not30 X = X ≡ refused 30 → ⊥
+-- the field of a message that is put together
+field-is : (calculate : Bool) (bs : List ℕ) → 12 + length bs ≤ maxMessage → stored (messageOn calculate bs) ≡ pick calculate (checksumOf (headOn bs)) 0
+unfolding message
+field-is calculate bs h = stored-is bs h (pick calculate (checksumOf (headOn bs)) 0) (framed-sum calculate bs .0)
 
-other : (n : ℕ) → n < 30 → Not30 (refused n)
-unfolding Not30
-other n h e = let q : n ≡ 30 = cc in omega arith
+told : (calculate : Bool) (bs : List ℕ) → Bytes bs → 12 + length bs ≤ maxMessage → choice (messageOn calculate bs) ≡ calculate
+told true bs f h = ap (λ (n : ℕ). not (eqb n 0)) (field-is true bs h) ∙ ap not (ne-eqb (checksumOf (headOn bs)) 0 (never-zero maxMessage limit-sums-below bs f h))
+told false bs f h = ap (λ (n : ℕ). not (eqb n 0)) (field-is false bs h)
 
-some : (m : List ℕ) (r : List ℤ) → Not30 (got m r)
-unfolding Not30
-some m r e = let z : _≡_ {A = ℕ} 0 1 = cc in omega arith
-
-by : (calculate : Bool) (X : Write) → Lawful X → Not30 (framed calculate (whole X))
-unfolding framed whole
-by calculate (got bs []) f =
-    pick-all Not30 (ltb maxMessage (12 + length bs)) (λ e. other 21 (lit< tt))
-    (λ e. subst Not30 (sym (never-summed calculate bs [] f (ltb-false maxMessage (12 + length bs) e))) (some (messageOn calculate bs) []))
-by calculate (got bs (z ∷ r)) f = other 28 (lit< tt)
-by calculate (refused n) h = other n h
-
--- refusal 30 never comes, for any table and any list
-pub never-thirty : (T : Table) (calculate : Bool) (l : List ℤ) → writeMessage T calculate l ≡ refused 30 → ⊥
-unfolding writeMessage Not30
-never-thirty T calculate l e = by calculate (root (writing T) T l) (root-lawful T l) e
+-- So of every message that is written, for any table and any list, the field tells whether the checksum was calculated: it is then never zero.
+pub field-tells : (T : Table) (calculate : Bool) (l : List ℤ) {m : List ℕ} {r : List ℤ} → writeMessage T calculate l ≡ got m r → choice m ≡ calculate
+unfolding writeMessage
+field-tells T calculate l e =
+    let g = framed-got calculate (whole (root (writing T) T l)) e in
+    let w = whole-got (root (writing T) T l) (g .inner) in
+    let f : Bytes (g .bs) = subst (Fine {A = ℤ} {B = ℕ} Bytes (λ n. Unit)) (w .0) (root-bytes T l) in
+    ap choice (g .made) ∙ told calculate (g .bs) f (g .small)

@@ -23,7 +23,7 @@ use Rattle.lmcp.specs.Table.{Table, Sound}
 use Rattle.lmcp.specs.Walk.{root}
 use Rattle.lmcp.specs.Read.{Read, reading}
 use Rattle.lmcp.specs.Write.{Write, writing}
-use Rattle.lmcp.specs.Message.{checksumOf, before, stored, rootOf, frame, readMessage, choice, found, headOn, summed, framed, writeMessage}
+use Rattle.lmcp.specs.Message.{checksumOf, before, stored, rootOf, frame, readMessage, choice, found, headOn, messageOn, framed, writeMessage}
 use Rattle.lmcp.proofs.Undo.{got-unless, got-where, got-made, got-rest, not-refused, Leaves, undo-root}
 use Rattle.lmcp.proofs.Values.{front-drop, bytes-rest, bytes-drop, value-reads, value-writes, count-reads, count-writes}
 use Rattle.lmcp.proofs.Heads.{head-reads, head-writes}
@@ -71,7 +71,7 @@ whole-all X e = ap whole e
 -- ---- a message that is put together of a root's bytes and the value of its checksum
 
 module _ (bs : List ℕ) (small : 12 + length bs ≤ maxMessage) (s : ℕ) (fits : s < 256 ^ 4) where
-  message : List ℕ
+  unfoldable pub message : List ℕ
   message = headOn bs ++ bytes 4 s
 
   head-length : length (headOn bs) ≡ 8 + length bs
@@ -85,7 +85,7 @@ module _ (bs : List ℕ) (small : 12 + length bs ≤ maxMessage) (s : ℕ) (fits
   unfolding message
   before-is = take-at (headOn bs) (bytes 4 s) (length message - 4) (omega (arith, head-length, message-length))
 
-  stored-is : stored message ≡ s
+  pub stored-is : stored message ≡ s
   unfolding message
   stored-is =
       let d : drop (length message - 4) message ≡ bytes 4 s = drop-at (headOn bs) (bytes 4 s) (length message - 4) (omega (arith, head-length, message-length)) in
@@ -125,18 +125,16 @@ pub record Framed (calculate : Bool) (X : Write) (m : List ℕ) (r : List ℤ) :
   pub bs : List ℕ
   pub inner : X ≡ got bs r
   pub small : 12 + length bs ≤ maxMessage
-  pub made : m ≡ headOn bs ++ bytes 4 (pick calculate (checksumOf (headOn bs)) 0)
+  pub made : m ≡ messageOn calculate bs
 
-framed-got : (calculate : Bool) (X : Write) {m : List ℕ} {r : List ℤ} → framed calculate X ≡ got m r → Framed calculate X m r
-unfolding framed summed
+pub framed-got : (calculate : Bool) (X : Write) {m : List ℕ} {r : List ℤ} → framed calculate X ≡ got m r → Framed calculate X m r
+unfolding framed
 framed-got calculate (got bs q) e =
-    let s = checksumOf (headOn bs) in
-    let p = got-unless (ltb maxMessage (12 + length bs)) 21 (summed calculate bs q) e in
-    let g = got-unless (calculate && eqb s 0) 30 (got (headOn bs ++ bytes 4 (pick calculate s 0)) q) (p .1) in
-    record { bs = bs; inner = ap (got bs) (got-rest (g .1)); small = ltb-false maxMessage (12 + length bs) (p .0); made = sym (got-made (g .1)) }
+    let p = got-unless (ltb maxMessage (12 + length bs)) 21 (got (messageOn calculate bs) q) e in
+    record { bs = bs; inner = ap (got bs) (got-rest (p .1)); small = ltb-false maxMessage (12 + length bs) (p .0); made = sym (got-made (p .1)) }
 framed-got calculate (refused n) e = not-refused e
 
-framed-sum : (calculate : Bool) (bs : List ℕ)
+pub framed-sum : (calculate : Bool) (bs : List ℕ)
     → (pick calculate (checksumOf (headOn bs)) 0 < 256 ^ 4) × ((eqb (pick calculate (checksumOf (headOn bs)) 0) 0 || eqb (pick calculate (checksumOf (headOn bs)) 0) (checksumOf (headOn bs))) ≡ true)
 framed-sum true bs = (omega arith, right (checksumOf (headOn bs)) (eqb (checksumOf (headOn bs)) 0))
   where
@@ -233,12 +231,12 @@ module _ (m : List ℕ) (f : Bytes m) (p : Accepted m) where
   limit-is = le-ltb maxMessage (12 + length (rootOf m)) (omega (arith, root-length, p .small, p .long))
 
   framed-by : (t : Bool) → eqb (stored m) 0 ≡ t → framed (not t) (got (rootOf m) []) ≡ got m []
-  unfolding framed summed
+  unfolding framed
   framed-by true e = rw limit-is (ap (λ (x : List ℕ). got x []) (ap (λ (s : ℕ). headOn (rootOf m) ++ bytes 4 s) (sym (eqb-true (stored m) 0 e)) ∙ whole-is))
   framed-by false e =
       let q : eqb (stored m) (checksumOf (before m)) ≡ true = rw e at (p .sum-at) in
       let s : checksumOf (headOn (rootOf m)) ≡ stored m = ap checksumOf (sym before-root) ∙ sym (eqb-true (stored m) (checksumOf (before m)) q) in
-      rw (limit-is, s, e) (ap (λ (x : List ℕ). got x []) whole-is)
+      rw (limit-is, s) (ap (λ (x : List ℕ). got x []) whole-is)
 
 -- SECOND ROUND TRIP: what is read of a message is written as that message, with the same choice of a checksum
 pub read-write : (T : Table) → Sound T → (m : List ℕ) → Bytes m → {zs : List ℤ} {r : List ℕ} → readMessage T m ≡ got zs r → writeMessage T (choice m) zs ≡ got m []

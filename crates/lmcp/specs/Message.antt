@@ -1,6 +1,6 @@
 -- A whole message: "LMCP", the root's length, the root, the checksum. Definitions only.
 use mathlib.Core.Path.{_≡_}
-use mathlib.Core.Bool.{Bool, true, false, not, _&&_, _||_}
+use mathlib.Core.Bool.{Bool, true, false, not, _||_}
 use mathlib.Core.List.{List, _++_}
 use Prim.Native.Nat.{ℕ, _+_, _-_, _%_, _^_}
 use lib.Dec.{ltb, leb, eqb}
@@ -78,12 +78,8 @@ headOn bs = magic ++ (bytes 4 (length bs) ++ bs)
 abbrev pub messageOn : Bool → List ℕ → List ℕ
 messageOn calculate bs = headOn bs ++ bytes 4 (pick calculate (checksumOf (headOn bs)) 0)
 
--- a calculated checksum may not come out as zero
-unfoldable pub summed : Bool → List ℕ → List ℤ → Write
-summed calculate bs r = pick (calculate && eqb (checksumOf (headOn bs)) 0) (refused 30) (got (messageOn calculate bs) r)
-
 unfoldable pub framed : Bool → Write → Write
-framed calculate (got bs r) = pick (ltb maxMessage (12 + length bs)) (refused 21) (summed calculate bs r)
+framed calculate (got bs r) = pick (ltb maxMessage (12 + length bs)) (refused 21) (got (messageOn calculate bs) r)
 framed calculate (refused n) = refused n
 
 unfoldable pub writeMessage : Table → Bool → List ℤ → Write

@@ -22,10 +22,8 @@ use Rattle.lmcp.specs.Run.{got, refused, whole}
 use Rattle.lmcp.specs.Table.{pitsurv}
 use Rattle.lmcp.specs.Write.{Write}
 use Rattle.lmcp.specs.Ends.{Sofar, Few15}
-use Rattle.lmcp.specs.Message.{checksumOf, headOn, messageOn, summed, framed, writeMessage, made, written, WrittenTo}
+use Rattle.lmcp.specs.Message.{checksumOf, headOn, messageOn, framed, writeMessage, made, written, WrittenTo}
 use Rattle.lmcp.proofs.Goes.{run-is, run-left, run-done, laid-again}
-use Rattle.lmcp.proofs.Makes.{Fine}
-use Rattle.lmcp.proofs.Never.{root-lawful, never-summed}
 use Rattle.lmcp_writer.specs.Steps.{Ends, Laid, writeRoot}
 
 head-length : (bs : List ℕ) (e : ℕ) → e ≡ 8 + length bs → length (headOn bs) ≡ e
@@ -92,14 +90,10 @@ module _ (v : ℕ) (l : List ℤ) (calculate : Bool) (out : List ℕ) where
             let s = bytes 4 (pick calculate (checksumOf (headOn (h .ys))) 0) in
             length-append (headOn (h .ys)) s ∙ omega (arith, head-length (h .ys) e (h .place), length-bytes 4 (pick calculate (checksumOf (headOn (h .ys))) 0))
 
-        lawful : Bytes (h .ys)
-        lawful = subst (Fine {A = ℤ} {B = ℕ} Bytes (λ n. n < 30)) (run-is h) (root-lawful (pitsurv v) l)
-
         writes : writeMessage (pitsurv v) calculate l ≡ got message []
         unfolding writeMessage framed message
         writes =
             ap (framed calculate) (run-done h d) ∙ simp (le-ltb maxMessage (12 + length (h .ys)) (omega (arith, h .place)))
-            (never-summed calculate (h .ys) [] lawful (omega (arith, h .place)))
 
         pub answer-short : length out < e + 4 → Answer (Unwritten 13) out
         unfolding made written

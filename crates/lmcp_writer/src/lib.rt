@@ -382,8 +382,7 @@ fn write_root(list: &[i64], version: u64, calculate: bool, out: &mut [u8]) -> Ma
     }
 }
 
-// Writes the message of a list to the start of the output. No calculated checksum comes out as zero (`lmcp`, Never), so refusal
-// 30 has no branch.
+// Writes the message of a list to the start of the output. A calculated checksum is never zero (`lmcp`, Never).
 pub fn write_message(list: &[i64], calculate: bool, out: &mut [u8]) -> Made
     ensures { λ r. ⌜ WrittenTo (writeMessage (pitsurv 1) calculate (now (list .entry))) (now (out .entry)) r (now (out .exit)) ⌝ }
 {

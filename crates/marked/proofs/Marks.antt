@@ -1,6 +1,6 @@
 -- Every marked case gives what the paper says, computed in one statement. Assumes nothing.
 use mathlib.Core.Path.{_≡_, refl}
-use mathlib.Core.List.{List, map}
+use mathlib.Core.List.{List, map, zipWith}
 use Rattle.wire.specs.Bytes.{be, bytes}
 use Rattle.wire.specs.Overlay.{overlay}
 use Rattle.wire.specs.Sum.{sum}
@@ -12,7 +12,7 @@ use Rattle.steps.specs.Held.{noneHeld, isHeld, hold}
 use Rattle.steps.specs.Memory.{among, emptyMemory, isRemembered, remember, memoryOk}
 use Rattle.steps.specs.Slots.{oldest, openCount, lower, release, seat, opening, filled}
 use Rattle.steps.specs.Receive.{opened, stay, sameFragment, agrees, step3, decide, step5, act, receive, sound, step}
-use Rattle.steps.specs.Marked.{freshReplies, A, B, B₀, B₄}
+use Rattle.steps.specs.Runs.{run}
 use Rattle.watch.specs.Senders.{setLast, moved}
 use Rattle.watch.specs.Watching.{askedAt, asked, after}
 use Rattle.lmcp.specs.Run as run
@@ -24,5 +24,5 @@ use Rattle.marked.specs.Ask.{Given, given}
 use Rattle.marked.specs.Table.{Case, cases}
 
 pub marked : map (λ (c : Case). given (c .ask)) cases ≡ map (λ (c : Case). c .gives) cases
-unfolding be bytes overlay sum goodName untilZero nameLength readSmall goodForm formed readFragment readDatagram said countOf smallBytes headBytes pieceOf fragmentBytes datagramOf noneHeld isHeld hold among emptyMemory isRemembered remember memoryOk oldest openCount lower release seat opening filled opened stay sameFragment agrees step3 decide step5 act receive sound step freshReplies A B B₀ B₄ setLast moved askedAt asked after run.prepend run.andThen run.after run.repeat run.whole fault numberOf judged readValue readCount typed known readHeader readHead item field fields object root frame readMessage
+unfolding be bytes overlay sum goodName untilZero nameLength readSmall goodForm formed readFragment readDatagram said countOf smallBytes headBytes pieceOf fragmentBytes datagramOf noneHeld isHeld hold among emptyMemory isRemembered remember memoryOk oldest openCount lower release seat opening filled opened stay sameFragment agrees step3 decide step5 act receive sound step run zipWith setLast moved askedAt asked after run.prepend run.andThen run.after run.repeat run.whole fault numberOf judged readValue readCount typed known readHeader readHead item field fields object root frame readMessage
 marked = refl

@@ -9,7 +9,8 @@ use Rattle.datagram.specs.Limits.{maxPayload, maxFragments}
 use Rattle.datagram.specs.Said.{Said, refused, small, fragment, said}
 use Rattle.cutter.specs.Cut.{countOf, datagramOf}
 use Rattle.steps.specs.Answers.{Reply}
-use Rattle.steps.specs.Marked.{freshReplies}
+use Rattle.steps.specs.Limits.{ledgerLength}
+use Rattle.steps.specs.Runs.{fresh, from, Heard, allHeard}
 use Rattle.watch.specs.Senders.{empty}
 use Rattle.watch.specs.Watching.{asked, after}
 use Rattle.watch.specs.Noted as watched
@@ -70,7 +71,7 @@ seenFrom w (n ∷ ns) = asked w 0 n ∷ seenFrom (after w 0 n) ns
 
 abbrev pub given : Ask → Given
 given (reading d) = said′ (said 4 maxFragments d)
-given (receiving ds) = replied (freshReplies ds)
+given (receiving ds) = replied (map (λ (h : Heard). h .answer) (allHeard (fresh (replicate 32 9) (replicate ledgerLength 0)) (map (from 0) ds)))
 given (cutting p) = cut′ (tileFrom p 0 (countOf (length TILE) p 96))
 given (watching ns) = seen (seenFrom empty ns)
 given (opening m) = numbers (readMessage (pitsurv 1) m)

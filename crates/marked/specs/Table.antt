@@ -5,7 +5,6 @@ use lib.IntN.{pos}
 use lib.ListN.{take}
 use Rattle.datagram.specs.Said.{refused, small}
 use Rattle.steps.specs.Answers.{refusedBy, kept, repeat, delivered}
-use Rattle.steps.specs.Marked.{A, B, B₀, B₄}
 use Rattle.watch.specs.Noted as watched
 use Rattle.lmcp.specs.Run as run
 use Rattle.marked.specs.Ask.{Ask, reading, receiving, cutting, watching, opening, small′, fragments, Given, said′, replied, cut′, seen, numbers}
@@ -21,6 +20,19 @@ m n a g = record { number = n; ask = a; gives = g }
 -- the datagram of m1
 abbrev one : List ℕ
 one = 0x4c ∷ 0x43 ∷ 0x30 ∷ 0x32 ∷ 0 ∷ 0 ∷ 0 ∷ 7 ∷ 0x50 ∷ 0 ∷ 0x41 ∷ []
+
+-- A and B; B with offset 0; B with P 4 and offset 2
+abbrev A : List ℕ
+A = 0x4c ∷ 0x43 ∷ 0x30 ∷ 0x33 ∷ 0 ∷ 0 ∷ 0 ∷ 7 ∷ 0 ∷ 0 ∷ 0 ∷ 3 ∷ 0 ∷ 0 ∷ 0 ∷ 0 ∷ 0 ∷ 0 ∷ 0 ∷ 2 ∷ 0x50 ∷ 0 ∷ 0x41 ∷ []
+
+abbrev B : List ℕ
+B = 0x4c ∷ 0x43 ∷ 0x30 ∷ 0x33 ∷ 0 ∷ 0 ∷ 0 ∷ 7 ∷ 0 ∷ 0 ∷ 0 ∷ 3 ∷ 0 ∷ 0 ∷ 0 ∷ 1 ∷ 0 ∷ 1 ∷ 0 ∷ 2 ∷ 0x42 ∷ 0x43 ∷ []
+
+abbrev B₀ : List ℕ
+B₀ = 0x4c ∷ 0x43 ∷ 0x30 ∷ 0x33 ∷ 0 ∷ 0 ∷ 0 ∷ 7 ∷ 0 ∷ 0 ∷ 0 ∷ 3 ∷ 0 ∷ 0 ∷ 0 ∷ 0 ∷ 0 ∷ 1 ∷ 0 ∷ 2 ∷ 0x42 ∷ 0x43 ∷ []
+
+abbrev B₄ : List ℕ
+B₄ = 0x4c ∷ 0x43 ∷ 0x30 ∷ 0x33 ∷ 0 ∷ 0 ∷ 0 ∷ 7 ∷ 0 ∷ 0 ∷ 0 ∷ 4 ∷ 0 ∷ 0 ∷ 0 ∷ 2 ∷ 0 ∷ 1 ∷ 0 ∷ 2 ∷ 0x42 ∷ 0x43 ∷ []
 
 -- a Ping whose checksum ends in these two bytes, and a null root
 abbrev ping : ℕ → ℕ → List ℕ

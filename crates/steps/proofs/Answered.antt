@@ -1,7 +1,8 @@
--- Cases m4 to m7, computed in one statement, the worked cases in another, and what is remembered and forgotten in a third.
+-- The worked cases, computed in one statement; slot sizes, and what is remembered and forgotten, in two more.
 use mathlib.Core.Path.{_≡_, refl}
 use mathlib.Core.Bool.{true, false}
-use mathlib.Core.List.{List, [], _∷_, map}
+use mathlib.Core.List.{List, [], _∷_, map, zipWith}
+use Prim.Native.Nat.{ℕ}
 use Rattle.wire.specs.Bytes.{be}
 use Rattle.wire.specs.Overlay.{overlay}
 use Rattle.datagram.specs.Name.{goodName, untilZero, nameLength}
@@ -11,19 +12,16 @@ use Rattle.steps.specs.Held.{noneHeld, isHeld, hold}
 use Rattle.steps.specs.Memory.{among, emptyMemory, isRemembered, remember, rememberAll, others, forgetKeys, memoryOk}
 use Rattle.steps.specs.Slots.{oldest, openCount, lower, release, releaseOf, seat, opening, filled}
 use Rattle.steps.specs.Receive.{opened, stay, sameFragment, agrees, step3, decide, step5, act, receive, sound, step, forget}
-use Rattle.steps.specs.Answers.{Reply}
-use Rattle.steps.specs.Marked.{Case, receiverCases, freshReplies, A, B, B₀, B₄}
-use Rattle.steps.specs.Worked.{freshTold, cases, pastMemory, forgottenKeys, openAfter, memoryTold}
-use Rattle.steps.specs.Worked as worked
+use Rattle.steps.specs.Runs.{run}
+use Rattle.steps.specs.Worked.{inFours, A-of, B-of, Case, hears, cases, slotSizes, pastMemory, forgottenKeys, openAfter, memoryTold}
 
-pub marked : map (λ (c : Case). freshReplies (c .come)) receiverCases ≡ map (λ (c : Case). c .answered) receiverCases
-unfolding freshReplies A B B₀ B₄ step sound receive decide act stay step3 step5 sameFragment agrees seat oldest release lower opening openCount filled opened emptyMemory isRemembered remember memoryOk among isHeld hold noneHeld said readDatagram readSmall readFragment formed goodForm nameLength goodName untilZero be overlay
-marked = refl
-
-pub worked-cases : map (λ (c : worked.Case). freshTold (c .come)) cases ≡ map (λ (c : worked.Case). c .answered) cases
-unfolding freshTold A B step sound receive decide act stay step3 step5 sameFragment agrees seat oldest release lower opening openCount filled opened emptyMemory isRemembered remember memoryOk among isHeld hold noneHeld said readDatagram readSmall readFragment formed goodForm nameLength goodName untilZero be overlay
+pub worked-cases : map hears cases ≡ map (λ (c : Case). c .answered) cases
+unfolding hears inFours run zipWith A-of B-of step sound receive decide act stay step3 step5 sameFragment agrees seat oldest release lower opening openCount filled opened emptyMemory isRemembered remember memoryOk among isHeld hold noneHeld said readDatagram readSmall readFragment formed goodForm nameLength goodName untilZero be overlay
 worked-cases = refl
 
+pub slot-sizes : slotSizes ≡ 0 ∷ 1 ∷ 262_143 ∷ 262_144 ∷ 262_144 ∷ []
+slot-sizes = refl
+
 pub memory-cases : memoryTold ≡ (false ∷ true ∷ true ∷ []) ∷ (false ∷ true ∷ false ∷ []) ∷ (false ∷ true ∷ []) ∷ []
-unfolding pastMemory forgottenKeys openAfter rememberAll others forgetKeys forget releaseOf B step sound receive decide act stay step3 step5 sameFragment agrees seat oldest release lower opening openCount filled opened emptyMemory isRemembered remember memoryOk among isHeld hold noneHeld said readDatagram readSmall readFragment formed goodForm nameLength goodName untilZero be overlay
+unfolding pastMemory forgottenKeys openAfter rememberAll others forgetKeys forget releaseOf B-of step sound receive decide act stay step3 step5 sameFragment agrees seat oldest release lower opening openCount filled opened emptyMemory isRemembered remember memoryOk among isHeld hold noneHeld said readDatagram readSmall readFragment formed goodForm nameLength goodName untilZero be overlay
 memory-cases = refl

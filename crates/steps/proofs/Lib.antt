@@ -5,6 +5,10 @@ pub mod Memories
 pub mod Stores
 pub mod Seats
 pub mod Branches
-pub mod Never9
-pub mod Reaches
+pub mod Numbers
+pub mod Ranks
 pub mod Forgets
+pub mod Reaches
+pub mod Ages
+pub mod Copies
+pub mod Running

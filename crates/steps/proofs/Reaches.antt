@@ -1,34 +1,35 @@
--- Every state that calls can reach is in order.
+-- Every state that calls can reach is in order; and what forget leaves of one.
 use mathlib.Core.Path.{_≡_, refl, sym, ap, _∙_, subst}
 use mathlib.Core.Logic.{_≢_, _⊎_, inl, inr}
 use mathlib.Core.Bool.{Bool, true, false, not, _&&_, _||_}
-use mathlib.Core.Option.{Option, none, some}
+use mathlib.Core.Option.{none}
 use mathlib.Core.List.{List}
-use Prim.Native.Nat.{ℕ, zero, suc, _+_, _≤_, _<_, zero-le, suc-le-suc}
+use Prim.Native.Nat.{ℕ, suc, _+_, _≤_, _<_}
 use native.Mathlib.Nat.{le-refl}
 use native.Mathlib.Omega.{arith}
 use native.Mathlib.Decide.{ℕ-discrete}
 use lib.Dec.{eqb, leb}
 use lib.ListN.{length, getD, set, length-set, length-replicate, getD-replicate, replicate}
 use lib.Seq.{getD-set-other}
-use borrow.Author.Tests.{eq-eqb, eqb-true, le-leb}
-use Rattle.wire.specs.Choice.{pick}
-use Rattle.wire.proofs.Choices.{either, never, and-l, and-r, and-of}
+use borrow.Author.Tests.{eq-eqb, le-leb}
+use Rattle.wire.proofs.Choices.{either, never}
 use Rattle.datagram.specs.Limits.{maxFragments}
-use Rattle.datagram.specs.Said.{Said, refused, small, fragment, Fragment, said}
+use Rattle.datagram.specs.Said.{fragment, Fragment, said}
 use Rattle.datagram.proofs.Saids.{Formed, fragment-formed}
 use Rattle.steps.specs.Limits.{slotCount, ledgerLength, slotSizeOf}
 use Rattle.steps.specs.Search.{allBelow}
-use Rattle.steps.specs.Held.{isHeld}
-use Rattle.steps.specs.Memory.{Key, keyOf, sameKey, Memory, isRemembered, remember, memoryOk, forgetKeys}
-use Rattle.steps.specs.Slots.{Slot, busy, noSlot, slotAt, findOpen, findFree, oldest, lower, release, releaseOf, opening, filled, allHeld, Emptied, Nobody, Was}
-use Rattle.steps.specs.Receive.{Machine, After, Answer, Refused, Repeat, stay, opened, Verdict, refuse, again, join, sameMessage, sameFragment, agreesWithAll, step3, step5, deliveredFrom, keptIn, act, receive, slotOk, sound, step, forget}
+use Rattle.steps.specs.Memory.{Key, keyOf, sameKey, Memory, isRemembered, remember, memoryOk}
+use Rattle.steps.specs.Slots.{Slot, busy, noSlot, slotAt, findOpen, release, releaseOf, opening, filled, allHeld, seat, Emptied, Nobody}
+use Rattle.steps.specs.Receive.{Machine, After, stay, opened, step5, beginAt, slotOk, sound, step, forget}
 use Rattle.steps.specs.Reach.{Reached, opens, receives, forgets, InOrder}
-use Rattle.steps.proofs.Tables.{all-of, or-not}
-use Rattle.steps.proofs.Memories.{same-key, Whole, whole-ok, empty-whole, remember-whole, remember-other, forget-whole, forget-other}
-use Rattle.steps.proofs.Seats.{busyAt, keyAt, counted-busy, Found, open-found, open-none, free-found, free-none, set-there, release-length, freed, left, left-busy, left-key, not-freed, oldest-low}
-use Rattle.steps.proofs.Never9.{never-by-nine}
-use Rattle.steps.proofs.Branches.{step-unsound, step-sound, receive-refused, small-again, small-open, small-whole, fragment-again, fragment-free, fragment-full, fragment-open, step3-other, step3-again, step3-differs, step3-join, step3-clash, step5-delivered, step5-kept}
+use Rattle.steps.specs.Promises.{Forgotten}
+use Rattle.steps.proofs.Tables.{all-of}
+use Rattle.steps.proofs.Memories.{same-key, Whole, whole-ok, empty-whole, remember-whole, remember-other, forget-whole, forget-other, forget-own, forget-kept}
+use Rattle.steps.proofs.Seats.{busyAt, keyAt, counted-busy, same-its-key, open-inside, Found, open-found, open-none, set-there, not-freed}
+use Rattle.steps.proofs.Branches.{Course, unmoved, given, joined, begun, course, step5-delivered, step5-kept}
+use Rattle.steps.proofs.Numbers.{never-by-nine}
+use Rattle.steps.proofs.Ranks.{Ranks, none-ranked, Shrunk, was-open, shrunk-release, ranks-open, fill-alike, ranks-fill, Sat, sat, not-open}
+use Rattle.steps.proofs.Forgets.{Released, released}
 
 -- ---- slots in order, beside a memory
 
@@ -37,6 +38,7 @@ pub record Tidy (C : ℕ) (slots : List Slot) (memory : Memory) : Type 0 where
   pub sizes : (s : ℕ) → s < slotCount → slotOk C (slotAt slots s) ≡ true
   pub one-slot : (s t : ℕ) → s < slotCount → t < slotCount → busyAt slots s ≡ true → busyAt slots t ≡ true → keyAt slots s ≡ keyAt slots t → s ≡ t
   pub not-both : (s : ℕ) → s < slotCount → busyAt slots s ≡ true → isRemembered memory (keyAt slots s) ≡ false
+  pub ranks : Ranks slots
 
 other-key : (a b : Key) → a ≢ b → sameKey a b ≡ false
 other-key a b n = elim (either (sameKey a b)) [ inl e ↦ absurd (n (same-key a b e)) | inr e ↦ e ]
@@ -52,7 +54,7 @@ module _ {C : ℕ} {slots : List Slot} {memory : Memory} (h : Tidy C slots memor
   -- slot s becomes x
   module _ (s : ℕ) (inside : s < slotCount) (x : Slot) (ok : slotOk C x ≡ true)
       (own : (t : ℕ) → t < slotCount → t ≢ s → busyAt slots t ≡ true → keyAt slots t ≢ x .key)
-      (new : isRemembered memory (x .key) ≡ false) where
+      (new : isRemembered memory (x .key) ≡ false) (ranked : Ranks (set slots s x)) where
     there : slotAt (set slots s x) s ≡ x
     there = set-there slots s x (h .eight) inside
 
@@ -89,25 +91,24 @@ module _ {C : ℕ} {slots : List Slot} {memory : Memory} (h : Tidy C slots memor
         | yes q ↦ ap (isRemembered memory) (its-key t q) ∙ new
         | no q ↦ ap (isRemembered memory) (old-key t q) ∙ h .not-both t b (was-busy t q e)
       ];
+      ranks = ranked;
     }
 
-  -- slot s is freed
-  pub tidy-release : (s : ℕ) → s < slotCount → Tidy C (release slots s) memory
-  unfolding lower
-  tidy-release s inside = record {
-    eight = release-length slots s ∙ h .eight;
-    sizes = λ t b. elim (ℕ-discrete t s) [
-      | yes q ↦ ap (slotOk C) (ap (slotAt (release slots s)) q ∙ freed slots s (h .eight) inside)
-      | no q ↦ ap (slotOk C) (left slots s t q) ∙ h .sizes t b
+  -- slots are freed
+  pub tidy-shrunk : {new : List Slot} → Shrunk slots new → Tidy C new memory
+  tidy-shrunk {new} k = record {
+    eight = k .eight;
+    sizes = λ s b. elim (either (busyAt new s)) [
+      | inl e ↦ ap (slotOk C) (k .as-before s e) ∙ h .sizes s b
+      | inr e ↦ rw e
     ];
-    one-slot = λ t u a b c d e.
-        let p : t ≢ s = not-freed slots s t (h .eight) inside c in
-        let q : u ≢ s = not-freed slots s u (h .eight) inside d in
-        h .one-slot t u a b (sym (left-busy slots s t p) ∙ c) (sym (left-busy slots s u q) ∙ d) (sym (left-key slots s t p) ∙ e ∙ left-key slots s u q);
-    not-both = λ t b e.
-        let p : t ≢ s = not-freed slots s t (h .eight) inside e in
-        ap (isRemembered memory) (left-key slots s t p) ∙ h .not-both t b (sym (left-busy slots s t p) ∙ e);
+    one-slot = λ s t a b c d e. h .one-slot s t a b (was-open k s c) (was-open k t d) (sym (its s c) ∙ e ∙ its t d);
+    not-both = λ s b e. ap (isRemembered memory) (its s e) ∙ h .not-both s b (was-open k s e);
+    ranks = k .ranks;
   }
+    where
+      its : (s : ℕ) → busyAt new s ≡ true → keyAt new s ≡ keyAt slots s
+      its s e = same-its-key (k .as-before s e)
 
   -- a key is remembered that is not open
   pub tidy-remember : Whole memory → (k : Key) → ((t : ℕ) → t < slotCount → busyAt slots t ≡ true → keyAt slots t ≢ k) → Tidy C slots (remember memory k)
@@ -116,7 +117,31 @@ module _ {C : ℕ} {slots : List Slot} {memory : Memory} (h : Tidy C slots memor
     sizes = h .sizes;
     one-slot = h .one-slot;
     not-both = λ t b e. remember-other memory k (keyAt slots t) w (other-key k (keyAt slots t) (λ q. n t b e (sym q))) (h .not-both t b e);
+    ranks = h .ranks;
   }
+
+  -- the slot of an open message takes a fragment
+  pub tidy-filled : (s : ℕ) → s < slotCount → busyAt slots s ≡ true → (f : Fragment) → Tidy C (set slots s (filled (slotAt slots s) f)) memory
+  unfolding filled
+  tidy-filled s inside y f =
+      tidy-set s inside (filled (slotAt slots s) f) (h .sizes s inside) (λ t b q e k. q (h .one-slot t s b inside e y k)) (h .not-both s inside y)
+      (ranks-fill slots (h .eight) s inside f (h .ranks))
+
+  -- a free slot is opened for a key that is neither open nor remembered
+  module _ (s : ℕ) (inside : s < slotCount) (free : busyAt slots s ≡ false) (k : Key) (f : Fragment) (form : Formed C maxFragments f)
+      (new : isRemembered memory k ≡ false) (own : (t : ℕ) → t < slotCount → busyAt slots t ≡ true → keyAt slots t ≢ k) where
+    its-busy : busy (opening slots k f) ≡ true
+    unfolding opening
+    its-busy = counted-busy (opening slots k f) (omega (arith, form .below))
+
+    pub opened-busy : busyAt (set slots s (opening slots k f)) s ≡ true
+    opened-busy = ap busy (set-there slots s (opening slots k f) (h .eight) inside) ∙ its-busy
+
+    pub tidy-opened : Tidy C (set slots s (opening slots k f)) memory
+    unfolding opening
+    tidy-opened =
+        tidy-set s inside (opening slots k f) (slot-ok C (opening slots k f) (form .fits) (form .few)) (λ t b q e. own t b e) new
+        (ranks-open slots (h .eight) (h .ranks) s inside free (opening slots k f) its-busy refl)
 
 -- ---- a machine in order
 
@@ -145,17 +170,23 @@ module _ (n : ℕ) (m : Machine) (g : Good n m) (slots : List Slot) (h : Tidy (s
   slot = filled (slotAt slots s) f
 
   filled-tidy : Tidy (slotSizeOf n) (set slots s slot) (m .memory)
-  unfolding filled
-  filled-tidy = tidy-set h s inside slot (h .sizes s inside) (λ t b q e k. q (h .one-slot t s b inside e is-busy k)) (h .not-both s inside is-busy)
+  filled-tidy = tidy-filled h s inside is-busy f
+
+  here : slotAt (set slots s slot) s ≡ slot
+  here = set-there slots s slot (h .eight) inside
+
+  slot-busy : busyAt (set slots s slot) s ≡ true
+  slot-busy = fill-alike slots (h .eight) s inside f s .same-open ∙ is-busy
+
+  freed-shrunk : Shrunk (set slots s slot) (release (set slots s slot) s)
+  freed-shrunk = shrunk-release (set slots s slot) (filled-tidy .eight) (filled-tidy .ranks) s inside slot-busy
 
   freed-tidy : Tidy (slotSizeOf n) (release (set slots s slot) s) (remember (m .memory) (slot .key))
-  unfolding filled
-  freed-tidy = tidy-remember (tidy-release filled-tidy s inside) (g .whole) (slot .key) (λ t b e k.
+  freed-tidy = tidy-remember (tidy-shrunk filled-tidy freed-shrunk) (g .whole) (slot .key) (λ t b e k.
       let new : List Slot = set slots s slot in
-      let here : slotAt new s ≡ slot = set-there slots s slot (h .eight) inside in
-      let q : t ≢ s = not-freed new s t (filled-tidy .eight) inside e in
-      q (filled-tidy .one-slot t s b inside (sym (left-busy new s t q) ∙ e) (ap busy here ∙ is-busy)
-      (sym (left-key new s t q) ∙ k ∙ sym (ap (λ (x : Slot). x .key) here))))
+      let same : t ≡ s = filled-tidy .one-slot t s b inside (was-open freed-shrunk t e) slot-busy
+      (sym (same-its-key (freed-shrunk .as-before t e)) ∙ k ∙ sym (same-its-key here)) in
+      not-freed new s t (filled-tidy .eight) inside e same)
 
   pub step5-good : (gone : Emptied) → Good n (step5 m slots store ledger gone s f .machine)
   step5-good gone = elim (either (allHeld slot)) [
@@ -167,118 +198,57 @@ module _ (n : ℕ) (m : Machine) (g : Good n m) (slots : List Slot) (h : Tidy (s
 
 -- ---- a call
 
-module _ (n : ℕ) (m : Machine) (g : Good n m) (store ledger : List ℕ) (sender : ℕ) where
-  stay-good : (a : Answer) → Good n (stay m store ledger a .machine)
-  unfolding stay
-  stay-good a = g
+module _ (n : ℕ) (m : Machine) (g : Good n m) where
+  -- what is read with the machine's slot size
+  pub good-form : (d : List ℕ) (f : Fragment) → said (m .slotSize) maxFragments d ≡ fragment f → Formed (slotSizeOf n) maxFragments f
+  good-form d f q = subst (λ (c : ℕ). Formed c maxFragments f) (g .sized) (fragment-formed (m .slotSize) maxFragments d f q)
 
-  -- a small message
-  small-good : (q : ℕ) (name payload : List ℕ) → Good n (receive m store ledger sender (small q name payload) .machine)
-  small-good q name payload = go (either (isRemembered (m .memory) (keyOf sender q))) (findOpen (m .slots) (keyOf sender q)) refl
+  pub seat-sat : Sat (m .slots) (seat (m .slots))
+  seat-sat = sat (m .slots) (g .tidy .eight) (g .tidy .ranks)
+
+  module _ (store ledger : List ℕ) (k : Key) (f : Fragment) (form : Formed (slotSizeOf n) maxFragments f) (new : isRemembered (m .memory) k ≡ false) (closed : findOpen (m .slots) k ≡ none) where
+    abbrev rest : List Slot
+    rest = seat (m .slots) .slots
+
+    abbrev at : ℕ
+    at = seat (m .slots) .at
+
+    rest-tidy : Tidy (slotSizeOf n) rest (m .memory)
+    rest-tidy = tidy-shrunk (g .tidy) (seat-sat .shrunk)
+
+    pub rest-own : (t : ℕ) → t < slotCount → busyAt (seat (m .slots) .slots) t ≡ true → keyAt (seat (m .slots) .slots) t ≢ k
+    rest-own = not-open (g .tidy .eight) (seat-sat .shrunk) k closed
+
+    pub begun-tidy : Tidy (slotSizeOf n) (set (seat (m .slots) .slots) (seat (m .slots) .at) (opening (seat (m .slots) .slots) k f)) (m .memory)
+    begun-tidy = tidy-opened rest-tidy at (seat-sat .inside) (seat-sat .is-free) k f form new rest-own
+
+    pub begun-busy : busyAt (set (seat (m .slots) .slots) (seat (m .slots) .at) (opening (seat (m .slots) .slots) k f)) (seat (m .slots) .at) ≡ true
+    begun-busy = opened-busy rest-tidy at (seat-sat .inside) (seat-sat .is-free) k f form new rest-own
+
+    begun-good : Good n (beginAt m store ledger k f (seat (m .slots)) .machine)
+    begun-good = step5-good n m g (set rest at (opening rest k f)) begun-tidy at (seat-sat .inside) begun-busy store ledger f (seat (m .slots) .emptied)
+
+  pub step-good : (store ledger : List ℕ) (sender : ℕ) (d : List ℕ) → Good n (step m store ledger sender d .machine)
+  unfolding stay
+  step-good store ledger sender d = go (course m store ledger sender d)
     where
-      go : (isRemembered (m .memory) (keyOf sender q) ≡ true) ⊎ (isRemembered (m .memory) (keyOf sender q) ≡ false)
-          → (o : Option ℕ) → findOpen (m .slots) (keyOf sender q) ≡ o → Good n (receive m store ledger sender (small q name payload) .machine)
-      go (inl e) o p = subst (λ (a : After). Good n (a .machine)) (sym (small-again m store ledger sender q name payload e)) (stay-good Repeat)
-      go (inr e) (some s) p = subst (λ (a : After). Good n (a .machine)) (sym (small-open m store ledger sender q name payload s e p)) (stay-good (Refused 8))
-      go (inr e) none p = subst (λ (a : After). Good n (a .machine)) (sym (small-whole m store ledger sender q name payload e p)) (record {
+      go : Course m store ledger sender (said (m .slotSize) maxFragments d) (step m store ledger sender d) → Good n (step m store ledger sender d .machine)
+      go (unmoved x t e) = subst (λ (a : After). Good n (a .machine)) (sym e) g
+      go (given q name payload t p e) = subst (λ (a : After). Good n (a .machine)) (sym e) (record {
         long = g .long;
         sized = g .sized;
         tidy = tidy-remember (g .tidy) (g .whole) (keyOf sender q) (open-none (m .slots) (g .tidy .eight) (keyOf sender q) p);
         whole = remember-whole (m .memory) (keyOf sender q) (g .whole);
       })
-
-  module _ (f : Fragment) (form : Formed (slotSizeOf n) maxFragments f) where
-    abbrev k : Key
-    k = keyOf sender (f .sequence)
-
-    -- a slot is opened at s, which is free in slots
-    module _ (slots : List Slot) (h : Tidy (slotSizeOf n) slots (m .memory)) (s : ℕ) (inside : s < slotCount)
-        (new : isRemembered (m .memory) k ≡ false) (own : (t : ℕ) → t < slotCount → busyAt slots t ≡ true → keyAt slots t ≢ k) where
-      opened-tidy : Tidy (slotSizeOf n) (set slots s (opening slots k f)) (m .memory)
-      unfolding opening
-      opened-tidy = tidy-set h s inside (opening slots k f) (slot-ok (slotSizeOf n) (opening slots k f) (form .fits) (form .few)) (λ t b q e. own t b e) new
-
-      opened-busy : busyAt (set slots s (opening slots k f)) s ≡ true
-      unfolding opening
-      opened-busy = ap busy (set-there slots s (opening slots k f) (h .eight) inside) ∙ counted-busy (opening slots k f) (omega (arith, form .below))
-
-      begun-good : (gone : Emptied) → Good n (step5 m (set slots s (opening slots k f)) store ledger gone s f .machine)
-      begun-good gone = step5-good n m g (set slots s (opening slots k f)) opened-tidy s inside opened-busy store ledger f gone
-
-    -- with no slot free
-    full-good : isRemembered (m .memory) k ≡ false → findOpen (m .slots) k ≡ none → findFree (m .slots) ≡ none → Good n (receive m store ledger sender (fragment f) .machine)
-    full-good e p q =
-        let eight : length (m .slots) ≡ slotCount = g .tidy .eight in
-        let s : ℕ = oldest (m .slots) in
-        let inside : s < slotCount = omega (arith, oldest-low (m .slots) (omega arith) .0) in
-        subst (λ (a : After). Good n (a .machine)) (sym (fragment-full m store ledger sender f e p q))
-        (begun-good (release (m .slots) s) (tidy-release (g .tidy) s inside) s inside e
-        (λ t b y z.
-        let d : t ≢ s = not-freed (m .slots) s t eight inside y in
-        open-none (m .slots) eight k p t b (sym (left-busy (m .slots) s t d) ∙ y) (sym (left-key (m .slots) s t d) ∙ z))
-        (Was (slotAt (m .slots) s .key)))
-
-    abbrev slotHere : ℕ → Slot
-    slotHere s = slotAt (m .slots) s
-
-    -- the key is open
-    open-good : (s : ℕ) → isRemembered (m .memory) k ≡ false → findOpen (m .slots) k ≡ some s → Good n (receive m store ledger sender (fragment f) .machine)
-    unfolding act
-    open-good s e p =
-        subst (λ (a : After). Good n (a .machine)) (sym (fragment-open m store ledger sender f s e p))
-        (by (sameMessage (slotHere s) f) refl (isHeld (slotHere s .held) (f .number)) refl (sameFragment (m .slotSize) store ledger s (slotHere s) f) refl (agreesWithAll ledger s (slotHere s) f) refl)
-      where
-        to : (v : Verdict) → step3 (m .slotSize) store ledger s (slotHere s) f ≡ v → Good n (act m store ledger k v .machine) → Good n (act m store ledger k (step3 (m .slotSize) store ledger s (slotHere s) f) .machine)
-        to v q x = subst (λ (y : Verdict). Good n (act m store ledger k y .machine)) (sym q) x
-
-        by : (a : Bool) → sameMessage (slotHere s) f ≡ a → (b : Bool) → isHeld (slotHere s .held) (f .number) ≡ b → (c : Bool) → sameFragment (m .slotSize) store ledger s (slotHere s) f ≡ c
-            → (d : Bool) → agreesWithAll ledger s (slotHere s) f ≡ d → Good n (act m store ledger k (step3 (m .slotSize) store ledger s (slotHere s) f) .machine)
-        by false x b y c z d w = to (refuse 8) (step3-other (m .slotSize) store ledger s (slotHere s) f x) (stay-good (Refused 8))
-        by true x true y true z d w = to again (step3-again (m .slotSize) store ledger s (slotHere s) f x y z) (stay-good Repeat)
-        by true x true y false z d w = to (refuse 8) (step3-differs (m .slotSize) store ledger s (slotHere s) f x y z) (stay-good (Refused 8))
-        by true x false y c z false w = to (refuse 8) (step3-clash (m .slotSize) store ledger s (slotHere s) f x y w) (stay-good (Refused 8))
-        by true x false y c z true w =
-            let r : Found (m .slots) k s = open-found (m .slots) (g .tidy .eight) k s p in
-            to (join s f) (step3-join (m .slotSize) store ledger s (slotHere s) f x y w)
-            (step5-good n m g (m .slots) (g .tidy) s (r .inside) (r .is-busy) store ledger f Nobody)
-
-    fragment-good : Good n (receive m store ledger sender (fragment f) .machine)
-    fragment-good = go (either (isRemembered (m .memory) k)) (findOpen (m .slots) k) refl (findFree (m .slots)) refl
-      where
-        go : (isRemembered (m .memory) k ≡ true) ⊎ (isRemembered (m .memory) k ≡ false) → (o : Option ℕ) → findOpen (m .slots) k ≡ o
-            → (p : Option ℕ) → findFree (m .slots) ≡ p → Good n (receive m store ledger sender (fragment f) .machine)
-        go (inl e) o q p z = subst (λ (a : After). Good n (a .machine)) (sym (fragment-again m store ledger sender f e)) (stay-good Repeat)
-        go (inr e) (some s) q p z = open-good s e q
-        go (inr e) none q none z = full-good e q z
-        go (inr e) none q (some s) z =
-            let inside : s < slotCount = free-found (m .slots) (g .tidy .eight) s z .0 in
-            subst (λ (a : After). Good n (a .machine)) (sym (fragment-free m store ledger sender f s e q z))
-            (begun-good (m .slots) (g .tidy) s inside e (open-none (m .slots) (g .tidy .eight) k q) Nobody)
-
-  receive-good : (r : Said) → ((f : Fragment) → r ≡ fragment f → Formed (slotSizeOf n) maxFragments f) → Good n (receive m store ledger sender r .machine)
-  receive-good (refused c) w = subst (λ (a : After). Good n (a .machine)) (sym (receive-refused m store ledger sender c)) (stay-good (Refused c))
-  receive-good (small q name payload) w = small-good q name payload
-  receive-good (fragment f) w = fragment-good f (w f refl)
-
-  pub step-good : (d : List ℕ) → Good n (step m store ledger sender d .machine)
-  step-good d = elim (either (sound m (length store) (length ledger))) [
-    | inr e ↦ subst (λ (a : After). Good n (a .machine)) (sym (step-unsound m store ledger sender d e)) (stay-good (Refused 9))
-    | inl e ↦ subst (λ (a : After). Good n (a .machine)) (sym (step-sound m store ledger sender d e))
-        (receive-good (said (m .slotSize) maxFragments d) (λ f q. subst (λ (c : ℕ). Formed c maxFragments f) (g .sized) (fragment-formed (m .slotSize) maxFragments d f q)))
-  ]
+      go (joined f s t p e) =
+          let r : Found (m .slots) (keyOf sender (f .sequence)) s = open-found (m .slots) (g .tidy .eight) (keyOf sender (f .sequence)) s p in
+          subst (λ (a : After). Good n (a .machine)) (sym e) (step5-good n m g (m .slots) (g .tidy) s (r .inside) (r .is-busy) store ledger f Nobody)
+      go (begun f t u p e) = subst (λ (a : After). Good n (a .machine)) (sym e) (begun-good store ledger (keyOf sender (f .sequence)) f (good-form d f t) u p)
 
 -- ---- forget
 
-released-tidy : (C sender a : ℕ) → a ≤ slotCount → (slots : List Slot) (memory : Memory) → Tidy C slots memory → Tidy C (releaseOf sender a slots) memory
-unfolding releaseOf
-released-tidy C sender zero b slots memory h = h
-released-tidy C sender (suc a) b slots memory h =
-    go (releaseOf sender a slots) (released-tidy C sender a (omega arith) slots memory h)
-    (busyAt (releaseOf sender a slots) a && eqb (keyAt (releaseOf sender a slots) a .sender) sender)
-  where
-    go : (r : List Slot) → Tidy C r memory → (c : Bool) → Tidy C (pick c (release r a) r) memory
-    go r t false = t
-    go r t true = tidy-release t a b
+pub good-released : (n : ℕ) (m : Machine) → Good n m → (sender : ℕ) → Released sender slotCount (m .slots) (releaseOf sender slotCount (m .slots))
+good-released n m g sender = released sender slotCount (le-refl slotCount) (m .slots) (g .tidy .eight) (g .tidy .ranks)
 
 pub forget-good : (n : ℕ) (m : Machine) → Good n m → (sender : ℕ) → Good n (forget m sender .machine)
 unfolding forget
@@ -286,12 +256,13 @@ forget-good n m g sender = rw (whole-ok (m .memory) (g .whole)) (record {
   long = g .long;
   sized = g .sized;
   tidy =
-      let t : Tidy (slotSizeOf n) (releaseOf sender slotCount (m .slots)) (m .memory) = released-tidy (slotSizeOf n) sender slotCount (le-refl slotCount) (m .slots) (m .memory) (g .tidy) in
+      let t : Tidy (slotSizeOf n) (releaseOf sender slotCount (m .slots)) (m .memory) = tidy-shrunk (g .tidy) (good-released n m g sender .shrunk) in
       record {
         eight = t .eight;
         sizes = t .sizes;
         one-slot = t .one-slot;
         not-both = λ s b e. forget-other (m .memory) sender (keyAt (releaseOf sender slotCount (m .slots)) s) (t .not-both s b e);
+        ranks = t .ranks;
       };
   whole = forget-whole (m .memory) sender (g .whole);
 })
@@ -306,6 +277,7 @@ opened-good n = record {
     sizes = λ s b. ap (slotOk (slotSizeOf n)) (getD-replicate slotCount s noSlot noSlot b);
     one-slot = λ s t a b c d e. never c (fresh s a);
     not-both = λ s b e. never e (fresh s b);
+    ranks = none-ranked (replicate slotCount noSlot) fresh;
   };
   whole = empty-whole;
 }
@@ -327,4 +299,22 @@ reached-in-order n m r =
       never-nine = λ store ledger a b sender d. never-by-nine m store ledger sender d (rw (a, b) (good-sound n m g));
       one-slot = g .tidy .one-slot;
       not-both = g .tidy .not-both;
+      turns-below = g .tidy .ranks .below;
+      turns-once = g .tidy .ranks .once;
+      turns-all = λ t b. let a = g .tidy .ranks .all t b in record { slot = a .0; inside = a .1; is-open = a .2; its-turn = a .3 };
     }
+
+-- WHAT FORGET LEAVES
+pub forgotten : (n : ℕ) (m : Machine) → Reached n m → (sender : ℕ) → Forgotten sender m (forget m sender .machine)
+unfolding forget
+forgotten n m reached sender =
+    let g : Good n m = reached-good n m reached in
+    let r : Released sender slotCount (m .slots) (releaseOf sender slotCount (m .slots)) = good-released n m g sender in
+    rw (whole-ok (m .memory) (g .whole)) (record {
+      none-open = λ s e. r .none-left s (open-inside (releaseOf sender slotCount (m .slots)) (r .shrunk .eight) s e) e;
+      none-remembered = forget-own (m .memory) sender;
+      others-open = r .others-stay;
+      as-before = r .shrunk .as-before;
+      others-remembered = forget-kept (m .memory) sender;
+      order = r .shrunk .order;
+    })

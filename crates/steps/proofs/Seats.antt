@@ -9,7 +9,7 @@ use native.Mathlib.Nat.{le-refl, not-suc-le-zero, le-of-suc-le-suc}
 use native.Mathlib.Omega.{arith}
 use native.Mathlib.Decide.{decLe}
 use lib.Dec.{eqb, ltb}
-use lib.ListN.{length, getD, set, length-set, length-map, List·getD-map}
+use lib.ListN.{length, getD, set, length-set, length-map, List·getD-map, List·getD-eq-default}
 use lib.Seq.{getD-set-same, getD-set-other}
 use borrow.Author.Tests.{eqb-true, eq-eqb, ne-eqb}
 use Rattle.wire.specs.Choice.{pick}
@@ -18,6 +18,8 @@ use Rattle.steps.specs.Limits.{slotCount}
 use Rattle.steps.specs.Search.{first}
 use Rattle.steps.specs.Memory.{Key, sameKey}
 use Rattle.steps.specs.Slots.{Slot, busy, noSlot, slotAt, hasKey, isFree, findOpen, findFree, lowestTurn, orZero, oldest, lower, release, Seat, seatAt, seat, Nobody, Was}
+use Rattle.steps.specs.Reach.{found}
+pub use Rattle.steps.specs.Promises.{unturned}
 use Rattle.steps.proofs.Tables.{First, first-some, first-none, not-true, not-false}
 use Rattle.steps.proofs.Memories.{same-key, key-same}
 
@@ -29,10 +31,6 @@ turnAt slots a = slotAt slots a .turn
 
 abbrev pub keyAt : List Slot → ℕ → Key
 keyAt slots a = slotAt slots a .key
-
--- a slot but for its turn
-abbrev pub unturned : Slot → Slot
-unturned x = record { key = x .key; size = x .size; count = x .count; turn = 0; name = x .name; held = x .held }
 
 abbrev pub look : List Slot → ℕ → Slot
 look slots a = unturned (slotAt slots a)
@@ -53,6 +51,13 @@ same-busy e = ap busy e
 
 pub same-its-key : {a b : Slot} → a ≡ b → a .key ≡ b .key
 same-its-key e = ap (λ (x : Slot). x .key) e
+
+-- an open slot is one of the eight
+pub open-inside : (slots : List Slot) → length slots ≡ slotCount → (s : ℕ) → busyAt slots s ≡ true → s < slotCount
+open-inside slots e s b = elim (decLe (suc s) slotCount) [
+  | yes h ↦ h
+  | no h ↦ never b (ap busy (List·getD-eq-default slots noSlot {n = s} (omega arith)))
+]
 
 -- ---- a slot is found
 
@@ -78,6 +83,13 @@ module _ (slots : List Slot) (eight : length slots ≡ slotCount) where
       (and-of (busyAt slots s) (sameKey (keyAt slots s) k) y (subst (λ (x : Key). sameKey x k ≡ true) (sym q) (key-same k)))
       (first-none (hasKey k) noSlot slots e s (omega arith))
 
+  pub is-found : (s : ℕ) → s < slotCount → busyAt slots s ≡ true → found (findOpen slots (keyAt slots s)) ≡ true
+  is-found s b e = go (findOpen slots (keyAt slots s)) refl
+    where
+      go : (o : Option ℕ) → findOpen slots (keyAt slots s) ≡ o → found (findOpen slots (keyAt slots s)) ≡ true
+      go none q = absurd (open-none (keyAt slots s) q s b e refl)
+      go (some t) q = ap found q
+
   pub free-found : (s : ℕ) → findFree slots ≡ some s → (s < slotCount) × (busyAt slots s ≡ false)
   free-found s e =
       let r : First isFree slots s noSlot = first-some isFree noSlot slots s e in
@@ -94,6 +106,19 @@ pub seat-full : (slots : List Slot) → findFree slots ≡ none
     → seat slots ≡ record { at = oldest slots; slots = release slots (oldest slots); emptied = Was (keyAt slots (oldest slots)) }
 unfolding seat
 seat-full slots e = ap (seatAt slots) e
+
+-- the seat: a free slot, or with none free the oldest, which is freed
+pub data Seated (slots : List Slot) : Seat → Type 0 where
+  free : (s : ℕ) → s < slotCount → busyAt slots s ≡ false → Seated slots (record { at = s; slots = slots; emptied = Nobody })
+  full : ((a : ℕ) → a < slotCount → busyAt slots a ≡ true)
+      → Seated slots (record { at = oldest slots; slots = release slots (oldest slots); emptied = Was (keyAt slots (oldest slots)) })
+
+pub seated : (slots : List Slot) → length slots ≡ slotCount → Seated slots (seat slots)
+seated slots e = go (findFree slots) refl
+  where
+    go : (o : Option ℕ) → findFree slots ≡ o → Seated slots (seat slots)
+    go none q = subst (Seated slots) (sym (seat-full slots q)) (full (free-none slots e q))
+    go (some s) q = let z = free-found slots e s q in subst (Seated slots) (sym (seat-free slots s q)) (free s (z .0) (z .1))
 
 -- ---- one slot changes
 

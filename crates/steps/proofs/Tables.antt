@@ -32,6 +32,14 @@ pub not-false : (b : Bool) → not b ≡ false → b ≡ true
 not-false true q = refl
 not-false false q = sym q
 
+pub and-no : (a : Bool) {b : Bool} → b ≡ false → (a && b) ≡ false
+and-no true q = q
+and-no false q = refl
+
+pub and-none : (a b : Bool) → (a && b) ≡ false → (a ≡ false) ⊎ (b ≡ false)
+and-none true b q = inr q
+and-none false b q = inl refl
+
 -- ---- a test on every number below n, and how many numbers below n pass one
 
 pub all-at : (n : ℕ) (p : ℕ → Bool) → allBelow n p ≡ true → (i : ℕ) → i < n → p i ≡ true
@@ -44,6 +52,13 @@ all-of (suc n) p h = rw (h n (le-refl (suc n))) (all-of n p (λ i k. h i (omega 
 
 pub all-not : (n : ℕ) (p : ℕ → Bool) (i : ℕ) → i < n → p i ≡ false → allBelow n p ≡ false
 all-not n p i h e = elim (either (allBelow n p)) [ inl t ↦ never (all-at n p t i h) e | inr f ↦ f ]
+
+pub all-none : (n : ℕ) (p : ℕ → Bool) → allBelow n p ≡ false → (i : ℕ) × (i < n) × (p i ≡ false)
+all-none zero p e = never refl e
+all-none (suc n) p e = elim (and-none (p n) (allBelow n p) e) [
+  | inl q ↦ (n, le-refl (suc n), q)
+  | inr q ↦ let r = all-none n p q in (r .0, omega (arith, r .1), r .2)
+]
 
 pub all-cong : (n : ℕ) (p q : ℕ → Bool) → ((i : ℕ) → i < n → p i ≡ q i) → allBelow n p ≡ allBelow n q
 all-cong zero p q h = refl

@@ -5,6 +5,7 @@ pub mod Memory
 pub mod Slots
 pub mod Receive
 pub mod Answers
+pub mod Runs
 pub mod Reach
-pub mod Marked
+pub mod Promises
 pub mod Worked

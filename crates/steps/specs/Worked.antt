@@ -1,32 +1,19 @@
 -- Worked cases beside the marked ones: what is answered, with the emptied key. Definitions only.
 use mathlib.Core.Bool.{Bool}
 use mathlib.Core.Option.{Option, none, some}
-use mathlib.Core.List.{List, [], _∷_, map}
+use mathlib.Core.List.{List, [], _∷_, _++_, map}
 use Prim.Native.Nat.{ℕ, zero, suc}
 use lib.ListN.{replicate}
-use Rattle.steps.specs.Limits.{ledgerLength}
+use Rattle.steps.specs.Limits.{ledgerLength, slotSizeOf}
 use Rattle.steps.specs.Memory.{Key, keyOf, isRemembered, rememberAll, forgetKeys}
 use Rattle.steps.specs.Slots.{busy, slotAt}
-use Rattle.steps.specs.Receive.{Machine, After, opened, step, forget}
-use Rattle.steps.specs.Answers.{Reply, refusedBy, kept, repeat, delivered, reply, emptiedKey}
-use Rattle.steps.specs.Marked.{A, B}
-
-pub record Told : Type 0 where
-  pub answer : Reply
-  pub emptied : Option Key
-
-abbrev pub only : Reply → Told
-only r = record { answer = r; emptied = none }
-
-abbrev pub told : Machine → List ℕ → List ℕ → List (List ℕ) → List Told
-told m store ledger [] = []
-told m store ledger (d ∷ ds) =
-    let a : After = step m store ledger 0 d in
-    record { answer = reply d (a .store) (a .answer); emptied = emptiedKey (a .emptied) } ∷ told (a .machine) (a .store) (a .ledger) ds
+use Rattle.steps.specs.Receive.{opened, step, forget}
+use Rattle.steps.specs.Answers.{Reply, refusedBy, kept, repeat, delivered}
+use Rattle.steps.specs.Runs.{World, fresh, from, Heard, allHeard}
 
 -- a fresh receiver with a slot size of 4
-unfoldable pub freshTold : List (List ℕ) → List Told
-freshTold ds = told (opened 32) (replicate 32 9) (replicate ledgerLength 7) ds
+unfoldable pub inFours : World
+inFours = fresh (replicate 32 9) (replicate ledgerLength 7)
 
 -- ---- datagrams of sequence q
 
@@ -34,57 +21,89 @@ freshTold ds = told (opened 32) (replicate 32 9) (replicate ledgerLength 7) ds
 abbrev pub headOf : ℕ → ℕ → ℕ → ℕ → ℕ → List ℕ → List ℕ
 headOf q p o k n rest = 0x4c ∷ 0x43 ∷ 0x30 ∷ 0x33 ∷ 0 ∷ 0 ∷ 0 ∷ q ∷ 0 ∷ 0 ∷ 0 ∷ p ∷ 0 ∷ 0 ∷ 0 ∷ o ∷ 0 ∷ k ∷ 0 ∷ n ∷ rest
 
--- fragment 1 of two, 2 bytes from 1, which begins a message
-abbrev pub beginning : ℕ → List ℕ
-beginning q = headOf q 3 1 1 2 (0x42 ∷ 0x43 ∷ [])
+-- the paper's A and B have sequence 7
+unfoldable pub A-of : ℕ → List ℕ
+A-of q = headOf q 3 0 0 2 (0x50 ∷ 0 ∷ 0x41 ∷ [])
+
+unfoldable pub B-of : ℕ → List ℕ
+B-of q = headOf q 3 1 1 2 (0x42 ∷ 0x43 ∷ [])
 
 abbrev pub smallOne : ℕ → List ℕ
 smallOne q = 0x4c ∷ 0x43 ∷ 0x30 ∷ 0x32 ∷ 0 ∷ 0 ∷ 0 ∷ q ∷ 0x50 ∷ 0 ∷ 0x41 ∷ []
 
-abbrev pub eightBegun : List (List ℕ) → List (List ℕ)
-eightBegun more =
-    beginning 0 ∷ beginning 1 ∷ beginning 2 ∷ beginning 3 ∷ beginning 4 ∷ beginning 5 ∷ beginning 6 ∷ beginning 7 ∷ more
+-- B of each sequence below n, the highest first, then others
+abbrev pub begunBelow : ℕ → List (List ℕ) → List (List ℕ)
+begunBelow zero more = more
+begunBelow (suc n) more = begunBelow n (B-of n ∷ more)
 
-abbrev pub eightKept : List Told → List Told
-eightKept more =
-    only kept ∷ only kept ∷ only kept ∷ only kept ∷ only kept ∷ only kept ∷ only kept ∷ only kept ∷ more
+-- ---- what is answered to datagrams of sender 0
 
 pub record Case : Type 0 where
   pub come : List (List ℕ)
-  pub answered : List Told
+  pub answered : List Heard
 
-abbrev pub case : List (List ℕ) → List Told → Case
-case ds ts = record { come = ds; answered = ts }
+abbrev pub case : List (List ℕ) → List Heard → Case
+case ds hs = record { come = ds; answered = hs }
+
+unfoldable pub hears : Case → List Heard
+hears c = allHeard inFours (map (from 0) (c .come))
+
+abbrev pub only : Reply → Heard
+only r = record { answer = r; emptied = none }
+
+-- and the key of sender 0 with that sequence was emptied
+abbrev pub emptying : ℕ → Reply → Heard
+emptying q r = record { answer = r; emptied = some (keyOf 0 q) }
+
+abbrev pub ABC : Reply
+ABC = delivered (0x41 ∷ 0x42 ∷ 0x43 ∷ [])
+
+-- eight messages are begun, and then
+abbrev pub eight : List (List ℕ) → List Heard → Case
+eight ds hs = case (begunBelow 8 ds) (replicate 8 (only kept) ++ hs)
 
 abbrev pub cases : List Case
 cases =
+    -- a copy completes nothing
+    case (B-of 7 ∷ B-of 7 ∷ A-of 7 ∷ []) (only kept ∷ only repeat ∷ only ABC ∷ [])
     -- two neighbours that leave a gap: 1 byte from 0, then 2 from 2
-    case (headOf 7 4 0 0 2 (0x50 ∷ 0 ∷ 0x41 ∷ []) ∷ headOf 7 4 2 1 2 (0x42 ∷ 0x43 ∷ []) ∷ []) (only kept ∷ only (refusedBy 8) ∷ [])
+    ∷ case (headOf 7 4 0 0 2 (0x50 ∷ 0 ∷ 0x41 ∷ []) ∷ headOf 7 4 2 1 2 (0x42 ∷ 0x43 ∷ []) ∷ []) (only kept ∷ only (refusedBy 8) ∷ [])
     -- two that overlap and are no neighbours: 2 bytes from 0, then the third from 1
     ∷ case (headOf 7 4 0 0 3 (0x50 ∷ 0 ∷ 0x41 ∷ 0x42 ∷ []) ∷ headOf 7 4 1 2 3 (0x42 ∷ 0x43 ∷ 0x44 ∷ []) ∷ []) (only kept ∷ only (refusedBy 8) ∷ [])
+    -- two that are no neighbours may leave no gap: 1 byte from 0, then the third from 1
+    ∷ case (headOf 7 4 0 0 3 (0x50 ∷ 0 ∷ 0x41 ∷ []) ∷ headOf 7 4 1 2 3 (0x42 ∷ 0x43 ∷ 0x44 ∷ []) ∷ []) (only kept ∷ only kept ∷ [])
     -- the fragments of three, the last first
     ∷ case (headOf 7 4 3 2 3 (0x44 ∷ []) ∷ headOf 7 4 0 0 3 (0x50 ∷ 0 ∷ 0x41 ∷ []) ∷ headOf 7 4 1 1 3 (0x42 ∷ 0x43 ∷ []) ∷ [])
     (only kept ∷ only kept ∷ only (delivered (0x41 ∷ 0x42 ∷ 0x43 ∷ 0x44 ∷ [])) ∷ [])
-    -- a copy with other data, a copy with another name
-    ∷ case (B ∷ headOf 7 3 1 1 2 (0x42 ∷ 0x44 ∷ []) ∷ []) (only kept ∷ only (refusedBy 8) ∷ [])
-    ∷ case (A ∷ headOf 7 3 0 0 2 (0x51 ∷ 0 ∷ 0x41 ∷ []) ∷ []) (only kept ∷ only (refusedBy 8) ∷ [])
+    -- another n, another P
+    ∷ case (A-of 7 ∷ headOf 7 3 1 1 3 (0x42 ∷ 0x43 ∷ []) ∷ []) (only kept ∷ only (refusedBy 8) ∷ [])
+    ∷ case (A-of 7 ∷ headOf 7 2 1 1 2 (0x42 ∷ []) ∷ []) (only kept ∷ only (refusedBy 8) ∷ [])
+    -- a copy with other data, with another name, of another length, and from another offset (with the very bytes that stand there)
+    ∷ case (B-of 7 ∷ headOf 7 3 1 1 2 (0x42 ∷ 0x44 ∷ []) ∷ []) (only kept ∷ only (refusedBy 8) ∷ [])
+    ∷ case (A-of 7 ∷ headOf 7 3 0 0 2 (0x51 ∷ 0 ∷ 0x41 ∷ []) ∷ []) (only kept ∷ only (refusedBy 8) ∷ [])
+    ∷ case (headOf 7 4 1 1 3 (0x42 ∷ 0x43 ∷ []) ∷ headOf 7 4 1 1 3 (0x42 ∷ []) ∷ []) (only kept ∷ only (refusedBy 8) ∷ [])
+    ∷ case (headOf 7 4 1 1 3 (0x42 ∷ 0x43 ∷ []) ∷ headOf 7 4 2 1 3 (0x43 ∷ 9 ∷ []) ∷ []) (only kept ∷ only (refusedBy 8) ∷ [])
     -- a small message whose key is open; small twice
-    ∷ case (B ∷ smallOne 7 ∷ []) (only kept ∷ only (refusedBy 8) ∷ [])
+    ∷ case (B-of 7 ∷ smallOne 7 ∷ []) (only kept ∷ only (refusedBy 8) ∷ [])
     ∷ case (smallOne 7 ∷ smallOne 7 ∷ []) (only (delivered (0x41 ∷ [])) ∷ only repeat ∷ [])
     -- an empty payload
     ∷ case (headOf 7 0 0 0 1 (0x50 ∷ 0 ∷ []) ∷ []) (only (delivered []) ∷ [])
     -- a ninth message empties the oldest; of one fragment, it is delivered besides
-    ∷ case (eightBegun (beginning 8 ∷ [])) (eightKept (record { answer = kept; emptied = some (keyOf 0 0) } ∷ []))
-    ∷ case (eightBegun (headOf 8 1 0 0 1 (0x50 ∷ 0 ∷ 0x41 ∷ []) ∷ [])) (eightKept (record { answer = delivered (0x41 ∷ []); emptied = some (keyOf 0 0) } ∷ []))
-    -- the second is finished, a ninth takes its slot, and a tenth empties the first, which was opened longest ago
-    ∷ case (eightBegun (headOf 1 3 0 0 2 (0x50 ∷ 0 ∷ 0x41 ∷ []) ∷ beginning 8 ∷ beginning 9 ∷ beginning 10 ∷ []))
-    (eightKept (only (delivered (0x41 ∷ 0x42 ∷ 0x43 ∷ [])) ∷ only kept ∷ record { answer = kept; emptied = some (keyOf 0 0) }
-    ∷ record { answer = kept; emptied = some (keyOf 0 2) } ∷ []))
-    -- a datagram that is refused empties nothing
-    ∷ case (eightBegun (headOf 8 5 0 0 1 (0x50 ∷ 0 ∷ 0x41 ∷ []) ∷ beginning 7 ∷ [])) (eightKept (only (refusedBy 6) ∷ only repeat ∷ []))
+    ∷ eight (B-of 8 ∷ []) (emptying 0 kept ∷ [])
+    ∷ eight (headOf 8 1 0 0 1 (0x50 ∷ 0 ∷ 0x41 ∷ []) ∷ []) (emptying 0 (delivered (0x41 ∷ [])) ∷ [])
+    -- the second is finished, a ninth takes its slot, and each that follows empties the one that was opened longest ago, the ninth in its turn
+    ∷ eight (A-of 1 ∷ B-of 8 ∷ B-of 9 ∷ B-of 10 ∷ B-of 11 ∷ B-of 12 ∷ B-of 13 ∷ B-of 14 ∷ B-of 15 ∷ B-of 16 ∷ [])
+    (only ABC ∷ only kept ∷ emptying 0 kept ∷ emptying 2 kept ∷ emptying 3 kept ∷ emptying 4 kept ∷ emptying 5 kept ∷ emptying 6 kept
+    ∷ emptying 7 kept ∷ emptying 8 kept ∷ [])
+    -- a datagram that is refused empties nothing: the oldest is still there
+    ∷ eight (headOf 8 5 0 0 1 (0x50 ∷ 0 ∷ 0x41 ∷ []) ∷ A-of 0 ∷ []) (only (refusedBy 6) ∷ only ABC ∷ [])
     ∷ []
 
--- ---- 65 deliveries, and forget
+-- ---- slot sizes, 65 deliveries, and forget
+
+-- the slot sizes of stores of 7, 8, 2,097,151, 2,097,152 and 2,097,160 bytes
+abbrev pub slotSizes : List ℕ
+slotSizes = map slotSizeOf (7 ∷ 8 ∷ 2_097_151 ∷ 2_097_152 ∷ 2_097_160 ∷ [])
 
 -- the keys of sender 0 with sequences below n, the latest first
 abbrev pub keysBelow : ℕ → List Key
@@ -102,7 +121,7 @@ forgottenKeys = map (isRemembered (forgetKeys (rememberAll (keyOf 1 5 ∷ keyOf 
 -- slot 0 is open for sender 0: is it still, once a sender is forgotten?
 unfoldable pub openAfter : ℕ → Bool
 openAfter sender =
-    busy (slotAt (forget (step (opened 32) (replicate 32 9) (replicate ledgerLength 7) 0 B .machine) sender .machine .slots) 0)
+    busy (slotAt (forget (step (opened 32) (replicate 32 9) (replicate ledgerLength 7) 0 (B-of 7) .machine) sender .machine .slots) 0)
 
 abbrev pub memoryTold : List (List Bool)
 memoryTold = pastMemory ∷ forgottenKeys ∷ (openAfter 0 ∷ openAfter 1 ∷ []) ∷ []
