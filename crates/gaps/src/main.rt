@@ -30,7 +30,12 @@ fn pour_answer(out: &mut [u8], at: usize, answer: Answer) -> usize
 {
     match answer {
         Answer::First => output::pour(out, at, b" first\n"),
-        Answer::Forward(missing) => output::pour_counted_line(out, at, b" forward ", missing as u64),
+        Answer::Forward(missing) => output::pour_counted_line(
+            out,
+            at,
+            b" forward ",
+            missing as u64,
+        ),
         Answer::Same => output::pour(out, at, b" same\n"),
         Answer::Late(by) => output::pour_counted_line(out, at, b" late ", by as u64),
         Answer::Refused(number) => output::pour_counted_line(out, at, b" refused ", number as u64),

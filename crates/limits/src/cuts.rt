@@ -29,15 +29,23 @@ pub(crate) fn cut(out: &mut [u8], at: usize, case: &[u8], payload: &[u8], d: &mu
     }
 }
 
+// How much of what was made is read.
+fn front_of(case: &[u8], cut: Cut) -> usize {
+    match cut {
+        Cut::Made { count: _, len } => wire::least(len, crate::number(case, 40)),
+        Cut::Refused(_) => 0,
+    }
+}
+
+fn pour_parts(out: &mut [u8], at: usize, d: &[u8]) -> usize {
+    let a = output::pour(out, at, b"name:");
+    let b = output::pour_hex(out, a, datagram::name_part(d));
+    let c = output::pour(out, b, b" payload:");
+    output::pour_hex(out, c, datagram::payload_part(d))
+}
+
 // The name part and the payload part of what was made, or of the front of it.
 pub(crate) fn parts(out: &mut [u8], at: usize, case: &[u8], payload: &[u8], d: &mut [u8]) -> usize {
     let cut = made(case, payload, d, d.len());
-    let Cut::Made { count: _, len } = cut else {
-        return output::pour(out, at, b"not made");
-    };
-    let n = wire::least(len, crate::number(case, 40));
-    let a = output::pour(out, at, b"name:");
-    let b = output::pour_hex(out, a, datagram::name_part(wire::part(d, 0, n)));
-    let c = output::pour(out, b, b" payload:");
-    output::pour_hex(out, c, datagram::payload_part(wire::part(d, 0, n)))
+    pour_parts(out, at, wire::part(d, 0, front_of(case, cut)))
 }

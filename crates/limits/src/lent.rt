@@ -1,6 +1,7 @@
 // What is lent to the receiver, and states that no calls make. A case is: the words of the state and the bytes of the names that are lent, 0 for
 // one too few, 1 for as many as must be, 2 for one more; of opening then the store's length; of a datagram the lengths of store and ledger;
 // and two words of a state, each as what it holds and a value.
+ghost use Prim.Native.Nat.{_≤_};
 use receiver::Call;
 use steps::Answer;
 
@@ -28,12 +29,22 @@ fn spot(which: usize) -> usize {
 }
 
 // A fresh state, and two words of it as the case has them from a place on.
-fn prepare(case: &[u8], place: usize, state: &mut [u64], names: &mut [u8]) {
+fn prepare(case: &[u8], place: usize, state: &mut [u64], names: &mut [u8])
+    requires { ⌜ place ≤ 64 ⌝ }
+{
     let w = wire::least(receiver::STATE_WORDS, state.len());
     let b = wire::least(receiver::NAME_BYTES, names.len());
     let _ = receiver::open(&mut state[..w], &mut names[..b], STORE);
-    words::put_word(state, spot(crate::number(case, place)), wire::number(case, place + 8, 8));
-    words::put_word(state, spot(crate::number(case, place + 16)), wire::number(case, place + 24, 8));
+    words::put_word(
+        state,
+        spot(crate::number(case, place)),
+        wire::number(case, place + 8, 8),
+    );
+    words::put_word(
+        state,
+        spot(crate::number(case, place + 16)),
+        wire::number(case, place + 24, 8),
+    );
 }
 
 fn pour_call(out: &mut [u8], at: usize, call: Call, done: &[u8]) -> usize {
@@ -44,13 +55,7 @@ fn pour_call(out: &mut [u8], at: usize, call: Call, done: &[u8]) -> usize {
 }
 
 // The slot size of a store of so many bytes.
-pub(crate) fn opened(
-    out: &mut [u8],
-    at: usize,
-    case: &[u8],
-    state: &mut [u64],
-    names: &mut [u8],
-) -> usize {
+fn opened_in(out: &mut [u8], at: usize, case: &[u8], state: &mut [u64], names: &mut [u8]) -> usize {
     let w = wire::least(state_words(case), state.len());
     let b = wire::least(name_bytes(case), names.len());
     let call = receiver::open(&mut state[..w], &mut names[..b], crate::number(case, 16));
@@ -60,17 +65,14 @@ pub(crate) fn opened(
     pour_call(out, at, call, b"")
 }
 
-// What is answered to a small message.
-pub(crate) fn received(
-    out: &mut [u8],
-    at: usize,
+// What is answered to a small message over what is lent.
+fn answered(
     case: &[u8],
     state: &mut [u64],
     names: &mut [u8],
     store: &mut [u8],
     ledger: &mut [u32],
-) -> usize {
-    prepare(case, 32, state, names);
+) -> Answer {
     let w = wire::least(state_words(case), state.len());
     let b = wire::least(name_bytes(case), names.len());
     let s = wire::least(crate::number(case, 16), store.len());
@@ -83,7 +85,10 @@ pub(crate) fn received(
         0,
         b"LC02\x00\x00\x00\x07P\x00A",
     );
-    let answer = outcome.answer;
+    outcome.answer
+}
+
+fn pour_answer(out: &mut [u8], at: usize, answer: Answer) -> usize {
     match answer {
         Answer::Refused(n) => output::pour_counted(out, at, b"refused ", n as u64),
         Answer::Kept => output::pour(out, at, b"kept"),
@@ -92,8 +97,22 @@ pub(crate) fn received(
     }
 }
 
+fn received_in(
+    out: &mut [u8],
+    at: usize,
+    case: &[u8],
+    state: &mut [u64],
+    names: &mut [u8],
+    store: &mut [u8],
+    ledger: &mut [u32],
+) -> usize {
+    prepare(case, 32, state, names);
+    let answer = answered(case, state, names, store, ledger);
+    pour_answer(out, at, answer)
+}
+
 // What is answered to forgetting sender 0.
-pub(crate) fn forgotten(
+fn forgotten_in(
     out: &mut [u8],
     at: usize,
     case: &[u8],
@@ -105,4 +124,33 @@ pub(crate) fn forgotten(
     let b = wire::least(name_bytes(case), names.len());
     let call = receiver::forget(&mut state[..w], &mut names[..b], 0);
     pour_call(out, at, call, b"done")
+}
+
+// The same over arrays that are one longer than must be.
+pub(crate) fn opened(out: &mut [u8], at: usize, case: &[u8]) -> usize {
+    let mut state = [0u64; receiver::STATE_WORDS + 1];
+    let mut names = [0u8; receiver::NAME_BYTES + 1];
+    opened_in(out, at, case, &mut state, &mut names)
+}
+
+pub(crate) fn received(out: &mut [u8], at: usize, case: &[u8]) -> usize {
+    let mut state = [0u64; receiver::STATE_WORDS + 1];
+    let mut names = [0u8; receiver::NAME_BYTES + 1];
+    let mut store = [0u8; 2 * STORE];
+    let mut ledger = [0u32; receiver::LEDGER + 1];
+    received_in(
+        out,
+        at,
+        case,
+        &mut state,
+        &mut names,
+        &mut store,
+        &mut ledger,
+    )
+}
+
+pub(crate) fn forgotten(out: &mut [u8], at: usize, case: &[u8]) -> usize {
+    let mut state = [0u64; receiver::STATE_WORDS + 1];
+    let mut names = [0u8; receiver::NAME_BYTES + 1];
+    forgotten_in(out, at, case, &mut state, &mut names)
 }

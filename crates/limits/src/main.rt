@@ -20,10 +20,6 @@ fn answer(
     at: usize,
     call: u64,
     case: &[u8],
-    state: &mut [u64],
-    names: &mut [u8],
-    store: &mut [u8],
-    ledger: &mut [u32],
     payload: &[u8],
     d: &mut [u8],
 ) -> usize {
@@ -31,9 +27,9 @@ fn answer(
         1 => cuts::cut(out, at, case, payload, d),
         2 => cuts::parts(out, at, case, payload, d),
         3 => watching::seen(out, at, case),
-        4 => lent::opened(out, at, case, state, names),
-        5 => lent::received(out, at, case, state, names, store, ledger),
-        6 => lent::forgotten(out, at, case, state, names),
+        4 => lent::opened(out, at, case),
+        5 => lent::received(out, at, case),
+        6 => lent::forgotten(out, at, case),
         _ => output::pour(out, at, b"no such call"),
     }
 }
@@ -45,32 +41,17 @@ fn one_more(
     n: u64,
     call: u64,
     case: &[u8],
-    state: &mut [u64],
-    names: &mut [u8],
-    store: &mut [u8],
-    ledger: &mut [u32],
     payload: &[u8],
     d: &mut [u8],
 ) -> usize {
     let a = output::pour_decimal(out, at, n);
     let b = output::pour(out, a, b" ");
-    let c = answer(
-        out, b, call, case, state, names, store, ledger, payload, d,
-    );
+    let c = answer(out, b, call, case, payload, d);
     output::pour(out, c, b"\n")
 }
 
 // One line a case, and the last line.
-fn run(
-    buf: &mut [u8],
-    out: &mut [u8],
-    state: &mut [u64],
-    names: &mut [u8],
-    store: &mut [u8],
-    ledger: &mut [u32],
-    payload: &[u8],
-    d: &mut [u8],
-) {
+fn run(buf: &mut [u8], out: &mut [u8], payload: &[u8], d: &mut [u8]) {
     let mut input = Input { at: 0, end: 0 };
     let mut at: usize = 0;
     let mut n: u64 = 0;
@@ -83,40 +64,14 @@ fn run(
         n += 1;
         input = left;
         let call = wire::number(stream::head(buf, from, Kind::Numbers), 0, 1);
-        at = one_more(
-            out,
-            at,
-            n,
-            call,
-            wire::part(buf, from, len),
-            state,
-            names,
-            store,
-            ledger,
-            payload,
-            d,
-        );
+        at = one_more(out, at, n, call, wire::part(buf, from, len), payload, d);
     }
 }
 
-// What is lent is one longer than the longest that is lawful.
 fn main() {
     let mut buf = [0u8; 4096];
     let mut out = [0u8; 4096];
-    let mut state = [0u64; receiver::STATE_WORDS + 1];
-    let mut names = [0u8; receiver::NAME_BYTES + 1];
-    let mut store = [0u8; 128];
-    let mut ledger = [0u32; receiver::LEDGER + 1];
     let payload = [65u8; datagram::MAX_PAYLOAD + 1];
     let mut d = [0u8; cutter::MOST_SIZE];
-    run(
-        &mut buf,
-        &mut out,
-        &mut state,
-        &mut names,
-        &mut store,
-        &mut ledger,
-        &payload,
-        &mut d,
-    );
+    run(&mut buf, &mut out, &payload, &mut d);
 }

@@ -119,7 +119,15 @@ fn run(buf: &mut [u8], list: &mut [i64], bytes: &mut [u8], out: &mut [u8]) {
         n += 1;
         input = left;
         let calculate = calculates(stream::head(buf, from, Kind::Numbers));
-        at = one_more(out, at, n, calculate, list, bytes, wire::part(buf, from, len));
+        at = one_more(
+            out,
+            at,
+            n,
+            calculate,
+            list,
+            bytes,
+            wire::part(buf, from, len),
+        );
     }
 }
 

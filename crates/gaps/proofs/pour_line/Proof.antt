@@ -1,22 +1,22 @@
 -- A line: its number, then the answer. Assumes nothing.
-use Rattle.text.proofs.Puts.{put-then}
+use Rattle.output.proofs.Sending.{pours-then}
 use borrow.Author.Needs.{needs}
-use Rattle.gaps.proofs.put_line.Statement.{statement}
-use Rattle.gaps.proofs.put_line.Tie as tie
+use Rattle.gaps.proofs.pour_line.Statement.{statement}
+use Rattle.gaps.proofs.pour_line.Tie as tie
 
-put-decimal-requires : tie.Need-put-decimal-requires
-put-decimal-requires c κs = search needs
+pour-decimal-requires : tie.Need-pour-decimal-requires
+pour-decimal-requires c κs = search needs
 
-put-answer-requires : tie.Need-put-answer-requires
-put-answer-requires c κs = search needs
+pour-answer-requires : tie.Need-pour-answer-requires
+pour-answer-requires c κs = search needs
 
 same-length : tie.Need-same-length
 same-length c = search needs
 
 returns : tie.Need-returns
 returns c =
-    let t = c .before .before in
-    put-then (t .before .before .before .before .put-decimal .ensures) (t .put-answer .ensures)
+    let p = c .before .before in
+    pours-then (p .before .before .before .before .pour-decimal .ensures) (p .pour-answer .ensures)
 
-pub put-line-spec : {M : Type 1} → statement M
-put-line-spec = tie.close (tie.spec put-decimal-requires put-answer-requires same-length returns)
+pub pour-line-spec : {M : Type 1} → statement M
+pour-line-spec = tie.close (tie.spec pour-decimal-requires pour-answer-requires same-length returns)

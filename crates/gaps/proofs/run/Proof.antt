@@ -1,17 +1,17 @@
 -- The loop ends: it counts the datagrams, up to a number that no input reaches. Assumes nothing.
 use mathlib.Core.Path.{_≡_}
 use Prim.Native.Nat.{_-_}
-use native.Mathlib.Omega.{arith}
 use lib.ListN.{length}
+use native.Mathlib.Omega.{arith}
 use borrow.Author.Needs.{needs}
 use Rattle.gaps.proofs.run.Statement.{statement}
 use Rattle.gaps.proofs.run.Tie as tie
 
 abbrev Inv-loop : tie.InvT-loop
-Inv-loop buf₀ out₀ w₀ input₀ at₀ n₀ t14 t15 buf out w input at n = (length buf ≡ length buf₀) × (length out ≡ length out₀)
+Inv-loop buf₀ out₀ w₀ input₀ at₀ n₀ buf out w input at n = (length buf ≡ length buf₀) × (length out ≡ length out₀)
 
 abbrev μ-loop : tie.MeasureT-loop
-μ-loop buf₀ out₀ w₀ input₀ at₀ n₀ t14 t15 buf out w input at n = 18446744073709551615 - n
+μ-loop buf₀ out₀ w₀ input₀ at₀ n₀ buf out w input at n = 18446744073709551615 - n
 
 new-requires : tie.Need-new-requires Inv-loop μ-loop
 new-requires c κs = search needs
@@ -25,37 +25,6 @@ next-record-requires c κs = search needs
 enum-known-next : tie.Need-enum-known-next Inv-loop μ-loop
 enum-known-next c = search needs
 
-part-requires : tie.Need-part-requires Inv-loop μ-loop
-part-requires c κs = search needs
-
-judge-requires : tie.Need-judge-requires Inv-loop μ-loop
-judge-requires c κs = search needs
-
-add-n : tie.Need-add-n Inv-loop μ-loop
-add-n c = search needs
-
-drain-requires : tie.Need-drain-requires Inv-loop μ-loop
-drain-requires c κs = search needs
-
-put-line-requires : tie.Need-put-line-requires Inv-loop μ-loop
-put-line-requires c κs = search needs
-
-loop-less : tie.Need-loop-less Inv-loop μ-loop
-loop-less c = search needs
-
-loop-again : tie.Need-loop-again Inv-loop μ-loop
-loop-again c =
-    let p = c .before .before in
-    let r = p .before .before .before .before .before .before .before .before .before .before .before .before .before in
-    let l = r .before .before .before .loop .inv in
-    (omega (arith, r .next-record .kept .0, l .0), omega (arith, p .put-line .kept .0, l .1))
-
-enum-told : tie.Need-enum-told Inv-loop μ-loop
-enum-told c = search needs
-
-slice-aggregate-finish : tie.Need-slice-aggregate-finish Inv-loop μ-loop
-slice-aggregate-finish c = search needs
-
 finish-requires : tie.Need-finish-requires Inv-loop μ-loop
 finish-requires c κs = search needs
 
@@ -68,14 +37,27 @@ same-length-2 c = search needs
 returns : tie.Need-returns Inv-loop μ-loop
 returns c = search needs
 
-enum-told-2 : tie.Need-enum-told-2 Inv-loop μ-loop
-enum-told-2 c = search needs
+add-n : tie.Need-add-n Inv-loop μ-loop
+add-n c = search needs
 
-slice-aggregate-finish-2 : tie.Need-slice-aggregate-finish-2 Inv-loop μ-loop
-slice-aggregate-finish-2 c = search needs
+part-requires : tie.Need-part-requires Inv-loop μ-loop
+part-requires c κs = search needs
 
-finish-requires-2 : tie.Need-finish-requires-2 Inv-loop μ-loop
-finish-requires-2 c κs = search needs
+judge-requires : tie.Need-judge-requires Inv-loop μ-loop
+judge-requires c κs = search needs
+
+pour-line-requires : tie.Need-pour-line-requires Inv-loop μ-loop
+pour-line-requires c κs = search needs
+
+loop-less : tie.Need-loop-less Inv-loop μ-loop
+loop-less c = search needs
+
+loop-again : tie.Need-loop-again Inv-loop μ-loop
+loop-again c =
+    let p = c .before .before in
+    let r = p .before .before .before .before .before .before .before .before .before .before .before in
+    let l = r .before .before .before .loop .inv in
+    (omega (arith, r .next-record .kept .0, l .0), omega (arith, p .pour-line .kept .0, l .1))
 
 same-length-3 : tie.Need-same-length-3 Inv-loop μ-loop
 same-length-3 c = search needs
@@ -85,15 +67,6 @@ same-length-4 c = search needs
 
 returns-2 : tie.Need-returns-2 Inv-loop μ-loop
 returns-2 c = search needs
-
-same-length-5 : tie.Need-same-length-5 Inv-loop μ-loop
-same-length-5 c = search needs
-
-same-length-6 : tie.Need-same-length-6 Inv-loop μ-loop
-same-length-6 c = search needs
-
-returns-3 : tie.Need-returns-3 Inv-loop μ-loop
-returns-3 c = search needs
 
 pub run-spec : {M : Type 1} → statement M
 run-spec =
@@ -105,25 +78,16 @@ run-spec =
     loop-holds
     next-record-requires
     enum-known-next
-    part-requires
-    judge-requires
-    add-n
-    drain-requires
-    put-line-requires
-    loop-less
-    loop-again
-    enum-told
-    slice-aggregate-finish
     finish-requires
     same-length
     same-length-2
     returns
-    enum-told-2
-    slice-aggregate-finish-2
-    finish-requires-2
+    add-n
+    part-requires
+    judge-requires
+    pour-line-requires
+    loop-less
+    loop-again
     same-length-3
     same-length-4
-    returns-2
-    same-length-5
-    same-length-6
-    returns-3)
+    returns-2)

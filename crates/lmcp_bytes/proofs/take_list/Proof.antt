@@ -1,0 +1,86 @@
+-- The numbers of a body. The loop's invariant: the i numbers passed are stored. Assumes nothing.
+use mathlib.Core.Path.{_≡_, refl, sym, ap, _∙_}
+use mathlib.Core.List.{List}
+use Prim.Native.Nat.{ℕ, _+_, _-_, _*_, _/_, _≤_}
+use lib.IntN.{ℤ}
+use lib.ListN.{length, drop, set, length-set}
+use lib.Seq.{sets, length-sets}
+use native.Mathlib.Omega.{arith}
+use mir.Syntax.{w64}
+use mir.Val.{toZ, ofZ}
+use mir.ValLaws.{toZ-ofZ}
+use Rattle.wire.specs.Signed.{signed}
+use Rattle.lmcp_bytes.specs.Lines.{numbersOf}
+use Rattle.lmcp_bytes.proofs.Taken.{taken-one}
+use borrow.Author.Needs.{needs}
+use Rattle.lmcp_bytes.proofs.take_list.Statement.{statement}
+use Rattle.lmcp_bytes.proofs.take_list.Tie as tie
+
+abbrev Inv-loop : tie.InvT-loop
+Inv-loop body list₀ n i₀ list i = (i ≤ n) × (length list ≡ length list₀) × (list ≡ sets list₀ 0 (numbersOf i body))
+
+abbrev μ-loop : tie.MeasureT-loop
+μ-loop body list₀ n i₀ list i = n - i
+
+loop-holds : tie.Need-loop-holds Inv-loop μ-loop
+loop-holds c = (omega arith, refl, refl)
+
+mul-number : tie.Need-mul-number Inv-loop μ-loop
+mul-number c = search needs
+
+number-requires : tie.Need-number-requires Inv-loop μ-loop
+number-requires c κs = search needs
+
+signed-of-requires : tie.Need-signed-of-requires Inv-loop μ-loop
+signed-of-requires c κs = search needs
+
+mul-z : tie.Need-mul-z Inv-loop μ-loop
+mul-z c = search needs
+
+slice-set-from-z : tie.Need-slice-set-from-z Inv-loop μ-loop
+slice-set-from-z c = search needs
+
+add-i : tie.Need-add-i Inv-loop μ-loop
+add-i c = search needs
+
+loop-less : tie.Need-loop-less Inv-loop μ-loop
+loop-less c = search needs
+
+loop-again : tie.Need-loop-again Inv-loop μ-loop
+loop-again c =
+    let s = c in
+    let k = c .before in
+    let l = k .before .before in
+    let b = l .before .before .args .body .now in
+    let z : ℤ = toZ w64 (ofZ w64 (s .signed-of .result)) in
+    let e = toZ-ofZ w64 (s .signed-of .result) (record { sfits = s .signed-of .ok }) ∙ s .signed-of .ensures ∙ ap (signed 64) (k .number .ensures .value) in
+    let q = ap (λ (x : List ℤ). set x (l .loop .i) z) (l .loop .inv .2) ∙ taken-one (l .before .before .args .list .now) (l .loop .i) b z e in
+    (omega arith, ap length q ∙ length-sets (l .before .before .args .list .now) 0 (numbersOf (l .loop .i + 1) b), q)
+
+same-length : tie.Need-same-length Inv-loop μ-loop
+same-length c = search needs
+
+returns : tie.Need-returns Inv-loop μ-loop
+returns c =
+    let l = c .before in
+    let a = l .before .before .args in
+    let e : l .loop .i ≡ length (a .body .now) / 8 = omega arith in
+    (refl, l .loop .inv .2 ∙ ap (λ (k : ℕ). sets (a .list .now) 0 (numbersOf k (a .body .now))) e)
+
+pub take-list-spec : {M : Type 1} → statement M
+take-list-spec =
+    tie.close
+    (tie.spec
+    Inv-loop
+    μ-loop
+    loop-holds
+    mul-number
+    number-requires
+    signed-of-requires
+    mul-z
+    slice-set-from-z
+    add-i
+    loop-less
+    loop-again
+    same-length
+    returns)

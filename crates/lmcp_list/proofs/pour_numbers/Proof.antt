@@ -1,0 +1,93 @@
+-- Numbers, each after a space. The loop's invariant: the i numbers passed went out. Assumes nothing.
+use mathlib.Core.Path.{_≡_, refl, sym, ap, _∙_}
+use mathlib.Core.List.{List, [], _∷_, _++_}
+use Prim.Native.Nat.{ℕ, _+_, _-_, _≤_, min}
+use lib.IntN.{ℤ, pos}
+use lib.ListN.{length, take, getD}
+use mir.Syntax.{w64}
+use mir.ValLaws.{toZ-ofZ}
+use Rattle.text.specs.Text.{signedDecimal}
+use Rattle.output.specs.Output.{Pours}
+use Rattle.output.proofs.Sending.{sends-none, pours-then, pours-is}
+use Rattle.lmcp_list.specs.Lines.{spaced}
+use Rattle.lmcp_list.proofs.Spaced.{spaced-turn, spaced-least}
+use borrow.Author.Needs.{needs}
+use native.Mathlib.Omega.{arith}
+use Rattle.lmcp_list.proofs.pour_numbers.Statement.{statement}
+use Rattle.lmcp_list.proofs.pour_numbers.Tie as tie
+
+abbrev Inv-loop : tie.InvT-loop
+Inv-loop out₀ at list n most next₀ i₀ t9 out next i = (i ≤ most) × (length out ≡ length out₀) × Pours out₀ at (spaced (take i list)) out next
+
+abbrev μ-loop : tie.MeasureT-loop
+μ-loop out₀ at list n most next₀ i₀ t9 out next i = most - i
+
+least-requires : tie.Need-least-requires Inv-loop μ-loop
+least-requires c κs = search needs
+
+loop-holds : tie.Need-loop-holds Inv-loop μ-loop
+loop-holds c =
+    let a = c .before .before .args in
+    (omega arith, refl, λ l h. sends-none (a .out .now) (a .at) h)
+
+slice-aggregate-pour : tie.Need-slice-aggregate-pour Inv-loop μ-loop
+slice-aggregate-pour c = search needs
+
+pour-requires : tie.Need-pour-requires Inv-loop μ-loop
+pour-requires c κs = search needs
+
+mul-pour-signed : tie.Need-mul-pour-signed Inv-loop μ-loop
+mul-pour-signed c = search needs
+
+shared-slice-copy-out-pour-signed : tie.Need-shared-slice-copy-out-pour-signed Inv-loop μ-loop
+shared-slice-copy-out-pour-signed c = search needs
+
+pour-signed-requires : tie.Need-pour-signed-requires Inv-loop μ-loop
+pour-signed-requires c κs = search needs
+
+add-i : tie.Need-add-i Inv-loop μ-loop
+add-i c = search needs
+
+loop-less : tie.Need-loop-less Inv-loop μ-loop
+loop-less c = search needs
+
+loop-again : tie.Need-loop-again Inv-loop μ-loop
+loop-again c =
+    let p = c .before .before in
+    let q = p .before .before .before .before .before in
+    let l = q .before .before .before .before in
+    let s = l .before .before .before .args .list .now in (
+      omega arith,
+      omega (arith, p .pour-signed .kept .0, q .pour .kept .0, l .loop .inv .1),
+      pours-is (pours-then (pours-then (l .loop .inv .2) (q .pour .ensures)) (p .pour-signed .ensures))
+          (ap (λ (z : ℤ). spaced (take (l .loop .i) s) ++ 32 ∷ [] ++ signedDecimal z) (toZ-ofZ w64 (getD s (l .loop .i) (pos 0)) (record { sfits = p .before .pour-signed-arg2 .given }))
+          ∙ spaced-turn s (l .loop .i) (omega (arith, l .before .least .ensures))),
+    )
+
+same-length : tie.Need-same-length Inv-loop μ-loop
+same-length c = search needs
+
+returns : tie.Need-returns Inv-loop μ-loop
+returns c =
+    let l = c .before in
+    let a = l .before .before .before .args in
+    pours-is (l .loop .inv .2) (spaced-least (a .list .now) (a .n) (l .loop .i) (omega (arith, l .before .least .ensures)))
+
+pub pour-numbers-spec : {M : Type 1} → statement M
+pour-numbers-spec =
+    tie.close
+    (tie.spec
+    Inv-loop
+    μ-loop
+    least-requires
+    loop-holds
+    slice-aggregate-pour
+    pour-requires
+    mul-pour-signed
+    shared-slice-copy-out-pour-signed
+    pour-signed-requires
+    add-i
+    loop-less
+    loop-again
+    same-length
+    returns)
