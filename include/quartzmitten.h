@@ -25,7 +25,7 @@ typedef unsigned long long qm_size; /* a length, a place or a number of elements
 #define QM_TOO_FEW_BYTES 1      /* fewer than 8 bytes, or fragment magic and fewer than 20 */
 #define QM_OTHER_MAGIC 2        /* neither 4c433032 nor 4c433033 */
 #define QM_DATAGRAM_TOO_LONG 3  /* a datagram over 65,535 bytes */
-#define QM_NAME 4               /* name empty, over 63 bytes or without its zero byte, or a byte outside 32 to 126 */
+#define QM_NAME 4               /* name empty, over 63 bytes or without its zero byte, not UTF-8 (RFC 3629), or a code point below 32 or 127 */
 #define QM_FRAGMENT_NUMBER 5    /* count 0 or over 256, or a number not below the count */
 #define QM_PAYLOAD_TOO_LONG 6   /* payload size over 262,144 */
 #define QM_FORM 7               /* the form of a fragment broken */
@@ -47,7 +47,7 @@ enum {
     QM_NUMBER,        /* the fragment's number k, from 0; of a small message 0 */
     QM_COUNT,         /* the number n of fragments; of a small message 1 */
     QM_NAME_PLACE,    /* where the name begins in the datagram: 8 in a small message, 20 in a fragment */
-    QM_NAME_LENGTH,   /* 1 to 63; 0 in a fragment with a number above 0, which has no name */
+    QM_NAME_LENGTH,   /* 1 to 63, in bytes; 0 in a fragment with a number above 0, which has no name */
     QM_DATA_PLACE,    /* where the data begins in the datagram */
     QM_DATA_LENGTH,   /* how many bytes of data it carries */
     QM_FIELDS         /* ten */
@@ -71,7 +71,7 @@ qm_u32 qm_read_datagram(const qm_byte *datagram, qm_size length, qm_u32 *fields,
    21 - name_length bytes of the payload, each later one size - 20, and the last the rest.
 
    Otherwise answers a refusal, which is below 2^32 as no other answer is: the first that fits in the order 10, 4, 6, 11, 12,
-   13; then nothing is written. `name` has no zero byte at its end. */
+   13; then nothing is written. `name` is 1 to 63 bytes of UTF-8, with no zero byte at its end. */
 qm_u64 qm_cut(const qm_byte *name, qm_size name_length, const qm_byte *payload, qm_size payload_length, qm_u32 sequence,
               qm_size size, qm_size index, qm_byte *out, qm_size out_length);
 

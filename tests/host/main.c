@@ -131,9 +131,7 @@ static void fill_random(u8 *at, u64 length) {
     for (; i < length; i++) at[i] = (u8) random_64();
 }
 
-static void fill_name(u8 *at, u64 length) {
-    for (u64 i = 0; i < length; i++) at[i] = (u8) between(32, 126);
-}
+static void fill_name(u8 *at, u64 length) { ref_fill_name(at, length, random_64); }
 
 /* What a datagram is made from. */
 struct plan {
@@ -230,7 +228,7 @@ static void read_lengths(void) {
 
 /* Every length of a name with each edge byte at every place, and every byte at one place. */
 static void read_names(void) {
-    static const u8 edges[] = {0, 31, 32, 126, 127, 128, 255};
+    static const u8 edges[] = {0, 31, 32, 126, 127, 0x80, 0x8f, 0x90, 0x9f, 0xa0, 0xbf, 0xc0, 0xc1, 0xc2, 0xdf, 0xe0, 0xed, 0xef, 0xf0, 0xf4, 0xf5, 255};
     for (int small = 0; small < 2; small++)
         for (u64 c = 0; c <= 66; c++) {
             struct plan p = good_plan(small, 0);
@@ -253,6 +251,31 @@ static void read_names(void) {
                 try_read(length);
             }
         }
+}
+
+/* Both sides of every edge of a code point, in each form of 1 to 4 bytes that holds its bits, so overlong too, whole and cut, after every number of
+   letters up to the 63rd byte and past it. */
+static void read_points(void) {
+    static const u32 points[] = {0x1f, 0x20, 0x7e, 0x7f, 0x80, 0x9f, 0xa0, 0x7ff, 0x800, 0xfff, 0x1000, 0xcfff, 0xd000, 0xd7ff, 0xd800, 0xdbff, 0xdc00, 0xdfff,
+                                 0xe000, 0xfeff, 0xfffe, 0xffff, 0x10000, 0x3ffff, 0x40000, 0xfffff, 0x100000, 0x10ffff, 0x110000, 0x13ffff, 0x1fffff};
+    static const u32 holds[] = {0, 0xff, 0x7ff, 0xffff, 0x1fffff};
+    for (int small = 0; small < 2; small++)
+        for (u64 i = 0; i < sizeof points / sizeof *points; i++)
+            for (u64 n = 1; n <= 4; n++)
+                for (u64 cut = 0; points[i] <= holds[n] && cut < n; cut++)
+                    for (u64 letters = 0; letters <= 64; letters++) {
+                        struct plan p = good_plan(small, 0);
+                        p.number = p.offset = 0;
+                        p.count = 2;
+                        p.size = 1000;
+                        p.name_length = letters + n - cut;
+                        u64 length = make(&p), at = small ? 8 : 20;
+                        u8 form[4];
+                        ref_put_form(form, points[i], n);
+                        memset(datagram + at, 'n', letters);
+                        memcpy(datagram + at + letters, form, n - cut);
+                        try_read(length);
+                    }
 }
 
 /* Every pair of edges of number and count, of size and offset. */
@@ -398,7 +421,7 @@ static void cut_random(int times) {
     for (int i = 0; i < times; i++) {
         u64 c = chance(70) ? between(1, 63) : ONE_OF(0, 1, 62, 63, 64, 65, 66, 300, 66000);
         fill_name(name_bytes, c);
-        if (chance(15) && c > 0) name_bytes[below(c)] = (u8) ONE_OF(0, 31, 32, 126, 127, 128, 255);
+        if (chance(15) && c > 0) name_bytes[below(c)] = (u8) ONE_OF(0, 31, 32, 126, 127, 0x80, 0xbf, 0xc0, 0xc2, 0xe0, 0xed, 0xf0, 0xf4, 0xf5, 255);
         u64 m = edge_m();
         u64 p = below(chance(60) ? 300 : 20000);
         if (chance(3)) p = ONE_OF(262143, 262144, 262145, 65536, 65507, MAX_PAYLOAD - below(100));
@@ -561,6 +584,7 @@ int main(void) {
     checksums();
     read_lengths();
     read_names();
+    read_points();
     read_numbers();
     read_random(150000);
     cut_multiples();

@@ -21,12 +21,46 @@ u32 ref_checksum(const u8 *bytes, u64 length) {
     return (u32) sum;
 }
 
-static int good_name_byte(u8 b) { return b >= 32 && b <= 126; }
+/* How many bytes RFC 3629 has for a code point; 0 for a surrogate and above 10FFFF. */
+static u64 bytes_of(u32 point) {
+    if (point >= 0xd800 && point <= 0xdfff) return 0;
+    if (point > 0x10ffff) return 0;
+    return point < 0x80 ? 1 : point < 0x800 ? 2 : point < 0x10000 ? 3 : 4;
+}
+
+u64 ref_put_form(u8 *at, u32 bits, u64 n) {
+    for (u64 i = n; i-- > 1; bits >>= 6) at[i] = (u8) (0x80 | (bits & 0x3f));
+    static const u8 marks[] = {0, 0, 0xc0, 0xe0, 0xf0};
+    at[0] = (u8) (marks[n] | bits);
+    return n;
+}
+
+void ref_fill_name(u8 *at, u64 length, u64 (*random)(void)) {
+    static const u32 edges[] = {0x20, 0x7e, 0x80, 0x9f, 0xe9, 0x7ff, 0x800, 0xd7ff, 0xe000, 0xfeff, 0xffff, 0x10000, 0x10ffff};
+    for (u64 i = 0; i < length;) {
+        u32 point = (u32) (32 + random() % 95);
+        if (random() % 4 == 0) point = edges[random() % (sizeof edges / sizeof *edges)];
+        if (random() % 8 == 0) point = (u32) (random() % 0x110000);
+        u64 n = bytes_of(point);
+        if (n == 0 || i + n > length || point < 32 || point == 127) continue;
+        i += ref_put_form(at + i, point, n);
+    }
+}
 
 int ref_good_name(const u8 *name, u64 length) {
     if (length < 1 || length > MAX_NAME) return 0;
-    for (u64 i = 0; i < length; i++)
-        if (!good_name_byte(name[i])) return 0;
+    for (u64 i = 0; i < length;) {
+        u8 b = name[i];
+        u64 n = b < 0x80 ? 1 : b >> 5 == 6 ? 2 : b >> 4 == 14 ? 3 : b >> 3 == 30 ? 4 : 0;
+        if (n == 0 || i + n > length) return 0;
+        u32 point = n == 1 ? b : b & (0x7fu >> n);
+        for (u64 k = 1; k < n; k++) {
+            if (name[i + k] >> 6 != 2) return 0;
+            point = point << 6 | (name[i + k] & 0x3f);
+        }
+        if (bytes_of(point) != n || point < 32 || point == 127) return 0;
+        i += n;
+    }
     return 1;
 }
 

@@ -33,8 +33,14 @@ void ref_put(u8 *at, int width, u64 value);
 /* The sum of all bytes modulo 2^32. */
 u32 ref_checksum(const u8 *bytes, u64 length);
 
-/* 1 where the bytes are a name: 1 to 63 of them, each from 32 to 126. */
+/* 1 where the bytes are a name: 1 to 63 of well-formed UTF-8 (RFC 3629), no code point below 32 and none 127. */
 int ref_good_name(const u8 *name, u64 length);
+
+/* A name of exactly that many bytes, of code points of every size, the edges of their ranges among them. */
+void ref_fill_name(u8 *at, u64 length, u64 (*random)(void));
+
+/* The bits in the form of n bytes, whether or not RFC 3629 allows it; answers n. */
+u64 ref_put_form(u8 *at, u32 bits, u64 n);
 
 /* What a datagram of good form says. A small one: size is its data length, offset 0, number 0, count 1. */
 struct ref_header {

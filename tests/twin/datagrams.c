@@ -117,7 +117,7 @@ static void new_message(struct message *m) {
     m->sequence = chance(92) ? next_sequence++ : next_sequence - (u32) below(200);
     m->size = (u32) some_size();
     m->name_length = chance(90) ? between(1, 8) : between(1, 63);
-    for (u64 i = 0; i < m->name_length; i++) m->name[i] = (u8) between(32, 126);
+    ref_fill_name(m->name, m->name_length, random_64);
     fill(m->payload, m->size);
     cut_message(m);
     m->unsent = 0;
@@ -144,7 +144,7 @@ static u64 small(u32 sequence, u64 data, u8 *d) {
     u64 c = between(1, chance(80) ? 6 : 63);
     ref_put(d, 4, SMALL_MAGIC);
     ref_put(d + 4, 4, sequence);
-    for (u64 i = 0; i < c; i++) d[8 + i] = (u8) between(32, 126);
+    ref_fill_name(d + 8, c, random_64);
     d[8 + c] = 0;
     fill(d + 9 + c, data);
     return 9 + c + data;
@@ -182,7 +182,7 @@ static u64 damage(u8 *d, u64 length) {
     case 2: d[length] = (u8) random_64(); return length + 1;
     case 3: if (length > 0) d[below(length)] ^= (u8) (1 << below(8)); return length;
     case 4: if (length > 0) d[length - 1] ^= 1; return length;
-    case 5: if (length > 20) d[20] = (u8) ONE_OF(0, 31, 32, 126, 127, 'x', 255); return length;
+    case 5: if (length > 20) d[20] = (u8) ONE_OF(0, 31, 32, 126, 127, 'x', 0x80, 0xbf, 0xc0, 0xc2, 0xe0, 0xed, 0xf0, 0xf4, 0xf5, 255); return length;
     case 6: if (length > 0) d[below(length < 24 ? length : 24)] = (u8) random_64(); return length;
     default:
         for (u64 moves = between(1, 2); moves > 0; moves--) move_field(d, length);

@@ -6,11 +6,15 @@ FRAGMENT = bytes.fromhex("4c433033")
 
 
 def name_in(rest):
-    """The name before the first zero byte, or None where the paper refuses it by 4."""
+    """The name before the first zero byte, or None where the paper (L2) refuses it by 4."""
     end = rest[:64].find(0)
-    if end < 1 or not all(32 <= b <= 126 for b in rest[:end]):
+    if end < 1:
         return None
-    return rest[:end]
+    try:
+        text = rest[:end].decode("utf-8")  # strict: no overlong form, no surrogate, nothing above 10FFFF
+    except UnicodeDecodeError:
+        return None
+    return rest[:end] if all(ord(c) >= 32 and ord(c) != 127 for c in text) else None
 
 
 def read(d, limit):

@@ -6,7 +6,7 @@ use Prim.Native.Nat.{ℕ, zero, suc, _+_, _-_, _≤_, _<_, _^_, min}
 use native.Mathlib.Nat.{pow-le-pow-right}
 use native.Mathlib.Numerals.{add-one}
 use native.Mathlib.Omega.{arith}
-use native.Mathlib.Decide.{decLe}
+use native.Mathlib.Decide.{decLe, ℕ-discrete}
 use lib.Dec.{eqb, leb, ltb}
 use lib.ListN.{length, getD, take, drop, length-take, length-append, drop-of-length-le}
 use lib.Seq.{drop-cons, take-append-seam, length-take-le}
@@ -15,18 +15,12 @@ use Rattle.wire.specs.Choice.{pick}
 use Rattle.wire.proofs.Choices.{never, and-false, and-l, and-r}
 use Rattle.wire.proofs.Parts.{part-rest}
 use Rattle.datagram.specs.Limits.{maxName}
-use Rattle.datagram.specs.Name.{every, printable, goodName, untilZero, nameLength}
+use Rattle.datagram.specs.Scan.{start, next, scan}
+use Rattle.datagram.specs.Name.{goodName, untilZero, nameLength}
+use Rattle.datagram.specs.declared.Scan.{Scan}
 use Rattle.datagram.specs.declared.Named.{Named}
 use Rattle.datagram.specs.declared.Named.the-variants.{Nameless, Long}
-
--- ---- every byte of a list
-
-module _ (p : ℕ → Bool) (l : List ℕ) where
-  pub every-step : (i : ℕ) → i < length l → every p (drop i l) ≡ (p (getD l i 0) && every p (drop (i + 1) l))
-  every-step i h = rw (drop-cons l i 0 h, add-one) refl
-
-  pub every-end : (i : ℕ) → length l ≤ i → every p (drop i l) ≡ true
-  every-end i h = rw (drop-of-length-le l h)
+use Rattle.datagram.proofs.Scans.{bad-stays, next-zero, next-low}
 
 -- ---- names
 
@@ -38,14 +32,14 @@ long-name nm h = rw (lt-leb (length nm) maxName h) (and-false (leb 1 (length nm)
 -- a name has no zero byte: it ends at the first
 pub name-no-zero : (nm t : List ℕ) → goodName nm ≡ true → untilZero (nm ++ 0 ∷ t) ≡ length nm
 unfolding goodName untilZero
-name-no-zero nm t e = go nm (and-r (leb (length nm) maxName) _ (and-r (leb 1 (length nm)) _ e))
+name-no-zero nm t e = go start nm (omega arith) (and-r (leb (length nm) maxName) _ (and-r (leb 1 (length nm)) _ e))
   where
-    go : (l : List ℕ) → every printable l ≡ true → untilZero (l ++ 0 ∷ t) ≡ length l
-    go [] h = refl
-    go (x ∷ l) h =
-        let a : leb 32 x ≡ true = and-l (leb 32 x) (leb x 126) (and-l (printable x) (every printable l) h) in
-        let b : 32 ≤ x = leb-true 32 x a in
-        rw (ne-eqb x 0 (λ z. let w : ⊥ = omega arith in w)) (ap suc (go l (and-r (printable x) (every printable l) h)))
+    go : (s : Scan) (l : List ℕ) → 1 ≤ s .low → eqb (scan s l .left) 0 ≡ true → untilZero (l ++ 0 ∷ t) ≡ length l
+    go s [] h d = refl
+    go s (x ∷ l) h d = elim (ℕ-discrete x 0) [
+      | yes z ↦ never d (ap (λ (r : Scan). eqb (r .left) 0) (ap (λ (r : Scan). scan r l) (next-zero s x h z) ∙ bad-stays l))
+      | no z ↦ rw (ne-eqb x 0 z) (ap suc (go (next s x) l (next-low s x) d))
+    ]
 
 -- ---- the bytes before the first zero byte
 

@@ -1,4 +1,5 @@
 pub mod Limits
+pub mod Scan
 pub mod Name
 pub mod Read
 pub mod Said

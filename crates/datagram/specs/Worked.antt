@@ -40,6 +40,12 @@ cases =
     ∷ case (smallOf (32 ∷ 0 ∷ [])) (small 7 (32 ∷ []) [])
     ∷ case (smallOf (126 ∷ 0 ∷ 0x41 ∷ [])) (small 7 (126 ∷ []) (0x41 ∷ []))
     ∷ case (smallOf (0x50 ∷ 127 ∷ 0 ∷ [])) (refused 4)
+    -- e acute, and the same cut; an overlong form, a surrogate, 110000
+    ∷ case (smallOf (0xc3 ∷ 0xa9 ∷ 0 ∷ [])) (small 7 (0xc3 ∷ 0xa9 ∷ []) [])
+    ∷ case (smallOf (0xc3 ∷ 0 ∷ [])) (refused 4)
+    ∷ case (smallOf (0xc1 ∷ 0xbf ∷ 0 ∷ [])) (refused 4)
+    ∷ case (smallOf (0xed ∷ 0xa0 ∷ 0x80 ∷ 0 ∷ [])) (refused 4)
+    ∷ case (smallOf (0xf4 ∷ 0x90 ∷ 0x80 ∷ 0x80 ∷ 0 ∷ [])) (refused 4)
     -- P 262,144 and 262,145
     ∷ case (fragmentOf 262_144 0 0 2 (0x50 ∷ 0 ∷ 0x41 ∷ [])) (fragment (begun 262_144))
     ∷ case (fragmentOf 262_145 0 0 2 (0x50 ∷ 0 ∷ 0x41 ∷ [])) (refused 6)
