@@ -39,7 +39,12 @@ fn kept(buf: &mut [u8], out: &mut [u8], first: usize) {
         };
         n += 1;
         input = left;
-        at = keep(out, at, stream::head(buf, from, Kind::Entry), wire::part(buf, from, len));
+        at = keep(
+            out,
+            at,
+            stream::head(buf, from, Kind::Entry),
+            wire::part(buf, from, len),
+        );
     }
 }
 

@@ -59,4 +59,10 @@ length-of-returns-3 t c =
 
 pub +length-of-spec : {M : Type 1} → statement M
 +length-of-spec =
-    close μ-length-of λ t. length-of-lts.spec (callees t) (length-of-at t) length-of.Post (length-of-returns t) (length-of-returns-2 t) (length-of-sub-length-of t) (length-of-length-of-requires t) (length-of-add-result t) (length-of-returns-3 t)
+    close μ-length-of λ t. length-of-lts.spec (callees t) (length-of-at t) length-of.Post
+    (length-of-returns t)
+    (length-of-returns-2 t)
+    (length-of-sub-length-of t)
+    (length-of-length-of-requires t)
+    (length-of-add-result t)
+    (length-of-returns-3 t)

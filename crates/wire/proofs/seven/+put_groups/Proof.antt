@@ -88,4 +88,17 @@ put-groups-returns-3 t c =
 
 pub +put-groups-spec : {M : Type 1} → statement M
 +put-groups-spec =
-    close μ-put-groups λ t. put-groups-lts.spec (callees t) (put-groups-at t) put-groups.Post (put-groups-returns t) (put-groups-cast-out t) (put-groups-slice-write-out t) (put-groups-same-length t) (put-groups-returns-2 t) (put-groups-add-out t) (put-groups-cast-out-2 t) (put-groups-slice-write-out-2 t) (put-groups-add-put-groups t) (put-groups-sub-put-groups t) (put-groups-put-groups-requires t) (put-groups-same-length-2 t) (put-groups-returns-3 t)
+    close μ-put-groups λ t. put-groups-lts.spec (callees t) (put-groups-at t) put-groups.Post
+    (put-groups-returns t)
+    (put-groups-cast-out t)
+    (put-groups-slice-write-out t)
+    (put-groups-same-length t)
+    (put-groups-returns-2 t)
+    (put-groups-add-out t)
+    (put-groups-cast-out-2 t)
+    (put-groups-slice-write-out-2 t)
+    (put-groups-add-put-groups t)
+    (put-groups-sub-put-groups t)
+    (put-groups-put-groups-requires t)
+    (put-groups-same-length-2 t)
+    (put-groups-returns-3 t)

@@ -116,4 +116,22 @@ read-groups-returns-7 t c =
 
 pub +read-groups-spec : {M : Type 1} → statement M
 +read-groups-spec =
-    close μ-read-groups λ t. read-groups-lts.spec (callees t) (read-groups-at t) read-groups.Post (read-groups-returns t) (read-groups-shared-slice-read-wide t) (read-groups-wide-requires t) (read-groups-returns-2 t) (read-groups-add-t14 t) (read-groups-returns-3 t) (read-groups-add-t15 t) (read-groups-returns-4 t) (read-groups-add-read-groups t) (read-groups-sub-read-groups t) (read-groups-read-groups-requires t) (read-groups-enum-known-high t) (read-groups-returns-5 t) (read-groups-mul-t20 t) (read-groups-add-t21 t) (read-groups-enum-known-high-2 t) (read-groups-returns-6 t) (read-groups-returns-7 t)
+    close μ-read-groups λ t. read-groups-lts.spec (callees t) (read-groups-at t) read-groups.Post
+    (read-groups-returns t)
+    (read-groups-shared-slice-read-wide t)
+    (read-groups-wide-requires t)
+    (read-groups-returns-2 t)
+    (read-groups-add-t14 t)
+    (read-groups-returns-3 t)
+    (read-groups-add-t15 t)
+    (read-groups-returns-4 t)
+    (read-groups-add-read-groups t)
+    (read-groups-sub-read-groups t)
+    (read-groups-read-groups-requires t)
+    (read-groups-enum-known-high t)
+    (read-groups-returns-5 t)
+    (read-groups-mul-t20 t)
+    (read-groups-add-t21 t)
+    (read-groups-enum-known-high-2 t)
+    (read-groups-returns-6 t)
+    (read-groups-returns-7 t)
