@@ -1,8 +1,8 @@
-/* Quartzmitten for a C host: the checksum, the datagram reader and the cutter.
+/* Quartzmitten for a C host: the checksum, the datagram reader, the cutter and the log's writer.
 
    Link the archive libhost.a, which the toolchain's `rt staticlib host` writes (x86-64 Linux). No other header is needed.
 
-   What holds for all three:
+   What holds for all of them:
    - They end for any bytes and any lengths, keep no state, ask the system for nothing, and may be called from any thread.
    - They read and write only the bytes lent in the call. A refusal writes nothing.
    - Lent memory is a pointer and how many elements stand there. The pointer is never null, also where the length is 0, and
@@ -33,6 +33,7 @@ typedef unsigned long long qm_size; /* a length, a place or a number of elements
 #define QM_TOO_MANY_FRAGMENTS 11 /* more than 256 fragments */
 #define QM_NO_SUCH_DATAGRAM 12  /* the datagram asked for is not below the number of datagrams */
 #define QM_TOO_SHORT 13         /* output or list too short */
+#define QM_KEPT_TOO_LONG 42     /* a datagram to keep over 65,535 bytes */
 
 /* The sum of all `length` bytes modulo 2^32. Of no bytes it is 0. Nothing is written. */
 qm_u32 qm_checksum(const qm_byte *bytes, qm_size length);
@@ -77,6 +78,22 @@ qm_u64 qm_cut(const qm_byte *name, qm_size name_length, const qm_byte *payload, 
 /* The two halves of what qm_cut answers. */
 #define QM_CUT_COUNT(answer) ((qm_u32) ((answer) >> 32))
 #define QM_CUT_LENGTH(answer) ((qm_u32) (answer))
+
+/* Keeping a flight: a log in lent memory, begun once, then one entry after another, each at the place where the one before
+   ended. What stands before the place is what may be written to disk at any time; the rest of `out` stays.
+
+   Both answer (number of bytes written) * 2^32, so that the next place is the place plus QM_LOG_LENGTH(answer); or a refusal,
+   which is below 2^32 as no other answer is, and then nothing is written. */
+
+/* Writes the head of a log to the start of `out`: one byte. 13 where `out` has none. */
+qm_u64 qm_log_begin(qm_byte *out, qm_size out_length);
+
+/* Writes one entry, the datagram with its sender and arrival tick, at the place `at` of `out`: at most 30 bytes and the
+   datagram's. 42 where the datagram is over 65,535 bytes, then 13 where the entry does not fit. Any place may be given. */
+qm_u64 qm_log_append(qm_byte *out, qm_size out_length, qm_size at, qm_u64 sender, qm_u64 tick, const qm_byte *datagram,
+                     qm_size length);
+
+#define QM_LOG_LENGTH(answer) ((qm_size) ((answer) >> 32))
 
 #ifdef __cplusplus
 }

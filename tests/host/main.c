@@ -1,4 +1,4 @@
-/* Holds the three exported functions to the second implementation in tests/reference, on seeded inputs, long and short, valid
+/* Holds the exported functions to the second implementation in tests/reference, on seeded inputs, long and short, valid
    and damaged. Each call is one test: the answer, every lent byte or number afterwards, and the canaries around them. */
 
 #include "../../include/quartzmitten.h"
@@ -495,6 +495,80 @@ static void paper(void) {
     paper_cut(83, 1, 12);
 }
 
+/* ---- a flight is kept */
+
+static u64 flight_gave[64];
+
+static int kept(const char *what, u64 answer, u32 refusal, u64 written, const u8 *out, u64 room) {
+    int good = told(answer == (refusal ? refusal : written << 32), what, "another answer");
+    good &= told(refusal != 0 || (answer >= 1ULL << 32 && QM_LOG_LENGTH(answer) == written), what, "another length");
+    good &= told(memcmp(out, expected_out, room) == 0, what, "another output");
+    good &= told(region_whole(&lent_out) && region_whole(&lent_datagram), what, "a canary is gone");
+    flight_gave[refusal]++;
+    return good;
+}
+
+static void try_begin(u64 room) {
+    u8 *out = region_lend(&lent_out, room, chance(50));
+    region_lend(&lent_datagram, 0, 0);
+    memset(out, 0x5a, room);
+    memset(expected_out, 0x5a, room);
+    u64 written = 0;
+    u32 refusal = ref_log_begin(expected_out, room, &written);
+    doing = "qm_log_begin";
+    count(kept(doing, qm_log_begin(out, room), refusal, written, out, room));
+}
+
+static u64 edge_number(void) {
+    u64 v = random_64() >> below(64);
+    return chance(50) ? v : ONE_OF(0, 1, 127, 128, 16383, 16384, (1ULL << 63) - 1, 1ULL << 63, ~0ULL);
+}
+
+/* One entry at a place of an output that holds other bytes. */
+static void try_append(u64 room, u64 at, u64 length) {
+    u8 *out = region_lend(&lent_out, room, chance(50)), *d = region_lend(&lent_datagram, length, chance(50));
+    u64 sender = edge_number(), tick = edge_number(), written = 0;
+    for (u64 i = 0; i < room; i++) out[i] = expected_out[i] = (u8) (i * 7);
+    for (u64 i = 0; i < length; i++) d[i] = (u8) random_64();
+    u32 refusal = ref_log_append(expected_out, room, at, sender, tick, d, length, &written);
+    doing = "qm_log_append";
+    count(kept(doing, qm_log_append(out, room, at, sender, tick, d, length), refusal, written, out, room));
+}
+
+static void appends(int times) {
+    for (u64 room = 0; room < 5; room++) try_begin(room);
+    for (int i = 0; i < times; i++) {
+        u64 length = chance(90) ? below(200) : ONE_OF(0, 127, 128, 16383, 16384, 65534, 65535, 65536, 65540);
+        u64 at = chance(80) ? below(60) : ONE_OF(0, 1, 69999, 70000, 70001, 1ULL << 32, ~0ULL - 20, ~0ULL);
+        u64 room = chance(60) ? 70000 : length + below(90);
+        try_append(room > 70000 ? 70000 : room, at, length);
+    }
+}
+
+/* A flight from its first byte on, each entry where the one before ended, until there is no room. */
+static void flights(int times) {
+    for (int i = 0; i < times; i++) {
+        u64 room = between(1, 60000), at = 0, there = 0, written = 0;
+        u8 *out = region_lend(&lent_out, room, chance(50));
+        memset(out, 0x5a, room);
+        memset(expected_out, 0x5a, room);
+        doing = "qm_log_begin";
+        u64 answer = qm_log_begin(out, room);
+        u32 refusal = ref_log_begin(expected_out, room, &written);
+        while (refusal == 0) {
+            at += QM_LOG_LENGTH(answer);
+            there += written;
+            u64 length = below(chance(90) ? 400 : 9000), sender = edge_number(), tick = edge_number();
+            u8 *d = region_lend(&lent_datagram, length, chance(50));
+            for (u64 k = 0; k < length; k++) d[k] = (u8) random_64();
+            doing = "qm_log_append";
+            answer = qm_log_append(out, room, at, sender, tick, d, length);
+            refusal = ref_log_append(expected_out, room, there, sender, tick, d, length, &written);
+            count(kept(doing, answer, refusal, written, out, room) && told(at == there, doing, "another place"));
+        }
+    }
+}
+
 int main(void) {
     random_state = 20260101;
     signal(11, on_fault);
@@ -517,8 +591,11 @@ int main(void) {
     cut_limits();
     cut_random(60000);
     joins();
+    appends(20000);
+    flights(200);
     all_met("qm_read_datagram", reader_gave, (const int[]) {0, 1, 2, 3, 4, 5, 6, 7, 13, -1});
     all_met("qm_cut", cutter_gave, (const int[]) {0, 4, 6, 10, 11, 12, 13, -1});
+    all_met("qm_log_begin and qm_log_append", flight_gave, (const int[]) {0, 13, 42, -1});
     printf("%llu passed, %llu failed\n", passed, failed);
     return failed != 0;
 }

@@ -56,6 +56,11 @@ u32 ref_read(const u8 *d, u64 length, u64 max_size, struct ref_header *h);
 u32 ref_cut(const u8 *name, u64 c, const u8 *payload, u64 p, u32 sequence, u64 m, u64 index, u8 *out, u64 room, u32 *count,
             u32 *length);
 
+/* ---- the log's writer: 0 and how many bytes it wrote, or the refusal and nothing written */
+
+u32 ref_log_begin(u8 *out, u64 room, u64 *written);
+u32 ref_log_append(u8 *out, u64 room, u64 at, u64 sender, u64 tick, const u8 *d, u64 length, u64 *written);
+
 /* ---- the receiver */
 
 enum { SLOTS = 8, SENDERS_KNOWN = 16, KEYS_EACH = 32, LEDGER = SLOTS * MAX_FRAGMENTS * 2 };

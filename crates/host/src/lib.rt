@@ -10,6 +10,11 @@ ghost use Rattle.datagram.specs.Read.{readDatagram};
 ghost use Rattle.host.specs.Fields.{kindOf, PlacesFit, Told};
 ghost use Rattle.host.specs.Code.{CutTold};
 
+mod flight;
+
+pub use flight::qm_log_append;
+pub use flight::qm_log_begin;
+
 // The sum of all bytes, modulo 2^32.
 #[no_mangle]
 pub extern "C" fn qm_checksum(bytes: &[u8]) -> u32

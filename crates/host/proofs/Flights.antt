@@ -1,0 +1,64 @@
+-- What is written of a flight has a length of 32 bits, is told as one number, and the header's macro gives it back; no second answer. Assumes nothing.
+use mathlib.Core.Path.{_≡_, refl, sym, ap, _∙_, subst}
+use mathlib.Core.Bool.{Bool, true, false}
+use mathlib.Core.List.{List}
+use Prim.Native.Nat.{ℕ, _+_, _-_, _*_, _/_, _^_, _≤_, _<_}
+use native.Mathlib.Omega.{arith}
+use lib.Dec.{ltb}
+use lib.ListN.{length}
+use borrow.Author.Tests.{ltb-false}
+use Rattle.wire.specs.Choice.{pick}
+use Rattle.wire.proofs.Once.{one-answer}
+use Rattle.datagram.specs.Limits.{maxDatagram}
+use Rattle.log.specs.Entries.{Entry, headBytes, entryBytes}
+use Rattle.log.specs.Writes.{Answer, wrote, refused, says, fitted, beginAnswer, appendAnswer, output, Began, Appended}
+use Rattle.log.specs.declared.writer.Written.{Written}
+use Rattle.log.proofs.Writing.{entry-most}
+use Rattle.host.specs.Flight.{lengthCode, Spans, BeginTold, AppendTold, logLength}
+
+spans-fitted : (n at : ℕ) (b : List ℕ) → length b < 2 ^ 32 → Spans at (fitted n at b)
+spans-fitted n at b h = by-test (ltb n (at + length b))
+  where
+    by-test : (t : Bool) → Spans at (pick t (refused 13) (wrote (at + length b)))
+    by-test true = tt
+    by-test false = (omega arith, omega arith)
+
+pub spans-begin : (n : ℕ) → Spans 0 (beginAnswer n)
+unfolding beginAnswer
+spans-begin n = spans-fitted n 0 headBytes (omega arith)
+
+pub spans-append : (n at : ℕ) (e : Entry) → Spans at (appendAnswer n at e)
+unfolding appendAnswer
+spans-append n at e = by-test (ltb maxDatagram (length (e .datagram))) refl
+  where
+    by-test : (t : Bool) → ltb maxDatagram (length (e .datagram)) ≡ t → Spans at (pick t (refused 42) (fitted n at (entryBytes e)))
+    by-test true p = tt
+    by-test false p = spans-fitted n at (entryBytes e) (omega (arith, entry-most e, ltb-false maxDatagram (length (e .datagram)) p))
+
+pub begin-spans : (out : List ℕ) (r : Written) (out′ : List ℕ) → Began out r out′ → Spans 0 (says r)
+begin-spans out r out′ k = subst (Spans 0) (sym (k .answer)) (spans-begin (length out))
+
+pub append-spans : (out : List ℕ) (at : ℕ) (e : Entry) (r : Written) (out′ : List ℕ) → Appended out at e r out′ → Spans at (says r)
+append-spans out at e r out′ k = subst (Spans at) (sym (k .answer)) (spans-append (length out) at e)
+
+pub begin-told : (out : List ℕ) (r : Written) (out′ : List ℕ) (x : ℕ) → Began out r out′ → x ≡ lengthCode 0 (says r) → BeginTold out x out′
+begin-told out r out′ x k e = record {
+  gave = e ∙ ap (lengthCode 0) (k .answer);
+  left = k .left ∙ ap (λ (a : Answer). output a out 0 headBytes) (k .answer);
+}
+
+pub append-told : (out : List ℕ) (at : ℕ) (e : Entry) (r : Written) (out′ : List ℕ) (x : ℕ) → Appended out at e r out′ → x ≡ lengthCode at (says r) → AppendTold out at e x out′
+append-told out at e r out′ x k f = record {
+  gave = f ∙ ap (lengthCode at) (k .answer);
+  left = k .left ∙ ap (λ (a : Answer). output a out at (entryBytes e)) (k .answer);
+}
+
+-- the length of what was written, by the header's macro: the place after it is the place and this
+pub length-back : (at next : ℕ) → logLength (lengthCode at (wrote next)) ≡ next - at
+length-back at next = omega arith
+
+pub begin-told-once : (out : List ℕ) (x y : ℕ) (a b : List ℕ) → BeginTold out x a → BeginTold out y b → (x ≡ y) × (a ≡ b)
+begin-told-once out x y a b p q = (one-answer x y (p .gave) (q .gave), one-answer a b (p .left) (q .left))
+
+pub append-told-once : (out : List ℕ) (at : ℕ) (e : Entry) (x y : ℕ) (a b : List ℕ) → AppendTold out at e x a → AppendTold out at e y b → (x ≡ y) × (a ≡ b)
+append-told-once out at e x y a b p q = (one-answer x y (p .gave) (q .gave), one-answer a b (p .left) (q .left))

@@ -1,0 +1,159 @@
+-- A list of entries and its log determine each other. Assumes nothing.
+use mathlib.Core.Path.{_≡_, refl, sym, _∙_, ap, subst}
+use mathlib.Core.Bool.{Bool, true, false}
+use mathlib.Core.List.{List, [], _∷_, _++_, append-assoc}
+use Prim.Native.Nat.{ℕ, zero, suc, _+_, _-_, _≤_, _<_, _^_}
+use native.Mathlib.Omega.{arith}
+use lib.Dec.{ltb, eqb}
+use lib.ListN.{length, take, drop, length-append, length-drop, take-append-drop}
+use lib.Seq.{take-append-seam, drop-append-seam, length-take-le}
+use borrow.Author.Tests.{le-ltb, ltb-false, eqb-true}
+use Rattle.wire.specs.Bytes.{Bytes}
+use Rattle.wire.specs.Choice.{pick}
+use Rattle.wire.specs.Taken.{Taken, taken, refused, follow}
+use Rattle.wire.specs.Seven.{seven, sevenIn}
+use Rattle.wire.proofs.Sevens.{seven-back, back-seven, groups-some}
+use Rattle.datagram.specs.Limits.{maxDatagram}
+use Rattle.log.specs.Entries.{Entry, entryOf, Keeps, AllKeep, edition, headBytes, entryBytes, bodyOf, logOf}
+use Rattle.log.specs.Listed.{headIn, datagramIn, lengthIn, tickIn, entryIn, Listed, whole, broken, after, more, oneMore, listBy, entriesAfter, entriesIn}
+use Rattle.log.proofs.Takes.{Both, both, rest-bytes}
+
+-- ---- an entry: what is written reads back
+
+pub datagram-back : (s t : ℕ) (d rest : List ℕ) → length d ≤ maxDatagram → datagramIn s t (length d) (d ++ rest) ≡ taken (entryOf s t d) rest
+unfolding datagramIn
+datagram-back s t d rest h =
+    let l : length d ≤ length (d ++ rest) = rw length-append (omega arith) in
+    rw (le-ltb maxDatagram (length d) h, le-ltb (length (d ++ rest)) (length d) l, take-append-seam d rest, drop-append-seam d rest) refl
+
+apart : (e : Entry) (rest : List ℕ) → entryBytes e ++ rest ≡ seven (e .sender) ++ (seven (e .tick) ++ (seven (length (e .datagram)) ++ (e .datagram ++ rest)))
+unfolding entryBytes
+apart e rest = simp append-assoc
+
+pub entry-back : (e : Entry) → Keeps e → (rest : List ℕ) → entryIn (entryBytes e ++ rest) ≡ taken e rest
+unfolding entryIn tickIn lengthIn
+entry-back e k rest =
+    let short : length (e .datagram) < 2 ^ 64 = omega (arith, k .len) in
+    rw (apart e rest, seven-back (e .sender) (k .sender), seven-back (e .tick) (k .tick), seven-back (length (e .datagram)) short)
+    (datagram-back (e .sender) (e .tick) (e .datagram) rest (k .len))
+
+-- ---- an entry: what is read is what would be written
+
+pub record Back (b : List ℕ) (e : Entry) (rest : List ℕ) : Type 0 where
+  pub keeps : Keeps e
+  pub wrote : entryBytes e ++ rest ≡ b
+
+record Lies (s t n : ℕ) (b : List ℕ) (e : Entry) (rest : List ℕ) : Type 0 where
+  pub most : n ≤ maxDatagram
+  pub within : n ≤ length b
+  pub is : e ≡ entryOf s t (take n b)
+  pub left : rest ≡ drop n b
+
+lies : (s t n : ℕ) (b : List ℕ) (e : Entry) (rest : List ℕ) → datagramIn s t n b ≡ taken e rest → Lies s t n b e rest
+unfolding datagramIn
+lies s t n b e rest q = by-most (ltb maxDatagram n) refl (ltb (length b) n) refl q
+  where
+    by-most : (m : Bool) → ltb maxDatagram n ≡ m → (w : Bool) → ltb (length b) n ≡ w
+        → pick m (refused 42) (pick w (refused 43) (taken (entryOf s t (take n b)) (drop n b))) ≡ taken e rest → Lies s t n b e rest
+    by-most true p w o r = absurd (let z : _≡_ {A = ℕ} 0 1 = cc in omega arith)
+    by-most false p true o r = absurd (let z : _≡_ {A = ℕ} 0 1 = cc in omega arith)
+    by-most false p false o r = record { most = ltb-false maxDatagram n p; within = ltb-false (length b) n o; is = cc; left = cc }
+
+made : (b : List ℕ) (s t n : ℕ) (x y z : List ℕ) (e : Entry) (rest : List ℕ) → s < 2 ^ 64 → t < 2 ^ 64
+    → seven s ++ x ≡ b → seven t ++ y ≡ x → seven n ++ z ≡ y → Lies s t n z e rest → Back b e rest
+unfolding entryBytes
+made b s t n x y z e rest hs ht p q r l =
+    let size : length (take n z) ≡ n = length-take-le n z (l .within) in
+    let all : take n z ++ drop n z ≡ z = take-append-drop n z in
+    rw (l .is, l .left)
+    (record {
+      keeps = record { sender = hs; tick = ht; len = rw size (l .most) };
+      wrote = rw size (simp append-assoc (rw (all, r, q, p) refl));
+    })
+
+pub back-entry : (b : List ℕ) → Bytes b → (e : Entry) (rest : List ℕ) → entryIn b ≡ taken e rest → Back b e rest
+unfolding entryIn tickIn lengthIn
+back-entry b h e rest q =
+    let one = both (sevenIn b) (λ s. tickIn s) e rest q in
+    let s = one .value in
+    let got₁ = back-seven b h s (one .left) (one .first) in
+    let h₁ = rest-bytes (seven s) (one .left) b (got₁ .1) h in
+    let two = both (sevenIn (one .left)) (λ t. lengthIn s t) e rest (one .second) in
+    let t = two .value in
+    let got₂ = back-seven (one .left) h₁ t (two .left) (two .first) in
+    let h₂ = rest-bytes (seven t) (two .left) (one .left) (got₂ .1) h₁ in
+    let three = both (sevenIn (two .left)) (λ n. datagramIn s t n) e rest (two .second) in
+    let n = three .value in
+    let got₃ = back-seven (two .left) h₂ n (three .left) (three .first) in
+    let l = lies s t n (three .left) e rest (three .second) in
+    made b s t n (one .left) (two .left) (three .left) e rest (got₁ .0) (got₂ .0) (got₁ .1) (got₂ .1) (got₃ .1) l
+
+-- an entry takes a byte at least
+pub entry-some : (e : Entry) → 1 ≤ length (entryBytes e)
+unfolding entryBytes
+entry-some e = simp length-append (omega (arith, groups-some 9 (e .sender)))
+
+-- ---- the list
+
+-- where bytes are left, an entry is taken from them
+one-more : (rest : List ℕ → Listed) (c : List ℕ) → 1 ≤ length c → oneMore rest c ≡ more rest (entryIn c)
+one-more rest [] h = absurd (let z : ⊥ = omega arith in z)
+one-more rest (y ∷ c) h = refl
+
+pub body-back : (k : ℕ) (es : List Entry) → AllKeep es → length (bodyOf es) ≤ k → listBy k (bodyOf es) ≡ whole es
+unfolding bodyOf listBy
+body-back zero [] a h = refl
+body-back (suc k) [] a h = refl
+body-back zero (e ∷ es) a h = absurd (let z : ⊥ = omega (arith, entry-some e, length-append (entryBytes e) (bodyOf es)) in z)
+body-back (suc k) (e ∷ es) a h =
+    let l = length-append (entryBytes e) (bodyOf es) in
+    one-more (listBy k) (entryBytes e ++ bodyOf es) (omega (arith, entry-some e))
+    ∙ ap (more (listBy k)) (entry-back e (a .0) (bodyOf es))
+    ∙ ap (after e) (body-back k es (a .1) (omega (arith, entry-some e)))
+
+-- a log's entries are read back
+pub entries-of-log : (es : List Entry) → AllKeep es → entriesIn (logOf es) ≡ whole es
+unfolding entriesIn entriesAfter headIn logOf
+entries-of-log es a = body-back (length (bodyOf es)) es a (omega arith)
+
+pub record ListBack (b : List ℕ) (es : List Entry) : Type 0 where
+  pub keeps : AllKeep es
+  pub wrote : bodyOf es ≡ b
+
+back-after : (e : Entry) (t : Listed) (es : List Entry) → after e t ≡ whole es → (ds : List Entry) → t ≡ whole ds → es ≡ e ∷ ds
+back-after e t es p ds q = let r : after e (whole ds) ≡ whole es = ap (after e) (sym q) ∙ p in cc
+
+pub back-body : (k : ℕ) (b : List ℕ) → Bytes b → length b ≤ k → (es : List Entry) → listBy k b ≡ whole es → ListBack b es
+unfolding bodyOf listBy
+back-body zero [] h l es e = let n : es ≡ [] = cc in rw n (record { keeps = tt; wrote = refl })
+back-body zero (x ∷ b) h l es e = absurd (let z : ⊥ = omega arith in z)
+back-body (suc k) [] h l es e = let n : es ≡ [] = cc in rw n (record { keeps = tt; wrote = refl })
+back-body (suc k) (x ∷ b) h l es e = by-taken (λ c m. back-body k c) (entryIn (x ∷ b)) refl e
+  where
+    by-list : (d : Entry) (c : List ℕ) → Back (x ∷ b) d c → ((es : List Entry) → listBy k c ≡ whole es → ListBack c es) → (t : Listed) → listBy k c ≡ t → after d t ≡ whole es → ListBack (x ∷ b) es
+    by-list d c back ih (broken ds n) p q = absurd (let z : _≡_ {A = ℕ} 0 1 = cc in omega arith)
+    by-list d c back ih (whole ds) p q =
+        let i = ih ds p in
+        let s : es ≡ d ∷ ds = cc in
+        rw s (record { keeps = (back .keeps, i .keeps); wrote = rw (i .wrote) (back .wrote) })
+
+    by-taken : ((c : List ℕ) → ℕ → Bytes c → length c ≤ k → (es : List Entry) → listBy k c ≡ whole es → ListBack c es)
+        → (t : Taken Entry) → entryIn (x ∷ b) ≡ t → more (listBy k) t ≡ whole es → ListBack (x ∷ b) es
+    by-taken ih (refused n) p q = absurd (let z : _≡_ {A = ℕ} 0 1 = cc in omega arith)
+    by-taken ih (taken d c) p q =
+        let back = back-entry (x ∷ b) h d c p in
+        let size = sym (length-append (entryBytes d) c) ∙ ap length (back .wrote) in
+        by-list d c back (ih c 0 (rest-bytes (entryBytes d) c (x ∷ b) (back .wrote) h) (omega (arith, entry-some d))) (listBy k c) refl q
+
+-- what a log's entries are, their log is
+pub log-of-entries : (b : List ℕ) → Bytes b → (es : List Entry) → entriesIn b ≡ whole es → (AllKeep es) × (logOf es ≡ b)
+unfolding entriesIn entriesAfter headIn logOf
+log-of-entries [] h es e = absurd (let z : _≡_ {A = ℕ} 0 1 = cc in omega arith)
+log-of-entries (x ∷ b) h es e = by-edition (eqb x edition) refl e
+  where
+    by-edition : (t : Bool) → eqb x edition ≡ t → entriesAfter (pick t (taken x b) (refused 40)) ≡ whole es → (AllKeep es) × (headBytes ++ bodyOf es ≡ x ∷ b)
+    by-edition false p q = absurd (let z : _≡_ {A = ℕ} 0 1 = cc in omega arith)
+    by-edition true p q =
+        let i = back-body (length b) b (λ j. h (suc j)) (omega arith) es q in
+        let x1 : x ≡ edition = eqb-true x edition p in
+        (i .keeps, rw (i .wrote, x1) refl)

@@ -1,0 +1,83 @@
+-- The writer: its answers by its branches, and what `begin` and `append` of each entry leave. Assumes nothing.
+use mathlib.Core.Path.{_≡_, refl, sym, _∙_, ap}
+use mathlib.Core.List.{List, [], _∷_, _++_}
+use Prim.Native.Nat.{ℕ, _+_, _-_, _≤_, _<_}
+use native.Mathlib.Omega.{arith}
+use lib.ListN.{length, set, length-append}
+use borrow.Author.Tests.{lt-ltb, le-ltb}
+use Rattle.wire.specs.Overlay.{overlay}
+use Rattle.wire.specs.Seven.{seven}
+use Rattle.wire.proofs.Overlays.{overlay-append, overlay-one}
+use Rattle.wire.proofs.Sevens.{groups-length}
+use Rattle.datagram.specs.Limits.{maxDatagram}
+use Rattle.log.specs.Entries.{Entry, entryOf, edition, headBytes, entryBytes}
+use Rattle.log.specs.Writes.{beginAnswer, appendAnswer, Began, Appended}
+use Rattle.log.specs.declared.writer.Written.{Written}
+use Rattle.log.specs.declared.writer.Written.the-variants.{Next, Refused}
+use Rattle.log.proofs.Backs.{entry-some}
+
+-- ---- the bytes of an entry
+
+pub entry-size : (s t : ℕ) (d : List ℕ) → length (entryBytes (entryOf s t d)) ≡ length (seven s) + length (seven t) + length (seven (length d)) + length d
+unfolding entryBytes
+entry-size s t d = simp length-append
+
+pub seven-most : (v : ℕ) → length (seven v) ≤ 10
+seven-most v = groups-length 9 v
+
+-- one piece after another is both at once
+joins : (o x y o₁ o₂ : List ℕ) (at a : ℕ) → o₁ ≡ overlay o at x → a ≡ at + length x → o₂ ≡ overlay o₁ a y → o₂ ≡ overlay o at (x ++ y)
+joins o x y o₁ o₂ at a e f g = g ∙ rw (e, f) (sym (overlay-append o at x y))
+
+pub entry-overlay : (o o₁ o₂ o₃ o₄ : List ℕ) (at a b c s t : ℕ) (d : List ℕ)
+    → o₁ ≡ overlay o at (seven s) → a ≡ at + length (seven s)
+    → o₂ ≡ overlay o₁ a (seven t) → b ≡ a + length (seven t)
+    → o₃ ≡ overlay o₂ b (seven (length d)) → c ≡ b + length (seven (length d))
+    → o₄ ≡ overlay o₃ c d → o₄ ≡ overlay o at (entryBytes (entryOf s t d))
+unfolding entryBytes
+entry-overlay o o₁ o₂ o₃ o₄ at a b c s t d e₁ f₁ e₂ f₂ e₃ f₃ e₄ =
+    let x = seven s in
+    let y = seven t in
+    let z = seven (length d) in
+    let two = joins o x y o₁ o₂ at a e₁ f₁ e₂ in
+    let l₂ : b ≡ at + length (x ++ y) = rw length-append (omega arith) in
+    let three = joins o (x ++ y) z o₂ o₃ at b two l₂ e₃ in
+    let l₃ : c ≡ at + length (x ++ y ++ z) = simp length-append (omega arith) in
+    joins o (x ++ y ++ z) d o₃ o₄ at c three l₃ e₄
+
+-- ---- begin
+
+pub begin-short : (out : List ℕ) → length out < 1 → Began out (Refused 13) out
+unfolding beginAnswer
+begin-short out h = record { answer = rw (lt-ltb (length out) 1 h) refl; left = refl }
+
+pub begin-good : (out : List ℕ) → 1 ≤ length out → Began out (Next 1) (set out 0 edition)
+unfolding beginAnswer
+begin-good out h = record { answer = rw (le-ltb (length out) 1 h) refl; left = sym (overlay-one out 0 edition) }
+
+-- ---- append
+
+module _ (out : List ℕ) (at : ℕ) (e : Entry) where
+  pub append-long : maxDatagram < length (e .datagram) → Appended out at e (Refused 42) out
+  unfolding appendAnswer
+  append-long h = record { answer = rw (lt-ltb maxDatagram (length (e .datagram)) h) refl; left = refl }
+
+  pub append-short : length (e .datagram) ≤ maxDatagram → length out - at < length (entryBytes e) → Appended out at e (Refused 13) out
+  unfolding appendAnswer
+  append-short h l =
+      let m : length out < at + length (entryBytes e) = omega arith in
+      record { answer = rw (le-ltb maxDatagram (length (e .datagram)) h, lt-ltb (length out) (at + length (entryBytes e)) m) refl; left = refl }
+
+  pub fits-at : length (entryBytes e) ≤ length out - at → at + length (entryBytes e) ≤ length out
+  fits-at l = omega (arith, entry-some e)
+
+  pub append-good : (n : ℕ) (out′ : List ℕ) → length (e .datagram) ≤ maxDatagram → n ≡ length (entryBytes e) → n ≤ length out - at
+      → out′ ≡ overlay out at (entryBytes e) → Appended out at e (Next (at + n)) out′
+  unfolding appendAnswer
+  append-good n out′ h s l o =
+      let m : at + length (entryBytes e) ≤ length out = omega (arith, entry-some e) in
+      record { answer = rw (le-ltb maxDatagram (length (e .datagram)) h, le-ltb (length out) (at + length (entryBytes e)) m, s) refl; left = o }
+
+-- an entry takes at most thirty bytes more than its datagram
+pub entry-most : (e : Entry) → length (entryBytes e) ≤ 30 + length (e .datagram)
+entry-most e = omega (arith, entry-size (e .sender) (e .tick) (e .datagram), seven-most (e .sender), seven-most (e .tick), seven-most (length (e .datagram)))

@@ -1,0 +1,57 @@
+// Makes a log. Standard input holds records: an 8-byte sender, an 8-byte tick, a 2-byte length and so many bytes, all big-endian; standard
+// output is their log. Of an input that is cut the whole records are kept.
+ghost use mathlib.Core.Path.{_≡_};
+ghost use lib.ListN.{drop};
+ghost use Rattle.wire.specs.Bytes.{be};
+ghost use Rattle.log.specs.Entries.{entryOf};
+ghost use Rattle.log_write.specs.Kept.{Keeps};
+use log::Written;
+use stream::Input;
+use stream::Kind;
+use stream::Next;
+
+// No entry is longer: three numbers of at most ten bytes, and a datagram.
+const ENTRY: usize = 30 + datagram::MAX_DATAGRAM;
+
+// One entry goes out, behind what is not written out yet. Answers the place after it. There is room for it, so no refusal comes.
+fn keep(out: &mut [u8], at: usize, head: &[u8], d: &[u8]) -> usize
+    ensures { λ r. ⌜ Keeps (now (out .entry)) at (entryOf (be 8 (now (head .entry))) (be 8 (drop 8 (now (head .entry)))) (now (d .entry))) (now (out .exit)) r ⌝ }
+{
+    let sender = wire::number(head, 0, 8);
+    let tick = wire::number(head, 8, 8);
+    let from = output::drain(out, at, ENTRY);
+    match log::append(out, from, sender, tick, d) {
+        Written::Next(next) => next,
+        Written::Refused(_) => from,
+    }
+}
+
+// The entries, one after another, behind the head of the log.
+fn kept(buf: &mut [u8], out: &mut [u8], first: usize) {
+    let mut input = Input { at: 0, end: 0 };
+    let mut at = first;
+    let mut n: u64 = 0;
+    while n < stream::MANY {
+        let next = stream::next_record(buf, input, Kind::Entry);
+        let Next::Record(from, len, left) = next else {
+            output::write_out(out, at);
+            return;
+        };
+        n += 1;
+        input = left;
+        at = keep(
+            out,
+            at,
+            stream::head(buf, from, Kind::Entry),
+            wire::part(buf, from, len),
+        );
+    }
+}
+
+fn main() {
+    let mut buf = [0u8; 262144];
+    let mut out = [0u8; 262144];
+    if let Written::Next(first) = log::begin(&mut out) {
+        kept(&mut buf, &mut out, first);
+    }
+}

@@ -1,0 +1,113 @@
+"""The log of document 02, L1, written from the paper alone, in plain Python, and what the programs over a log write."""
+import os
+import sys
+
+sys.path.insert(0, os.path.join(os.path.dirname(os.path.abspath(__file__)), "..", "vectors"))
+from receiver import Receiver  # noqa: E402
+
+HOLDS = 4194304
+STORE = 2097152
+
+
+class Refused(Exception):
+    def __init__(self, number):
+        super().__init__(number)
+        self.number = number
+
+
+# ---- writing
+
+def seven(v):
+    """Groups of seven bits, the lowest first, the top bit set on all but the last."""
+    out = bytearray()
+    while v >= 128:
+        out.append(128 | (v & 127))
+        v >>= 7
+    return bytes(out + bytearray([v]))
+
+
+def entry_bytes(sender, tick, datagram):
+    return seven(sender) + seven(tick) + seven(len(datagram)) + datagram
+
+
+def log_of(entries):
+    return b"\x01" + b"".join(entry_bytes(*e) for e in entries)
+
+
+# ---- reading
+
+def number_at(b, at):
+    """The number at a place and the place after it. 43 where it is cut comes before any look at its value."""
+    end = at
+    while end < len(b) and b[end] >= 128 and end - at < 9:
+        end += 1
+    if end >= len(b):
+        raise Refused(43)
+    groups = b[at:end + 1]
+    if len(groups) == 10 and groups[9] > 1:
+        raise Refused(41)
+    if len(groups) > 1 and groups[-1] == 0:
+        raise Refused(41)
+    return sum((g & 127) << (7 * i) for i, g in enumerate(groups)), end + 1
+
+
+def entries_in(b):
+    """The entries, and the refusal that ended them or None."""
+    if not b:
+        return [], 43
+    if b[0] != 1:
+        return [], 40
+    at, entries = 1, []
+    try:
+        while at < len(b):
+            sender, next_ = number_at(b, at)
+            tick, next_ = number_at(b, next_)
+            length, next_ = number_at(b, next_)
+            if length > 65535:
+                raise Refused(42)
+            if len(b) - next_ < length:
+                raise Refused(43)
+            entries.append((sender, tick, b[next_:next_ + length]))
+            at = next_ + length
+    except Refused as r:
+        return entries, r.number
+    return entries, None
+
+
+# ---- the programs
+
+def last_line(entries, refusal):
+    return f"end {len(entries)}" if refusal is None else f"refused {refusal} after {len(entries)}"
+
+
+def log_list(b):
+    if len(b) > HOLDS:
+        return f"longer than {HOLDS} bytes\n"
+    entries, refusal = entries_in(b)
+    lines = [f"{i + 1} sender {s} tick {t} length {len(d)}" for i, (s, t, d) in enumerate(entries)]
+    return "\n".join(lines + [last_line(entries, refusal)]) + "\n"
+
+
+def replay_log(b):
+    if len(b) > HOLDS:
+        return f"longer than {HOLDS} bytes\n"
+    entries, refusal = entries_in(b)
+    receiver = Receiver(STORE)
+    lines = [f"{i + 1} {receiver.receive(s, d)}" for i, (s, t, d) in enumerate(entries)]
+    return "\n".join(lines + [last_line(entries, refusal)]) + "\n"
+
+
+def record(sender, tick, datagram):
+    return sender.to_bytes(8, "big") + tick.to_bytes(8, "big") + len(datagram).to_bytes(2, "big") + datagram
+
+
+def log_write(stream):
+    """The whole records of a stream, as a log."""
+    entries, at = [], 0
+    while len(stream) - at >= 18:
+        length = int.from_bytes(stream[at + 16:at + 18], "big")
+        if len(stream) - at - 18 < length:
+            break
+        entries.append((int.from_bytes(stream[at:at + 8], "big"), int.from_bytes(stream[at + 8:at + 16], "big"), stream[at + 18:at + 18 + length]))
+        at += 18 + length
+    return log_of(entries)
