@@ -11,7 +11,7 @@ use Rattle.steps.specs.Receive.{sequenceOf}
 use Rattle.steps.specs.Answers.{reply}
 use Rattle.receiver.specs.declared.Outcome.{Outcome}
 use Rattle.receiver.specs.declared.Call.{Call}
-use Rattle.receiver.specs.View.{view}
+use Rattle.receiver_state.specs.View.{view}
 use Rattle.receiver.specs.Calls.{refusalOf, Opens, Receives}
 use Rattle.arrival.specs.Demand.{Scene, slotBytes, Event, Feed, start, _▹_, senderOf, bytesOf, Delivery, nameIn, handedBy, push, after, own, completed, deliveries, Promised}
 

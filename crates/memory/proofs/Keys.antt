@@ -19,9 +19,10 @@ use Rattle.steps.specs.Memory.{keyOf, noKey, sameKey, among, Memory, isRemember
 use Rattle.steps.proofs.Memories.{key-eq}
 use Rattle.steps.proofs.Stores.{write-in, write-out}
 use Rattle.memory.specs.Words.{memoryWords, senders, sequences, someBelow, keyAt, shiftedIn, rememberedIn, othersIn, forgottenIn}
-use Rattle.memory.specs.Keys.{build, keyIn, memoryIn}
+use Rattle.memory.specs.Keys.{keyIn, memoryIn}
+use Rattle.words.specs.Builds.{build}
 use Rattle.memory.proofs.Loops.{shifted-length}
-use Rattle.memory.proofs.Builds.{length-build, getD-build, build-is}
+use Rattle.words.proofs.Builds.{length-build, getD-build, build-is}
 
 memory-eq : (a b : Memory) → a .entries ≡ b .entries → a .used ≡ b .used → a ≡ b
 memory-eq a b p q = λ i. record { entries = p i; used = q i }

@@ -1,16 +1,12 @@
 -- The memory of the step list that the words show. Definitions only.
-use mathlib.Core.List.{List, [], _∷_}
-use Prim.Native.Nat.{ℕ, zero, suc, _+_}
+use mathlib.Core.List.{List}
+use Prim.Native.Nat.{ℕ, _+_}
 use lib.ListN.{getD}
 use Rattle.steps.specs.declared.Key.{Key}
 use Rattle.steps.specs.Memory.{keyOf, Memory}
 use Rattle.steps.specs.Limits.{memorySize}
+use Rattle.words.specs.Builds.{build}
 use Rattle.memory.specs.Words.{senders, sequences}
-
--- the list f 0, f 1, .. of n elements
-abbrev pub build : {A : Type 0} → ℕ → (ℕ → A) → List A
-build zero f = []
-build (suc n) f = f 0 ∷ build n (λ i. f (suc i))
 
 -- key i
 abbrev pub keyIn : List ℕ → ℕ → Key

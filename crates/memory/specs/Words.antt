@@ -16,11 +16,11 @@ senders = 1
 
 -- where the sequences begin
 abbrev pub sequences : ℕ
-sequences = 65
+sequences = senders + memorySize
 
 -- how many words a memory has
 abbrev pub memoryWords : ℕ
-memoryWords = 129
+memoryWords = sequences + memorySize
 
 -- some number below n passes
 abbrev pub someBelow : (ℕ → Bool) → ℕ → Bool

@@ -1,8 +1,10 @@
-// The memory of delivered keys: 129 words, the last of a receiver's state. Every function is total over any slice.
+// The memory of delivered keys: the last words of a receiver's state. Every function is total over any slice.
 ghost use mathlib.Core.Path.{_≡_};
 ghost use Prim.Native.Nat.{_-_, _≤_, _<_, min};
 ghost use lib.ListN.{getD};
 ghost use Rattle.steps.specs.Limits.{memorySize};
+ghost use Rattle.steps.specs.Memory.{memoryOk};
+ghost use Rattle.memory.specs.Keys.{memoryIn};
 ghost use Rattle.memory.specs.Words.{senders, sequences, someBelow, keyAt, shiftedIn, rememberedIn, sievedIn, forgottenIn};
 
 // How many keys are remembered.
@@ -10,9 +12,16 @@ pub const MEMORY_SIZE: usize = 64;
 // Where their senders begin, after the word that says how many there are.
 const SENDERS: usize = 1;
 // Where their sequences begin.
-const SEQUENCES: usize = 65;
+const SEQUENCES: usize = SENDERS + MEMORY_SIZE;
 // The words of a memory.
-pub const MEMORY_WORDS: usize = 129;
+pub const WORDS: usize = SEQUENCES + MEMORY_SIZE;
+
+// Not more keys are remembered than there is room for.
+pub fn in_order(memory: &[u64]) -> bool
+    ensures { λ r. ⌜ r ≡ memoryOk (memoryIn (now (memory .entry))) ⌝ }
+{
+    words::word(memory, 0) <= MEMORY_SIZE as u64
+}
 
 // How many of the keys count: at most as many as there is room for.
 fn used(memory: &[u64]) -> usize
@@ -79,7 +88,7 @@ pub fn remember(memory: &mut [u64], sender: u64, sequence: u64)
 }
 
 struct Sieved {
-    values: [u64; 64],
+    values: [u64; MEMORY_SIZE],
     n: usize,
 }
 
@@ -88,7 +97,7 @@ fn sieve(memory: &[u64], a: usize, n: usize, sender: u64) -> Sieved
     requires { ⌜ (a ≤ sequences) × (n ≤ memorySize) ⌝ }
     ensures { λ r. ⌜ r ≡ sievedIn (now (memory .entry)) a n sender ⌝ }
 {
-    let mut out = [0u64; 64];
+    let mut out = [0u64; MEMORY_SIZE];
     let mut j: usize = 0;
     let mut i: usize = 0;
     while i < n {

@@ -6,14 +6,14 @@ use borrow.Author.Needs.{needs}
 use Rattle.words.proofs.entry.Statement.{statement}
 use Rattle.words.proofs.entry.Tie as tie
 
-mul-wide : tie.Need-mul-wide
-mul-wide c = search needs
+mul-as-size : tie.Need-mul-as-size
+mul-as-size c = search needs
 
-shared-slice-read-wide : tie.Need-shared-slice-read-wide
-shared-slice-read-wide c = search needs
+shared-slice-read-as-size : tie.Need-shared-slice-read-as-size
+shared-slice-read-as-size c = search needs
 
-wide-requires : tie.Need-wide-requires
-wide-requires c κs = search needs
+as-size-requires : tie.Need-as-size-requires
+as-size-requires c κs = search needs
 
 returns : tie.Need-returns
 returns c = search needs
@@ -22,4 +22,4 @@ returns-2 : tie.Need-returns-2
 returns-2 c = (sym (List·getD-eq-default (c .before .before .args .l .now) 0 (omega arith)), omega arith)
 
 pub entry-spec : {M : Type 1} → statement M
-entry-spec = tie.close (tie.spec mul-wide shared-slice-read-wide wide-requires returns returns-2)
+entry-spec = tie.close (tie.spec mul-as-size shared-slice-read-as-size as-size-requires returns returns-2)

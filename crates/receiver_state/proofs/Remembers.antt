@@ -1,0 +1,90 @@
+-- The memory of keys, lent to the crate `memory` as a part of the state and given back: all that is known of that crate's words stands here.
+use mathlib.Core.Path.{_≡_, refl, sym, _∙_, ap}
+use mathlib.Core.Bool.{Bool, true}
+use mathlib.Core.List.{List, _++_}
+use Prim.Native.Nat.{ℕ, _+_, _-_, _≤_, min}
+use native.Mathlib.Omega.{arith}
+use lib.ListN.{length, getD, take, drop, replicate, length-drop}
+use lib.Seq.{take-all}
+use borrow.Author.Tests.{leb-true}
+use Rattle.wire.specs.Overlay.{overlay}
+use Rattle.wire.proofs.Overlays.{length-overlay}
+use Rattle.steps.specs.Limits.{memorySize}
+use Rattle.steps.specs.Memory.{keyOf, emptyMemory, isRemembered, remember, forgetKeys, memoryOk}
+use Rattle.steps.specs.Receive.{withSlots}
+use Rattle.memory.specs.Words.{memoryWords, someBelow, keyAt, rememberedIn, forgottenIn}
+use Rattle.memory.specs.Keys.{memoryIn}
+use Rattle.memory.proofs.Keys.{used-is, known-key, remembered-memory, remembered-length, forgotten-memory, forgotten-length, memory-injective}
+use Rattle.receiver_state.specs.View.{memoryAt, stateWords, slotsOf, memoryOf, view}
+use Rattle.receiver_state.specs.Inside.{Holds, Remembers, Drops}
+use Rattle.receiver_state.proofs.Windows.{part-back}
+use Rattle.receiver_state.proofs.Bridge.{memory-view}
+
+-- the memory of a fresh state
+pub memory-fresh : memoryIn (replicate memoryWords 0) ≡ emptyMemory
+unfolding memoryIn emptyMemory
+memory-fresh = refl
+
+-- words that show the same memory are the same
+pub memory-once : (a b : List ℕ) → length a ≡ memoryWords → length b ≡ memoryWords → memoryIn a ≡ memoryIn b → a ≡ b
+memory-once a b p q e = memory-injective a b p q e
+
+few : (m : List ℕ) → memoryOk (memoryIn m) ≡ true → memoryIn m .used ≤ memorySize
+unfolding memoryOk
+few m e = leb-true _ _ e
+
+module _ (w : List ℕ) (e : length w ≡ stateWords) where
+  abbrev lent : List ℕ
+  lent = take (length w - memoryAt) (drop memoryAt w)
+
+  memory-part : lent ≡ drop memoryAt w
+  memory-part = take-all (length w - memoryAt) (drop memoryAt w) (omega (arith, length-drop memoryAt w))
+
+  memory-long : length (drop memoryAt w) ≡ memoryWords
+  memory-long = omega (arith, length-drop memoryAt w)
+
+  -- ---- what is asked
+
+  pub in-order-is : (r : Bool) → r ≡ memoryOk (memoryIn lent) → r ≡ memoryOk (memoryOf w)
+  in-order-is r er = er ∙ ap (λ (m : List ℕ). memoryOk (memoryIn m)) memory-part
+
+  pub remembered-is : (sender x q : ℕ) → x ≡ q → memoryOk (memoryOf w) ≡ true → (r : Bool)
+      → r ≡ someBelow (keyAt lent sender x) (min (getD lent 0 0) memorySize) → r ≡ isRemembered (memoryOf w) (keyOf sender q)
+  remembered-is sender x q ex k r er =
+      er ∙ (λ i. someBelow (keyAt (memory-part i) sender (ex i)) (min (getD (memory-part i) 0 0) memorySize))
+      ∙ known-key (drop memoryAt w) sender q (few (drop memoryAt w) k)
+
+  -- ---- what is given back
+
+  module _ (m w1 : List ℕ) (l : length m ≡ memoryWords) (ew : w1 ≡ take memoryAt w ++ (m ++ drop (length w - memoryAt) (drop memoryAt w))) where
+    back : w1 ≡ overlay w memoryAt m
+    back = ew ∙ part-back memoryAt (length w) w m (omega arith) (omega arith) (omega arith)
+
+    holds : Holds w (memoryIn m) w1
+    holds = record {
+      machine = λ n. ap (λ (x : List ℕ). view x n) back ∙ memory-view w m e l n;
+      words = ap length back ∙ length-overlay w memoryAt m ∙ e;
+    }
+
+  pub remembers : (a x q : ℕ) (m w1 : List ℕ) → x ≡ q → m ≡ rememberedIn lent a x
+      → w1 ≡ take memoryAt w ++ (m ++ drop (length w - memoryAt) (drop memoryAt w)) → Remembers w (keyOf a q) w1
+  remembers a x q m w1 ex em ew =
+      let r : m ≡ rememberedIn (drop memoryAt w) a q = em ∙ (λ i. rememberedIn (memory-part i) a (ex i)) in
+      let l : length m ≡ memoryWords = ap length r ∙ remembered-length (drop memoryAt w) a q ∙ memory-long in
+      let H = holds m w1 l ew in
+      record {
+        machine = λ n. H .machine n ∙ ap (withSlots (view w n) (slotsOf w n)) (ap memoryIn r ∙ remembered-memory (drop memoryAt w) a q memory-long);
+        words = H .words;
+      }
+
+  pub drops : (a : ℕ) (m w1 : List ℕ) → memoryOk (memoryOf w) ≡ true → m ≡ forgottenIn lent a
+      → w1 ≡ take memoryAt w ++ (m ++ drop (length w - memoryAt) (drop memoryAt w)) → Drops w a w1
+  drops a m w1 k em ew =
+      let r : m ≡ forgottenIn (drop memoryAt w) a = em ∙ ap (λ (x : List ℕ). forgottenIn x a) memory-part in
+      let l : length m ≡ memoryWords = ap length r ∙ forgotten-length (drop memoryAt w) a ∙ memory-long in
+      let u : getD (drop memoryAt w) 0 0 ≤ memorySize = omega (arith, used-is (drop memoryAt w), few (drop memoryAt w) k) in
+      let H = holds m w1 l ew in
+      record {
+        machine = λ n. H .machine n ∙ ap (withSlots (view w n) (slotsOf w n)) (ap memoryIn r ∙ forgotten-memory (drop memoryAt w) a memory-long u);
+        words = H .words;
+      }
