@@ -12,7 +12,7 @@ use Rattle.steps.specs.Answers.{Reply, reply, emptiedKey}
 use Rattle.steps.specs.Runs.{World, keyIn, run}
 use Rattle.receiver.specs.declared.Outcome.{Outcome}
 use Rattle.receiver.specs.declared.Call.{Call}
-use Rattle.receiver.specs.View.{view, shaped}
+use Rattle.receiver_state.specs.View.{view, shaped}
 use Rattle.receiver.specs.Calls.{refusalOf, Opens, Receives, received}
 use Rattle.arrival.specs.Demand.{Scene, slotBytes, Event, Feed, start, _▹_, senderOf, bytesOf, arrival, Delivery, nameIn, handedBy, handed, push, call, after, own, completed, delivery, deliveries, NoneEmptied, Supposed, Promised}
 use Rattle.arrival.specs.Runs.{Lent, Calls, opens, calls, handsOver, handedOver, EachCall, CodePromised}

@@ -7,7 +7,7 @@ ghost use Rattle.wire.specs.Bytes.{be};
 ghost use Rattle.datagram.specs.Scan.{within, start, lowAfter, highAfter, after, first, next, scan};
 ghost use Rattle.datagram.specs.Name.{goodName, untilZero, nameLength};
 ghost use Rattle.datagram.specs.Limits.{maxDatagram, maxName};
-ghost use Rattle.datagram.specs.Read.{goodStart, goodForm, formed, readSmall, readFragment, readDatagram, namePlace, payloadPlace, nameOf, payloadOf};
+ghost use Rattle.datagram.specs.Read.{goodStart, goodForm, formed, readSmall, readFragment, readDatagram, namePlace, payloadPlace, nameOf, payloadOf, partOf};
 
 // The largest payload, the most fragments of a message, the longest datagram and the longest name.
 pub const MAX_PAYLOAD: usize = 262144;
@@ -381,5 +381,12 @@ pub fn payload_part(d: &[u8]) -> &[u8]
     ensures { λ r. ⌜ now r ≡ payloadOf (now (d .entry)) ⌝ }
 {
     let p = payload_place(read_datagram(d, MAX_PAYLOAD, MAX_FRAGMENTS));
+    wire::part(d, p.at, p.len)
+}
+
+// A part of a datagram by its place.
+pub fn part_at(d: &[u8], p: Place) -> &[u8]
+    ensures { λ r. ⌜ now r ≡ partOf (now (d .entry)) p ⌝ }
+{
     wire::part(d, p.at, p.len)
 }

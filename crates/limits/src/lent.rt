@@ -24,7 +24,7 @@ fn spot(which: usize) -> usize {
         1 => 1,
         2 => slots::HEAD + slots::SIZE,
         3 => slots::HEAD + slots::COUNT,
-        4 => receiver::MEMORY + memory::SENDERS_MOST,
+        4 => receiver_state::MEMORY + memory::SENDERS_MOST,
         _ => receiver::STATE_WORDS,
     }
 }

@@ -1,10 +1,3 @@
-pub mod Windows
-pub mod Firsts
-pub mod Bridge
-pub mod Moves
-pub mod Cases
 pub mod Ends
-pub mod Unique
-pub mod Gates
+pub mod Settling
 pub mod Others
-pub mod Once

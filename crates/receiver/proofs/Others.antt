@@ -1,68 +1,70 @@
 -- Opening, and forgetting a sender: what was called on the way, put together into what the calls promise.
-use mathlib.Core.Path.{_≡_, refl, sym, _∙_, ap, subst}
+use mathlib.Core.Path.{_≡_, refl, sym, _∙_, ap}
 use mathlib.Core.Logic.{_≢_}
 use mathlib.Core.Bool.{Bool, true, false, _&&_}
 use mathlib.Core.Option.{Option, none, some}
-use mathlib.Core.List.{List, [], _∷_, _++_}
-use Prim.Native.Nat.{ℕ, zero, suc, _+_, _-_, _≤_, _<_}
+use mathlib.Core.List.{List}
+use Prim.Native.Nat.{ℕ, suc, _+_, _<_}
 use native.Mathlib.Numerals.{add-one}
 use native.Mathlib.Omega.{arith}
 use lib.Dec.{eqb}
-use lib.ListN.{length, getD, set, take, drop, replicate, length-set}
-use borrow.Author.Tests.{eq-eqb, ne-eqb, le-leb, lt-leb}
+use lib.ListN.{length, getD, set, replicate}
+use borrow.Author.Tests.{eq-eqb, ne-eqb}
 use Rattle.wire.specs.Choice.{pick}
 use Rattle.wire.specs.Overlay.{overlay}
 use Rattle.wire.proofs.Choices.{and-false}
-use Rattle.wire.proofs.Overlays.{length-overlay}
 use Rattle.steps.specs.Limits.{slotCount, slotSizeOf}
 use Rattle.steps.specs.Held.{noneHeld}
-use Rattle.steps.specs.Memory.{keyOf, Memory, emptyMemory, forgetKeys, memoryOk}
-use Rattle.steps.specs.Slots.{Slot, busy, slotAt, noSlot, release, releaseOf}
+use Rattle.steps.specs.Memory.{Memory, emptyMemory, forgetKeys, memoryOk}
+use Rattle.steps.specs.Slots.{Slot, busy, slotAt, noSlot, release, releaseOne, releaseOf}
 use Rattle.steps.specs.Receive.{Machine, withSlots, opened, forget}
-use Rattle.words.specs.Builds.{build}
-use Rattle.memory.specs.Words.{memoryWords, memoryIn, Left}
 use Rattle.slots.specs.Words.{at, senderWord, countWord}
-use Rattle.receiver.specs.View.{memoryAt, stateWords, nameBytes, slotsOf, memoryOf, view, shaped}
-use Rattle.receiver.specs.Parts.{Shaped, Known, Shows, releaseFor}
+use Rattle.receiver_state.specs.View.{storeWord, roomWord, stateWords, nameBytes, slotsOf, memoryOf, view, shaped}
+use Rattle.receiver_state.specs.Inside.{Shaped, Drops}
+use Rattle.receiver_state.proofs.Windows.{overlay-whole}
+use Rattle.receiver_state.proofs.Remembers.{memory-fresh}
+use Rattle.receiver_state.proofs.Cases.{sender-is, count-is}
 use Rattle.receiver.specs.Calls.{Changes, Opens, Forgets, forgotten}
+use Rattle.receiver.specs.Inside.{Releases, ReleasesOne, ReleasesAll}
 use Rattle.receiver.specs.declared.Call.the-variants as call
-use Rattle.receiver.proofs.Windows.{overlay-whole}
-use Rattle.receiver.proofs.Moves.{memory-part, left-there}
-use Rattle.receiver.proofs.Cases.{sender-is, count-is}
 
 -- ---- one slot
 
 module _ (w n : List ℕ) (i : ℕ) (h : i < slotCount) (from : ℕ) where
-  pub free-for : at w i countWord ≡ 0 → releaseFor from i (slotsOf w n) ≡ slotsOf w n
-  free-for e = rw (eq-eqb (slotAt (slotsOf w n) i .count) 0 (sym (count-is w n i h) ∙ e))
+  same : (slots : List Slot) → releaseOne from i (slotsOf w n) ≡ slots → withSlots (view w n) slots (memoryOf w) ≡ withSlots (view w n) (releaseOne from i (slotsOf w n)) (memoryOf w)
+  same slots e = ap (λ (l : List Slot). withSlots (view w n) l (memoryOf w)) (sym e)
 
-  pub other-for : at w i senderWord ≢ from → releaseFor from i (slotsOf w n) ≡ slotsOf w n
-  other-for d = rw (ne-eqb (slotAt (slotsOf w n) i .key .sender) from (λ q. d (sender-is w n i h ∙ q)), and-false (busy (slotAt (slotsOf w n) i)))
+  pub free-stays : Shaped w n → at w i countWord ≡ 0 → ReleasesOne w n from i w n
+  free-stays sh e = record { machine = same (slotsOf w n) (rw (eq-eqb (slotAt (slotsOf w n) i .count) 0 (sym (count-is w n i h) ∙ e))); shape = sh }
 
-  pub its-for : at w i countWord ≢ 0 → at w i senderWord ≡ from → releaseFor from i (slotsOf w n) ≡ release (slotsOf w n) i
-  its-for d e = rw (ne-eqb (slotAt (slotsOf w n) i .count) 0 (λ q. d (count-is w n i h ∙ q)), eq-eqb (slotAt (slotsOf w n) i .key .sender) from (sym (sender-is w n i h) ∙ e))
+  pub other-stays : Shaped w n → at w i senderWord ≢ from → ReleasesOne w n from i w n
+  other-stays sh d = record {
+    machine = same (slotsOf w n) (rw (ne-eqb (slotAt (slotsOf w n) i .key .sender) from (λ q. d (sender-is w n i h ∙ q)), and-false (busy (slotAt (slotsOf w n) i))));
+    shape = sh;
+  }
+
+  pub its-goes : (w1 n1 : List ℕ) → at w i countWord ≢ 0 → at w i senderWord ≡ from → Releases w n i w1 n1 → ReleasesOne w n from i w1 n1
+  its-goes w1 n1 d e R = record {
+    machine = R .machine ∙ same (release (slotsOf w n) i)
+        (rw (ne-eqb (slotAt (slotsOf w n) i .count) 0 (λ q. d (count-is w n i h ∙ q)), eq-eqb (slotAt (slotsOf w n) i .key .sender) from (sym (sender-is w n i h) ∙ e)));
+    shape = R .shape;
+  }
 
 -- ---- slot after slot
 
-pub released-none : (w n : List ℕ) (from : ℕ) → Shaped w n → Shows (withSlots (view w n) (releaseOf from 0 (slotsOf w n)) (memoryOf w)) w n
+pub released-none : (w n : List ℕ) (from : ℕ) → Shaped w n → ReleasesAll w n from 0 w n
 unfolding releaseOf
 released-none w n from sh = record { machine = refl; shape = sh }
 
-pub released-more : (w n w1 n1 w2 n2 : List ℕ) (from i : ℕ) → Shows (withSlots (view w n) (releaseOf from i (slotsOf w n)) (memoryOf w)) w1 n1
-    → Shows (withSlots (view w1 n1) (releaseFor from i (slotsOf w1 n1)) (memoryOf w1)) w2 n2
-    → Shows (withSlots (view w n) (releaseOf from (i + 1) (slotsOf w n)) (memoryOf w)) w2 n2
+pub released-more : (w n w1 n1 w2 n2 : List ℕ) (from i : ℕ) → ReleasesAll w n from i w1 n1 → ReleasesOne w1 n1 from i w2 n2 → ReleasesAll w n from (i + 1) w2 n2
 unfolding releaseOf
 released-more w n w1 n1 w2 n2 from i A B = record {
-  machine = B .machine ∙ ap (λ (m : Machine). withSlots m (releaseFor from i (m .slots)) (m .memory)) (A .machine)
+  machine = B .machine ∙ ap (λ (m : Machine). withSlots m (releaseOne from i (m .slots)) (m .memory)) (A .machine)
       ∙ ap (λ (k : ℕ). withSlots (view w n) (releaseOf from k (slotsOf w n)) (memoryOf w)) (sym (add-one i));
   shape = B .shape;
 }
 
 -- ---- refusals
-
--- asked of the memory lent as a part
-pub in-order-is : (w : List ℕ) → length w ≡ stateWords → (r : Bool) → r ≡ memoryOk (memoryIn (take (length w - memoryAt) (drop memoryAt w))) → r ≡ memoryOk (memoryOf w)
-in-order-is w a r e = e ∙ ap (λ (x : List ℕ). memoryOk (memoryIn x)) (memory-part w a)
 
 module _ (w n : List ℕ) where
   unshaped : length w ≢ stateWords → shaped w n ≡ false
@@ -100,32 +102,35 @@ module _ (w n : List ℕ) where
 never-some : (X : Type 0) (k : ℕ) → _≡_ {A = Option ℕ} none (some k) → X
 never-some X k q = let z : _≡_ {A = ℕ} 0 1 = cc in absurd (let h : ⊥ = omega arith in h)
 
+-- the memory is still in order once slots were freed
+pub known-after : (w n w1 n1 : List ℕ) (from : ℕ) → memoryOk (memoryOf w) ≡ true → ReleasesAll w n from slotCount w1 n1 → memoryOk (memoryOf w1) ≡ true
+known-after w n w1 n1 from k A = ap (λ (m : Machine). memoryOk (m .memory)) (A .machine) ∙ k
+
 module _ (w n : List ℕ) (a : length w ≡ stateWords) (b : length n ≡ nameBytes) where
-  pub forgets : (from : ℕ) (w1 n1 m w2 : List ℕ) → memoryOk (memoryOf w) ≡ true → Shows (withSlots (view w n) (releaseOf from slotCount (slotsOf w n)) (memoryOf w)) w1 n1
-      → Left (take (length w1 - memoryAt) (drop memoryAt w1)) (forgetKeys (memoryIn (take (length w1 - memoryAt) (drop memoryAt w1))) from) m
-      → w2 ≡ take memoryAt w1 ++ (m ++ drop (length w1 - memoryAt) (drop memoryAt w1)) → Forgets w n from call.Done w2 n1
+  pub forgets : (from : ℕ) (w1 n1 w2 : List ℕ) → memoryOk (memoryOf w) ≡ true → ReleasesAll w n from slotCount w1 n1 → Drops w1 from w2 → Forgets w n from call.Done w2 n1
   unfolding forgotten forget
-  forgets from w1 n1 m w2 k A L ew =
-      let r = left-there w1 (A .shape .words) (λ (x : Memory). forgetKeys x from) m w2 L ew in
-      rw (whole w n a b, k) (record {
-        gave = refl;
-        machine = r .0 n1 ∙ ap (λ (x : Machine). withSlots x (x .slots) (forgetKeys (x .memory) from)) (A .machine);
-        words = r .1 ∙ sym a;
-        bytes = A .shape .bytes ∙ sym b;
-        still = λ j q. never-some _ j q;
-      })
+  forgets from w1 n1 w2 k A D = rw (whole w n a b, k) (record {
+    gave = refl;
+    machine = D .machine n1 ∙ ap (λ (x : Machine). withSlots x (x .slots) (forgetKeys (x .memory) from)) (A .machine);
+    words = D .words ∙ sym a;
+    bytes = A .shape .bytes ∙ sym b;
+    still = λ j q. never-some _ j q;
+  })
 
   -- ---- opening
 
-  fresh : (k c : ℕ) → c ≡ slotSizeOf k → view (set (set (replicate stateWords 0) 0 k) 1 c) (replicate nameBytes 0) ≡ opened k
-  unfolding slotsOf memoryIn opened emptyMemory noneHeld
-  fresh k c e = ap (λ (x : ℕ). view (set (set (replicate stateWords 0) 0 k) 1 x) (replicate nameBytes 0)) e
+  fresh : (k c : ℕ) → c ≡ slotSizeOf k → view (set (set (replicate stateWords 0) storeWord k) roomWord c) (replicate nameBytes 0) ≡ opened k
+  unfolding slotsOf opened noneHeld
+  fresh k c e =
+      ap (λ (x : ℕ). view (set (set (replicate stateWords 0) storeWord k) roomWord x) (replicate nameBytes 0)) e
+      ∙ ap (λ (m : Memory). record { storeLength = k; slotSize = slotSizeOf k; slots = replicate slotCount noSlot; memory = m }) memory-fresh
 
-  pub opens : (k c : ℕ) (w1 w2 w3 n1 : List ℕ) → c ≡ slotSizeOf k → w1 ≡ overlay w 0 (replicate stateWords 0) → w2 ≡ set w1 0 k → w3 ≡ set w2 1 c
+  pub opens : (k c : ℕ) (w1 w2 w3 n1 : List ℕ) → c ≡ slotSizeOf k → w1 ≡ overlay w 0 (replicate stateWords 0) → w2 ≡ set w1 storeWord k → w3 ≡ set w2 roomWord c
       → n1 ≡ overlay n 0 (replicate nameBytes 0) → Opens w n k call.Done w3 n1
   opens k c w1 w2 w3 n1 ec e1 e2 e3 en =
       let z : w1 ≡ replicate stateWords 0 = e1 ∙ overlay-whole w (replicate stateWords 0) (sym a) in
-      let y : w3 ≡ set (set (replicate stateWords 0) 0 k) 1 c = e3 ∙ ap (λ (x : List ℕ). set x 1 c) e2 ∙ ap (λ (x : List ℕ). set (set x 0 k) 1 c) z in
+      let y : w3 ≡ set (set (replicate stateWords 0) storeWord k) roomWord c =
+      e3 ∙ ap (λ (x : List ℕ). set x roomWord c) e2 ∙ ap (λ (x : List ℕ). set (set x storeWord k) roomWord c) z in
       let t : n1 ≡ replicate nameBytes 0 = en ∙ overlay-whole n (replicate nameBytes 0) (sym b) in
       rw (whole w n a b) (record {
         gave = refl;

@@ -1,13 +1,14 @@
 -- WHAT THE CALLS PROMISE, for every state, names, store, ledger, sender and datagram. Definitions only.
 use mathlib.Core.Path.{_≡_}
 use mathlib.Core.Option.{Option, none, some}
-use mathlib.Core.List.{List}
+use mathlib.Core.List.{List, []}
 use Prim.Native.Nat.{ℕ}
 use lib.ListN.{length}
 use Rattle.wire.specs.Choice.{pick}
 use Rattle.steps.specs.declared.Answer.the-variants.{Refused}
+use Rattle.steps.specs.Answers.{Reply, refusedBy, kept, repeat, delivered}
 use Rattle.steps.specs.Receive.{Machine, After, opened, stay, step, forget, Forgot}
-use Rattle.receiver.specs.View.{view, shaped}
+use Rattle.receiver_state.specs.View.{view, shaped}
 use Rattle.receiver.specs.declared.Outcome.{Outcome}
 use Rattle.receiver.specs.declared.Call.{Call}
 use Rattle.receiver.specs.declared.Call.the-variants as call
@@ -38,6 +39,13 @@ pub record Receives (w n store ledger : List ℕ) (sender : ℕ) (d : List ℕ) 
   pub bytes : length n′ ≡ length n
   -- a refusal writes nothing
   pub still : (k : ℕ) → r .answer ≡ Refused k → (w′ ≡ w) × (n′ ≡ n) × (store′ ≡ store) × (ledger′ ≡ ledger)
+
+-- the bytes that an answer hands over: none, but for Delivered
+abbrev pub payloadOf : Reply → List ℕ
+payloadOf (refusedBy n) = []
+payloadOf kept = []
+payloadOf repeat = []
+payloadOf (delivered bytes) = bytes
 
 -- the other calls: what machine is shown then, and whether it is refused
 pub record Changes (m : Machine) (refusal : Option ℕ) (w n : List ℕ) (r : Call) (w′ n′ : List ℕ) : Type 0 where

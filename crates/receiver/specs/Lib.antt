@@ -1,3 +1,2 @@
-pub mod View
-pub mod Parts
 pub mod Calls
+pub mod Inside

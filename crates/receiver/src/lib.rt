@@ -1,45 +1,40 @@
-// The receiver: fragments of messages joined in a lent store, by the step list of the crate `steps`. Its state is lent too: words for the slots
-// and the memory of keys, and 63 bytes for each slot's name.
+// The receiver: fragments of messages joined in a lent store, by the step list of the crate `steps`. The crate `deciding` says what is to be done
+// with a datagram; here it is done. The state is lent too: words for the slots and the memory of keys, and bytes for each slot's name.
 use datagram::Header;
-use datagram::Read;
+use deciding::Verdict;
 use slots::Found;
 use steps::Answer;
 use steps::Emptied;
 use steps::Key;
 use steps::PayloadAt;
 ghost use mathlib.Core.Path.{_≡_};
-ghost use mathlib.Core.Bool.{true, false};
-ghost use Prim.Native.Nat.{_+_, _*_, _<_, _≤_, _^_};
-ghost use lib.ListN.{length, getD, set};
+ghost use mathlib.Core.Bool.{true};
+ghost use Prim.Native.Nat.{_<_, _≤_};
+ghost use lib.ListN.{length, getD};
 ghost use Rattle.datagram.specs.Limits.{maxPayload};
-ghost use Rattle.datagram.specs.Said.{says, fragmentIn};
-ghost use Rattle.datagram.specs.declared.Read.the-variants.{Good};
-ghost use Rattle.steps.specs.Limits.{slotCount, ledgerLength, slotSizeOf};
+ghost use Rattle.datagram.specs.Said.{fragmentIn};
+ghost use Rattle.steps.specs.Limits.{slotCount};
 ghost use Rattle.steps.specs.Memory.{keyOf};
-ghost use Rattle.steps.specs.Slots.{slotAt, noName, filled, seat, releaseOf};
-ghost use Rattle.steps.specs.Slots as step;
-ghost use Rattle.steps.specs.Receive.{withSlots, storeWith, ledgerWith, step3, step5, beginAt, act};
-ghost use Rattle.steps.specs.Receive as steps;
-ghost use Rattle.receiver.specs.View.{stateWords, view, slotsOf, nameIn, memoryOf};
-ghost use Rattle.receiver.specs.Parts.{isReady, Shaped, Known, Told, Shows, openedSlot, namedIn, Recalls, stayed, passedOn, Delivers, SmallDone, sameIn, verdictOf, possible, smallVerdict, releaseFor};
-ghost use Rattle.receiver.specs.Calls.{Leaves, Receives, Opens, Forgets};
+ghost use Rattle.steps.specs.Slots.{noName};
+ghost use Rattle.steps.specs.Answers.{reply};
+ghost use Rattle.receiver_state.specs.View.{stateWords};
+ghost use Rattle.receiver_state.specs.Inside.{Shaped, Ready, Told, namedIn, Remembers};
+ghost use Rattle.deciding.specs.Inside.{Possible};
+ghost use Rattle.receiver.specs.Calls.{Receives, Opens, Forgets, payloadOf};
+ghost use Rattle.receiver.specs.Inside.{stayed, idle, Releases, Occupies, Keeps, Delivers, SmallDone, Puts, Seats, Begins, Settles, Storable, StoredIn, StoredBy, ReleasesOne, ReleasesAll};
 
-// Where the memory of keys begins in the state, after the slots.
-pub const MEMORY: usize = 74;
-// The words of a state, and the bytes of its names.
-pub const STATE_WORDS: usize = MEMORY + memory::WORDS;
+// The words of a state, the bytes of its names, and the numbers of a ledger.
+pub const STATE_WORDS: usize = receiver_state::STATE_WORDS;
 
-pub const NAME_BYTES: usize = 504;
-// The ledger's numbers: offset and length of each fragment of a slot, and of all.
-pub const SLOT_LEDGER: usize = 512;
+pub const NAME_BYTES: usize = receiver_state::NAME_BYTES;
 
-pub const LEDGER: usize = 4096;
+pub const LEDGER: usize = receiver_state::LEDGER;
 
 // What is answered to a datagram: the answer, the key of the slot that was emptied for it, and for Delivered the name, with zeros after it.
 pub struct Outcome {
     pub answer: Answer,
     pub emptied: Emptied,
-    pub name: [u8; 63],
+    pub name: [u8; datagram::MAX_NAME],
 }
 
 // What is answered to the other calls.
@@ -49,82 +44,34 @@ pub enum Call {
     Refused(u32),
 }
 
-// What steps 1 to 4 decide.
-enum Verdict {
-    Refuse,
-    Again,
-    Deliver,
-    Join(usize),
-    Begin,
+// The fragment that is to be stored, and in which slot.
+enum Stored {
+    Nothing,
+    In(usize, Header),
 }
 
-fn wide(x: u32) -> u64
-    ensures { λ r. ⌜ r ≡ x ⌝ }
-{
-    x as u64
+struct Settled {
+    outcome: Outcome,
+    stored: Stored,
 }
 
-fn size_of(x: u32) -> usize
-    ensures { λ r. ⌜ (r ≡ x) × (r < 2 ^ 32) ⌝ }
-{
-    x as usize
-}
-
-// ---- the slot size
-
-fn slot_size(store_len: usize) -> usize
-    ensures { λ r. ⌜ r ≡ slotSizeOf «store_len» ⌝ }
-{
-    wire::least(store_len / slots::SLOTS, datagram::MAX_PAYLOAD)
-}
-
-// Where a place of slot s stands in the store.
-fn place(room: usize, s: usize, offset: usize) -> usize
-    requires { ⌜ (s < slotCount) × (room ≤ maxPayload) × (offset < 2 ^ 32) ⌝ }
-    ensures { λ r. ⌜ r ≡ s * room + offset ⌝ }
-{
-    s * room + offset
-}
-
-// ---- refusal 9
-
-// The state and the names have their lengths, the store and the ledger are those of opening, and every word is within its bounds.
-fn is_ready(state: &[u64], names: usize, store: usize, ledger: usize) -> bool
-    ensures { λ r. ⌜ r ≡ isReady (now (state .entry)) names store ledger ⌝ }
-{
-    if state.len() != STATE_WORDS {
-        return false;
-    }
-    if names != NAME_BYTES {
-        return false;
-    }
-    if store as u64 != state[0] {
-        return false;
-    }
-    if ledger != LEDGER {
-        return false;
-    }
-    let room = state[1];
-    if room != slot_size(store) as u64 {
-        return false;
-    }
-    if !slots::all_sound(state, room) {
-        return false;
-    }
-    memory::in_order(&state[MEMORY..])
+// The slot to take, which is free now, and the key that was emptied for it.
+struct Seat {
+    at: usize,
+    emptied: Emptied,
 }
 
 // ---- what changes in the state
 
-// Slot s is freed: all zeros, and the turns of those opened after it move up.
+// Slot s is freed: all zeros, and the turns of those opened after it fall by one.
 fn release(state: &mut [u64], names: &mut [u8], s: usize)
     requires { ⌜ (s < slotCount) × Shaped (now state) (now names) ⌝ }
-    ensures { λ _. ⌜ Shows (withSlots (view (now (state .entry)) (now (names .entry))) (step.release (slotsOf (now (state .entry)) (now (names .entry))) s) (memoryOf (now (state .entry)))) (now (state .exit)) (now (names .exit)) ⌝ }
+    ensures { λ _. ⌜ Releases (now (state .entry)) (now (names .entry)) s (now (state .exit)) (now (names .exit)) ⌝ }
 {
     let b = slots::HEAD + slots::BLOCK * s;
     let t = words::word(&*state, b + slots::TURN);
-    let zeros = [0u64; 9];
-    let blank = [0u8; 63];
+    let zeros = [0u64; slots::BLOCK];
+    let blank = [0u8; datagram::MAX_NAME];
     words::put_words(&mut *state, b, &zeros);
     wire::put_bytes(names, datagram::MAX_NAME * s, &blank);
     slots::lower(state, t);
@@ -133,22 +80,16 @@ fn release(state: &mut [u64], names: &mut [u8], s: usize)
 // A message is opened in slot s, the last of the open ones, with no fragment yet.
 fn occupy(state: &mut [u64], names: &mut [u8], s: usize, sender: u64, h: Header)
     requires { ⌜ (s < slotCount) × Shaped (now state) (now names) ⌝ }
-    ensures { λ _. ⌜ Shows (withSlots (view (now (state .entry)) (now (names .entry))) (set (slotsOf (now (state .entry)) (now (names .entry))) s (openedSlot (slotsOf (now (state .entry)) (now (names .entry))) (keyOf sender (h .sequence)) (h .size) (h .count))) (memoryOf (now (state .entry)))) (now (state .exit)) (now (names .exit)) ⌝ }
+    ensures { λ _. ⌜ Occupies (now (state .entry)) (now (names .entry)) s sender h (now (state .exit)) (now (names .exit)) ⌝ }
 {
     let b = slots::HEAD + slots::BLOCK * s;
-    let t = slots::open_count(&*state);
-    let block = [
-        sender,
-        wide(h.sequence),
-        wide(h.size),
-        wide(h.count),
-        t,
-        0,
-        0,
-        0,
-        0,
-    ];
-    let blank = [0u8; 63];
+    let mut block = [0u64; slots::BLOCK];
+    block[slots::SENDER] = sender;
+    block[slots::SEQUENCE] = words::as_word(h.sequence);
+    block[slots::SIZE] = words::as_word(h.size);
+    block[slots::COUNT] = words::as_word(h.count);
+    block[slots::TURN] = slots::open_count(&*state);
+    let blank = [0u8; datagram::MAX_NAME];
     words::put_words(state, b, &block);
     wire::put_bytes(names, datagram::MAX_NAME * s, &blank);
 }
@@ -161,36 +102,35 @@ fn put_name(names: &mut [u8], s: usize, h: Header, d: &[u8])
     if h.number != 0 {
         return;
     }
-    let p = h.name;
-    let name = slots::zero_filled(wire::part(d, p.at, p.len));
+    let name = slots::zero_filled(datagram::part_at(d, h.name));
     wire::put_bytes(names, datagram::MAX_NAME * s, &name);
 }
 
 // Slot s holds the fragment.
 fn keep(state: &mut [u64], names: &mut [u8], s: usize, h: Header, d: &[u8])
     requires { ⌜ (s < slotCount) × Shaped (now state) (now names) × Told (now d) h ⌝ }
-    ensures { λ _. ⌜ Shows (withSlots (view (now (state .entry)) (now (names .entry))) (set (slotsOf (now (state .entry)) (now (names .entry))) s (filled (slotAt (slotsOf (now (state .entry)) (now (names .entry))) s) (fragmentIn (now (d .entry)) h))) (memoryOf (now (state .entry)))) (now (state .exit)) (now (names .exit)) ⌝ }
+    ensures { λ _. ⌜ Keeps (now (state .entry)) (now (names .entry)) s h (now (d .entry)) (now (state .exit)) (now (names .exit)) ⌝ }
 {
     let a = slots::HEAD + slots::BLOCK * s + slots::HELD;
     let e = a + slots::HELD_WORDS;
-    slots::hold_fragment(&mut state[a..e], size_of(h.number));
+    slots::hold_fragment(&mut state[a..e], words::as_size(h.number));
     put_name(names, s, h, d);
 }
 
 // The key is remembered.
-fn recall(state: &mut [u64], sender: u64, sequence: u64)
-    requires { ⌜ (length (now state) ≡ stateWords) × Known (now state) ⌝ }
-    ensures { λ _. ⌜ Recalls (now (state .entry)) (keyOf sender sequence) (now (state .exit)) ⌝ }
+fn remember_key(state: &mut [u64], sender: u64, sequence: u64)
+    requires { ⌜ length (now state) ≡ stateWords ⌝ }
+    ensures { λ _. ⌜ Remembers (now (state .entry)) (keyOf sender sequence) (now (state .exit)) ⌝ }
 {
-    memory::remember(&mut state[MEMORY..], sender, sequence);
+    memory::remember(&mut state[receiver_state::MEMORY..], sender, sequence);
 }
 
 // ---- what is answered
 
-fn no_name() -> [u8; 63]
+fn no_name() -> [u8; datagram::MAX_NAME]
     ensures { λ r. ⌜ r ≡ noName ⌝ }
 {
-    [0u8; 63]
+    [0u8; datagram::MAX_NAME]
 }
 
 // Nothing is altered.
@@ -204,29 +144,19 @@ fn stay(answer: Answer) -> Outcome
     }
 }
 
-// The reader's refusal is passed on.
-fn passed_on(read: Read) -> Answer
-    ensures { λ r. ⌜ r ≡ passedOn read ⌝ }
-{
-    match read {
-        Read::Refused(n) => Answer::Refused(n),
-        Read::Good(_) => Answer::Refused(0),
-    }
-}
-
 // The whole message in slot s is handed over: its key is remembered and the slot freed.
 fn deliver(state: &mut [u64], names: &mut [u8], s: usize, gone: Emptied) -> Outcome
-    requires { ⌜ (s < slotCount) × Shaped (now state) (now names) × Known (now state) × (getD (now state) 1 0 ≤ maxPayload) ⌝ }
+    requires { ⌜ (s < slotCount) × Ready (now state) (now names) ⌝ }
     ensures { λ r. ⌜ Delivers (now (state .entry)) (now (names .entry)) s gone r (now (state .exit)) (now (names .exit)) ⌝ }
 {
     let b = slots::HEAD + slots::BLOCK * s;
     let sender = words::word(&*state, b + slots::SENDER);
     let sequence = words::word(&*state, b + slots::SEQUENCE);
     let size = words::word(&*state, b + slots::SIZE);
-    let room = words::word(&*state, 1);
-    let at = place(room as usize, s, 0);
+    let room = words::word(&*state, receiver_state::SLOT_SIZE);
+    let at = s * room as usize;
     let name = slots::zero_filled(wire::part(&*names, datagram::MAX_NAME * s, datagram::MAX_NAME));
-    recall(&mut *state, sender, sequence);
+    remember_key(&mut *state, sender, sequence);
     release(state, names, s);
     Outcome {
         answer: Answer::Delivered(PayloadAt::InStore(at), size as usize),
@@ -235,157 +165,13 @@ fn deliver(state: &mut [u64], names: &mut [u8], s: usize, gone: Emptied) -> Outc
     }
 }
 
-// ---- steps 1 to 4 decide
+// ---- what is done
 
-// The fragment is the one that slot s holds under its number: offset, length, data and, for number 0, name.
-fn same_fragment(
-    names: &[u8],
-    store: &[u8],
-    ledger: &[u32],
-    room: usize,
-    s: usize,
-    h: Header,
-    d: &[u8],
-) -> bool
-    requires { ⌜ (s < slotCount) × (room ≤ maxPayload) × Told (now d) h ⌝ }
-    ensures { λ r. ⌜ r ≡ sameIn room (now (store .entry)) (now (ledger .entry)) s (nameIn (now (names .entry)) s) (fragmentIn (now (d .entry)) h) ⌝ }
+// Step 5, but for the store and the ledger: the fragment is held in slot s, which is open.
+fn put(state: &mut [u64], names: &mut [u8], s: usize, h: Header, d: &[u8], gone: Emptied) -> Outcome
+    requires { ⌜ (s < slotCount) × Ready (now state) (now names) × Told (now d) h ⌝ }
+    ensures { λ r. ⌜ Puts (now (state .entry)) (now (names .entry)) s gone h (now (d .entry)) r (now (state .exit)) (now (names .exit)) ⌝ }
 {
-    let k = size_of(h.number);
-    let offset = size_of(h.offset);
-    let e = 2 * (256 * s + k);
-    let p = h.payload;
-    let bytes = wire::part(d, p.at, p.len);
-    if words::entry(ledger, e) != offset {
-        return false;
-    }
-    if words::entry(ledger, e + 1) != bytes.len() {
-        return false;
-    }
-    if !wire::same_at(store, place(room, s, offset), bytes) {
-        return false;
-    }
-    if k != 0 {
-        return true;
-    }
-    let q = h.name;
-    let name = slots::zero_filled(wire::part(d, q.at, q.len));
-    wire::same_at(names, datagram::MAX_NAME * s, &name)
-}
-
-// Step 3: the key is open in slot s.
-fn at_open(
-    state: &[u64],
-    names: &[u8],
-    store: &[u8],
-    ledger: &[u32],
-    s: usize,
-    h: Header,
-    d: &[u8],
-) -> Verdict
-    requires { ⌜ (s < slotCount) × Shaped (now state) (now names) × (length (now ledger) ≡ ledgerLength) × (getD (now state) 1 0 ≤ maxPayload) × Told (now d) h × (h .small ≡ false) ⌝ }
-    ensures { λ r. ⌜ (verdictOf (now (d .entry)) h r ≡ step3 (getD (now (state .entry)) 1 0) (now (store .entry)) (now (ledger .entry)) s (slotAt (slotsOf (now (state .entry)) (now (names .entry))) s) (fragmentIn (now (d .entry)) h)) × (possible h r ≡ true) ⌝ }
-{
-    let b = slots::HEAD + slots::BLOCK * s;
-    if words::word(state, b + slots::SIZE) != wide(h.size) {
-        return Verdict::Refuse;
-    }
-    if words::word(state, b + slots::COUNT) != wide(h.count) {
-        return Verdict::Refuse;
-    }
-    let a = b + slots::HELD;
-    let e = a + slots::HELD_WORDS;
-    let held = &state[a..e];
-    if slots::is_held(held, size_of(h.number)) {
-        let room = words::word(state, 1);
-        if same_fragment(names, store, ledger, room as usize, s, h, d) {
-            return Verdict::Again;
-        }
-        return Verdict::Refuse;
-    }
-    let from = SLOT_LEDGER * s;
-    let to = from + SLOT_LEDGER;
-    let p = h.payload;
-    if slots::fits_all(
-        held,
-        &ledger[from..to],
-        h.count,
-        h.number,
-        h.offset,
-        p.len as u32,
-    ) {
-        return Verdict::Join(s);
-    }
-    Verdict::Refuse
-}
-
-// Step 2: a small message is delivered where its key is not open.
-fn at_small(found: Found) -> Verdict
-    ensures { λ r. ⌜ r ≡ smallVerdict found ⌝ }
-{
-    match found {
-        Found::At(_) => Verdict::Refuse,
-        Found::Nothing => Verdict::Deliver,
-    }
-}
-
-fn decide(
-    state: &[u64],
-    names: &[u8],
-    store: &[u8],
-    ledger: &[u32],
-    sender: u64,
-    h: Header,
-    d: &[u8],
-) -> Verdict
-    requires { ⌜ Shaped (now state) (now names) × Known (now state) × (length (now ledger) ≡ ledgerLength) × (getD (now state) 1 0 ≤ maxPayload) × Told (now d) h ⌝ }
-    ensures { λ r. ⌜ (verdictOf (now (d .entry)) h r ≡ steps.decide (view (now (state .entry)) (now (names .entry))) (now (store .entry)) (now (ledger .entry)) sender (says (now (d .entry)) (Good h))) × (possible h r ≡ true) ⌝ }
-{
-    let sequence = wide(h.sequence);
-    if memory::is_remembered(&state[MEMORY..], sender, sequence) {
-        return Verdict::Again;
-    }
-    let found = slots::find_open(state, sender, sequence);
-    if h.small {
-        return at_small(found);
-    }
-    let Found::At(s) = found else {
-        return Verdict::Begin;
-    };
-    at_open(state, names, store, ledger, s, h, d)
-}
-
-// ---- what is then done
-
-// The fragment's own bytes in the store and its two ledger numbers.
-fn put_fragment(store: &mut [u8], ledger: &mut [u32], room: usize, s: usize, h: Header, d: &[u8])
-    requires { ⌜ (s < slotCount) × (room ≤ maxPayload) × Told (now d) h ⌝ }
-    ensures { λ _. ⌜ (now (store .exit) ≡ storeWith room (now (store .entry)) s (fragmentIn (now (d .entry)) h)) × (now (ledger .exit) ≡ ledgerWith (now (ledger .entry)) s (fragmentIn (now (d .entry)) h)) ⌝ }
-{
-    let k = size_of(h.number);
-    let at = place(room, s, size_of(h.offset));
-    let e = 2 * (256 * s + k);
-    let p = h.payload;
-    wire::put_bytes(store, at, wire::part(d, p.at, p.len));
-    words::put_entry(&mut *ledger, e, h.offset);
-    words::put_entry(ledger, e + 1, p.len as u32);
-}
-
-// Step 5: the fragment is stored in slot s, which is open.
-fn put(
-    state: &mut [u64],
-    names: &mut [u8],
-    store: &mut [u8],
-    ledger: &mut [u32],
-    s: usize,
-    h: Header,
-    d: &[u8],
-    gone: Emptied,
-) -> Outcome
-    requires { ⌜ (s < slotCount) × Shaped (now state) (now names) × Known (now state) × (getD (now state) 1 0 ≤ maxPayload) × Told (now d) h ⌝ }
-    ensures { λ r. ⌜ Leaves (step5 (view (now (state .entry)) (now (names .entry))) (slotsOf (now (state .entry)) (now (names .entry))) (now (store .entry)) (now (ledger .entry)) gone s (fragmentIn (now (d .entry)) h)) r (now (state .exit)) (now (names .exit)) (now (store .exit)) (now (ledger .exit)) ⌝ }
-{
-    let room = words::word(&*state, 1);
-    put_fragment(store, ledger, room as usize, s, h, d);
     keep(&mut *state, &mut *names, s, h, d);
     let b = slots::HEAD + slots::BLOCK * s;
     let a = b + slots::HELD;
@@ -401,46 +187,56 @@ fn put(
     }
 }
 
-// Step 4: a slot is taken, the lowest free one or else the one that was opened longest ago, and the fragment stored there.
-fn begin(
-    state: &mut [u64],
-    names: &mut [u8],
-    store: &mut [u8],
-    ledger: &mut [u32],
-    sender: u64,
-    h: Header,
-    d: &[u8],
-) -> Outcome
-    requires { ⌜ Shaped (now state) (now names) × Known (now state) × (getD (now state) 1 0 ≤ maxPayload) × Told (now d) h ⌝ }
-    ensures { λ r. ⌜ Leaves (beginAt (view (now (state .entry)) (now (names .entry))) (now (store .entry)) (now (ledger .entry)) (keyOf sender (h .sequence)) (fragmentIn (now (d .entry)) h) (seat (slotsOf (now (state .entry)) (now (names .entry))))) r (now (state .exit)) (now (names .exit)) (now (store .exit)) (now (ledger .exit)) ⌝ }
+// The lowest free slot. With none free, the slot that was opened longest ago is emptied first.
+fn take_seat(state: &mut [u64], names: &mut [u8]) -> Seat
+    requires { ⌜ Shaped (now state) (now names) ⌝ }
+    ensures { λ r. ⌜ Seats (now (state .entry)) (now (names .entry)) r (now (state .exit)) (now (names .exit)) ⌝ }
 {
     let found = slots::lowest_free(&*state);
     let Found::At(free) = found else {
         let s = slots::oldest(&*state);
         let b = slots::HEAD + slots::BLOCK * s;
-        let from = words::word(&*state, b + slots::SENDER);
-        let number = words::word(&*state, b + slots::SEQUENCE);
-        let gone = Emptied::Was(Key {
-            sender: from,
-            sequence: number,
-        });
-        release(&mut *state, &mut *names, s);
-        occupy(&mut *state, &mut *names, s, sender, h);
-        return put(state, names, store, ledger, s, h, d, gone);
+        let sender = words::word(&*state, b + slots::SENDER);
+        let sequence = words::word(&*state, b + slots::SEQUENCE);
+        release(state, names, s);
+        return Seat {
+            at: s,
+            emptied: Emptied::Was(Key {
+                sender: sender,
+                sequence: sequence,
+            }),
+        };
     };
-    occupy(&mut *state, &mut *names, free, sender, h);
-    put(state, names, store, ledger, free, h, d, Emptied::Nobody)
+    Seat {
+        at: free,
+        emptied: Emptied::Nobody,
+    }
+}
+
+// Steps 4 and 5: a slot is taken, and the fragment held there.
+fn begin(state: &mut [u64], names: &mut [u8], sender: u64, h: Header, d: &[u8]) -> Settled
+    requires { ⌜ Ready (now state) (now names) × Told (now d) h ⌝ }
+    ensures { λ r. ⌜ Begins (now (state .entry)) (now (names .entry)) sender h (now (d .entry)) r (now (state .exit)) (now (names .exit)) ⌝ }
+{
+    let seat = take_seat(&mut *state, &mut *names);
+    let at = seat.at;
+    let gone = seat.emptied;
+    occupy(&mut *state, &mut *names, at, sender, h);
+    let outcome = put(state, names, at, h, d, gone);
+    Settled {
+        outcome: outcome,
+        stored: Stored::In(at, h),
+    }
 }
 
 // A small message is delivered from the datagram.
 fn small(state: &mut [u64], sender: u64, h: Header, d: &[u8]) -> Outcome
-    requires { ⌜ (length (now state) ≡ stateWords) × Known (now state) × Told (now d) h × (h .small ≡ true) ⌝ }
+    requires { ⌜ (length (now state) ≡ stateWords) × Told (now d) h × (h .small ≡ true) ⌝ }
     ensures { λ r. ⌜ SmallDone (now (state .entry)) sender (now (d .entry)) h r (now (state .exit)) ⌝ }
 {
     let p = h.payload;
-    let q = h.name;
-    let name = slots::zero_filled(wire::part(d, q.at, q.len));
-    recall(state, sender, wide(h.sequence));
+    let name = slots::zero_filled(datagram::part_at(d, h.name));
+    remember_key(state, sender, words::as_word(h.sequence));
     Outcome {
         answer: Answer::Delivered(PayloadAt::InDatagram(p.at), p.len),
         emptied: Emptied::Nobody,
@@ -448,25 +244,53 @@ fn small(state: &mut [u64], sender: u64, h: Header, d: &[u8]) -> Outcome
     }
 }
 
-fn done(
-    state: &mut [u64],
-    names: &mut [u8],
-    store: &mut [u8],
-    ledger: &mut [u32],
-    sender: u64,
-    h: Header,
-    d: &[u8],
-    verdict: Verdict,
-) -> Outcome
-    requires { ⌜ Shaped (now state) (now names) × Known (now state) × (getD (now state) 1 0 ≤ maxPayload) × Told (now d) h × (possible h verdict ≡ true) ⌝ }
-    ensures { λ r. ⌜ Leaves (act (view (now (state .entry)) (now (names .entry))) (now (store .entry)) (now (ledger .entry)) (keyOf sender (h .sequence)) (verdictOf (now (d .entry)) h verdict)) r (now (state .exit)) (now (names .exit)) (now (store .exit)) (now (ledger .exit)) ⌝ }
+// No fragment is to be stored.
+fn without(outcome: Outcome) -> Settled
+    ensures { λ r. ⌜ r ≡ idle outcome ⌝ }
+{
+    Settled {
+        outcome: outcome,
+        stored: Stored::Nothing,
+    }
+}
+
+// The verdict is carried out, but for the store and the ledger.
+fn settle(state: &mut [u64], names: &mut [u8], sender: u64, verdict: Verdict, d: &[u8]) -> Settled
+    requires { ⌜ Possible (now state) (now names) (now d) verdict ⌝ }
+    ensures { λ r. ⌜ Settles (now (state .entry)) (now (names .entry)) sender verdict (now (d .entry)) r (now (state .exit)) (now (names .exit)) ⌝ }
 {
     match verdict {
-        Verdict::Refuse => stay(Answer::Refused(8)),
-        Verdict::Again => stay(Answer::Repeat),
-        Verdict::Deliver => small(state, sender, h, d),
-        Verdict::Join(s) => put(state, names, store, ledger, s, h, d, Emptied::Nobody),
-        Verdict::Begin => begin(state, names, store, ledger, sender, h, d),
+        Verdict::Refuse(n) => without(stay(Answer::Refused(n))),
+        Verdict::Again => without(stay(Answer::Repeat)),
+        Verdict::Deliver(h) => without(small(state, sender, h, d)),
+        Verdict::Join(s, h) => Settled {
+            outcome: put(state, names, s, h, d, Emptied::Nobody),
+            stored: Stored::In(s, h),
+        },
+        Verdict::Begin(h) => begin(state, names, sender, h, d),
+    }
+}
+
+// The fragment's own bytes in the store and its two ledger numbers.
+fn put_fragment(store: &mut [u8], ledger: &mut [u32], room: usize, s: usize, h: Header, d: &[u8])
+    requires { ⌜ (s < slotCount) × (room ≤ maxPayload) × Told (now d) h ⌝ }
+    ensures { λ _. ⌜ StoredIn room (now (store .entry)) (now (ledger .entry)) s (fragmentIn (now (d .entry)) h) (now (store .exit)) (now (ledger .exit)) ⌝ }
+{
+    let k = words::as_size(h.number);
+    let at = s * room + words::as_size(h.offset);
+    let row = receiver_state::SLOT_LEDGER * s + 2 * k;
+    let p = h.payload;
+    wire::put_bytes(store, at, datagram::part_at(d, h.payload));
+    words::put_entry(&mut *ledger, row, h.offset);
+    words::put_entry(ledger, row + 1, p.len as u32);
+}
+
+fn store_in(store: &mut [u8], ledger: &mut [u32], room: u64, stored: Stored, d: &[u8])
+    requires { ⌜ Storable room (now d) stored ⌝ }
+    ensures { λ _. ⌜ StoredBy room (now (store .entry)) (now (ledger .entry)) stored (now (d .entry)) (now (store .exit)) (now (ledger .exit)) ⌝ }
+{
+    if let Stored::In(s, h) = stored {
+        put_fragment(store, ledger, room as usize, s, h, d);
     }
 }
 
@@ -479,18 +303,32 @@ pub fn receive(
     sender: u64,
     d: &[u8],
 ) -> Outcome
-    ensures { λ r. ⌜ Receives (now (state .entry)) (now (names .entry)) (now (store .entry)) (now (ledger .entry)) sender (now (d .entry)) r (now (state .exit)) (now (names .exit)) (now (store .exit)) (now (ledger .exit)) ⌝ }
+    ensures { λ r. ⌜ Receives (now (state .entry)) (now (names .entry)) (now (store .entry)) (now (ledger .entry)) sender (now (d .entry)) r
+        (now (state .exit)) (now (names .exit)) (now (store .exit)) (now (ledger .exit)) ⌝ }
 {
-    if !is_ready(&*state, names.len(), store.len(), ledger.len()) {
-        return stay(Answer::Refused(9));
+    let room = words::word(&*state, receiver_state::SLOT_SIZE);
+    let verdict = deciding::decide(&*state, &*names, &*store, &*ledger, sender, d);
+    let settled = settle(state, names, sender, verdict, d);
+    let stored = settled.stored;
+    let outcome = settled.outcome;
+    store_in(store, ledger, room, stored, d);
+    outcome
+}
+
+// The delivered payload, as the part of the store or of the datagram that holds it: empty for any other answer.
+pub fn payload<'a>(outcome: Outcome, store: &'a [u8], d: &'a [u8]) -> &'a [u8]
+    ensures { λ r. ⌜ now r ≡ payloadOf (reply (now (d .entry)) (now (store .entry)) (outcome .answer)) ⌝ }
+{
+    let answer = outcome.answer;
+    match answer {
+        Answer::Refused(_) => wire::part(d, 0, 0),
+        Answer::Kept => wire::part(d, 0, 0),
+        Answer::Repeat => wire::part(d, 0, 0),
+        Answer::Delivered(place, n) => match place {
+            PayloadAt::InDatagram(at) => wire::part(d, at, n),
+            PayloadAt::InStore(at) => wire::part(store, at, n),
+        },
     }
-    let room = words::word(&*state, 1);
-    let read = datagram::read_datagram(d, room as usize, datagram::MAX_FRAGMENTS);
-    let Read::Good(h) = read else {
-        return stay(passed_on(read));
-    };
-    let verdict = decide(&*state, &*names, &*store, &*ledger, sender, h, d);
-    done(state, names, store, ledger, sender, h, d, verdict)
 }
 
 // ---- opening and forgetting
@@ -506,18 +344,22 @@ pub fn open(state: &mut [u64], names: &mut [u8], store_len: usize) -> Call
         return Call::Refused(9);
     }
     let zeros = [0u64; STATE_WORDS];
-    let blank = [0u8; 504];
+    let blank = [0u8; NAME_BYTES];
     words::put_words(&mut *state, 0, &zeros);
-    words::put_word(&mut *state, 0, store_len as u64);
-    words::put_word(state, 1, slot_size(store_len) as u64);
+    words::put_word(&mut *state, receiver_state::STORE_LENGTH, store_len as u64);
+    words::put_word(
+        state,
+        receiver_state::SLOT_SIZE,
+        receiver_state::slot_size(store_len) as u64,
+    );
     wire::put_bytes(names, 0, &blank);
     Call::Done
 }
 
-// The slot is freed where it is open for the sender.
-fn release_of(state: &mut [u64], names: &mut [u8], i: usize, sender: u64)
+// Slot i is freed where it is open for the sender.
+fn release_one(state: &mut [u64], names: &mut [u8], i: usize, sender: u64)
     requires { ⌜ (i < slotCount) × Shaped (now state) (now names) ⌝ }
-    ensures { λ _. ⌜ Shows (withSlots (view (now (state .entry)) (now (names .entry))) (releaseFor sender i (slotsOf (now (state .entry)) (now (names .entry)))) (memoryOf (now (state .entry)))) (now (state .exit)) (now (names .exit)) ⌝ }
+    ensures { λ _. ⌜ ReleasesOne (now (state .entry)) (now (names .entry)) sender i (now (state .exit)) (now (names .exit)) ⌝ }
 {
     let b = slots::HEAD + slots::BLOCK * i;
     if words::word(&*state, b + slots::COUNT) == 0 {
@@ -531,11 +373,11 @@ fn release_of(state: &mut [u64], names: &mut [u8], i: usize, sender: u64)
 
 fn release_all(state: &mut [u64], names: &mut [u8], sender: u64)
     requires { ⌜ Shaped (now state) (now names) ⌝ }
-    ensures { λ _. ⌜ Shows (withSlots (view (now (state .entry)) (now (names .entry))) (releaseOf sender slotCount (slotsOf (now (state .entry)) (now (names .entry)))) (memoryOf (now (state .entry)))) (now (state .exit)) (now (names .exit)) ⌝ }
+    ensures { λ _. ⌜ ReleasesAll (now (state .entry)) (now (names .entry)) sender slotCount (now (state .exit)) (now (names .exit)) ⌝ }
 {
     let mut i: usize = 0;
     while i < slots::SLOTS {
-        release_of(&mut *state, &mut *names, i, sender);
+        release_one(&mut *state, &mut *names, i, sender);
         i += 1;
     }
 }
@@ -550,10 +392,10 @@ pub fn forget(state: &mut [u64], names: &mut [u8], sender: u64) -> Call
     if names.len() != NAME_BYTES {
         return Call::Refused(9);
     }
-    if !memory::in_order(&state[MEMORY..]) {
+    if !memory::in_order(&state[receiver_state::MEMORY..]) {
         return Call::Refused(9);
     }
     release_all(&mut *state, &mut *names, sender);
-    memory::forget(&mut state[MEMORY..], sender);
+    memory::forget(&mut state[receiver_state::MEMORY..], sender);
     Call::Done
 }

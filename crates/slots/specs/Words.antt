@@ -1,28 +1,21 @@
 -- The slots' words, and what the functions find and leave in them. Definitions only.
--- After the two words of the head each slot has a block of nine: sender, sequence, size, count, turn, and four of held fragments.
+-- After the words of the head each slot has a block: sender, sequence, size, count, turn, and the words of held fragments.
 use mathlib.Core.Bool.{Bool, true, false, not, _&&_, _||_}
 use mathlib.Core.List.{List}
-use Prim.Native.Nat.{ℕ, zero, suc, _+_, _-_, _*_, min}
-use lib.ListN.{getD, set}
+use Prim.Native.Nat.{ℕ, zero, suc, _+_, _*_}
+use lib.ListN.{getD}
 use lib.Dec.{eqb, leb, ltb}
 use Rattle.wire.specs.Choice.{pick}
 use Rattle.datagram.specs.Limits.{maxFragments}
-use Rattle.steps.specs.Held.{isHeld}
+use Rattle.steps.specs.Held.{heldWords, isHeld}
 use Rattle.steps.specs.Receive.{inOrder}
+use Rattle.words.specs.declared.Ranked.{Ranked}
 use Rattle.slots.specs.declared.Found.{Found}
 use Rattle.slots.specs.declared.Found.the-variants.{At, Nothing}
 
--- the words before the first slot's
+-- the words before the first slot's: the store's length at opening, and the slot size
 abbrev pub headWords : ℕ
 headWords = 2
-
--- the words of a slot
-abbrev pub blockWords : ℕ
-blockWords = 9
-
--- where the block of slot i begins
-abbrev pub blockAt : ℕ → ℕ
-blockAt i = headWords + blockWords * i
 
 -- which word of a block is which
 abbrev pub senderWord : ℕ
@@ -43,6 +36,18 @@ turnWord = 4
 abbrev pub heldWord : ℕ
 heldWord = 5
 
+-- the words of a slot
+abbrev pub blockWords : ℕ
+blockWords = heldWord + heldWords
+
+-- where the block of slot i begins
+abbrev pub blockAt : ℕ → ℕ
+blockAt i = headWords + blockWords * i
+
+-- where the slots keep their turns: a slot is in use when its count is not 0
+abbrev pub turns : Ranked
+turns = record { first = headWords; stride = blockWords; mark = countWord; rank = turnWord }
+
 -- word j of slot i
 abbrev pub at : List ℕ → ℕ → ℕ → ℕ
 at w i j = getD w (blockAt i + j) 0
@@ -57,11 +62,7 @@ abbrev pub firstBelow : (ℕ → Bool) → ℕ → Found
 firstBelow p zero = Nothing
 firstBelow p (suc n) = orHere (firstBelow p n) (p n) n
 
-abbrev pub orZero : Found → ℕ
-orZero (At i) = i
-orZero Nothing = 0
-
--- slot i is free, or open, or open for that key, or has that turn
+-- slot i is free, or open, or open for that key
 abbrev pub freeIn : List ℕ → ℕ → Bool
 freeIn w i = eqb (at w i countWord) 0
 
@@ -71,24 +72,7 @@ busyIn w i = not (freeIn w i)
 abbrev pub keyIn : List ℕ → ℕ → ℕ → ℕ → Bool
 keyIn w s q i = busyIn w i && (eqb (at w i senderWord) s && eqb (at w i sequenceWord) q)
 
-abbrev pub turnIn : List ℕ → ℕ → ℕ → Bool
-turnIn w t i = eqb (at w i turnWord) t
-
--- the lowest turn of the first n slots
-abbrev pub lowestTurn : List ℕ → ℕ → ℕ
-lowestTurn w zero = at w 0 turnWord
-lowestTurn w (suc n) = min (lowestTurn w n) (at w n turnWord)
-
--- the turn x of a slot with that count, once a slot of turn t is freed
-abbrev pub up : ℕ → ℕ → ℕ → ℕ
-up n x t = pick (not (eqb n 0) && ltb t x) (x - 1) x
-
--- the first n slots with their turns moved up
-unfoldable pub lowered : List ℕ → ℕ → ℕ → List ℕ
-lowered w t zero = w
-lowered w t (suc n) = set (lowered w t n) (blockAt n + turnWord) (up (at (lowered w t n) n countWord) (at (lowered w t n) n turnWord) t)
-
--- an open slot's size is at most that of a slot, and its count at most 256
+-- an open slot's size is at most that of a slot, and its count at most that of fragments
 abbrev pub soundIn : List ℕ → ℕ → ℕ → Bool
 soundIn w room i = freeIn w i || (leb (at w i sizeWord) room && leb (at w i countWord) maxFragments)
 

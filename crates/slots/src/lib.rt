@@ -1,21 +1,21 @@
-// The slots of a receiver's state: eight blocks of nine words after the two of its head. Every public function is total over any slice.
+// The slots of a receiver's state: a block of words for each, after the words of its head. Every public function is total over any slice.
+use words::Ranked;
 ghost use mathlib.Core.Path.{_≡_};
-ghost use Prim.Native.Nat.{_+_, _<_, _^_, min};
+ghost use Prim.Native.Nat.{_+_, _<_, _^_};
 ghost use lib.ListN.{getD, replicate};
 ghost use Rattle.wire.specs.Overlay.{overlay};
 ghost use Rattle.steps.specs.Search.{allBelow, count};
 ghost use Rattle.steps.specs.Held.{isHeld, hold};
 ghost use Rattle.datagram.specs.Limits.{maxName};
 ghost use Rattle.steps.specs.Limits.{slotCount};
-ghost use Rattle.slots.specs.Words.{blockAt, keyIn, freeIn, busyIn, turnIn, firstBelow, orZero, lowestTurn, up, lowered, soundIn, agreesAt, fitsIn};
+ghost use Rattle.words.specs.Ranks.{ranksLowered, lowestRanked};
+ghost use Rattle.slots.specs.Words.{blockWords, blockAt, turns, keyIn, freeIn, busyIn, firstBelow, soundIn, agreesAt, fitsIn};
 
 // How many messages may be open at once.
 pub const SLOTS: usize = 8;
 // The words before the first slot's: the store's length at opening, and the slot size.
 pub const HEAD: usize = 2;
-// The words of a slot: sender, sequence, size, count, turn, and the held fragments, a bit for each.
-pub const BLOCK: usize = 9;
-
+// Which word of a slot is which; from HELD on a bit for each fragment says whether it is held.
 pub const SENDER: usize = 0;
 
 pub const SEQUENCE: usize = 1;
@@ -28,7 +28,11 @@ pub const TURN: usize = 4;
 
 pub const HELD: usize = 5;
 
-pub const HELD_WORDS: usize = 4;
+const WORD_BITS: usize = 64;
+
+pub const HELD_WORDS: usize = datagram::MAX_FRAGMENTS as usize / WORD_BITS;
+// The words of a slot.
+pub const BLOCK: usize = HELD + HELD_WORDS;
 
 pub enum Found {
     At(usize),
@@ -37,7 +41,7 @@ pub enum Found {
 
 // Word j of slot i.
 fn at(state: &[u64], i: usize, j: usize) -> u64
-    requires { ⌜ (i < slotCount) × (j < 9) ⌝ }
+    requires { ⌜ (i < slotCount) × (j < blockWords) ⌝ }
     ensures { λ r. ⌜ r ≡ getD (now (state .entry)) (blockAt i + j) 0 ⌝ }
 {
     words::word(state, HEAD + BLOCK * i + j)
@@ -84,37 +88,23 @@ pub fn lowest_free(state: &[u64]) -> Found
     Found::Nothing
 }
 
-fn least(a: u64, b: u64) -> u64
-    ensures { λ r. ⌜ r ≡ min a b ⌝ }
+// Where the slots keep their turns, which are ranks: 0 for the slot that was opened longest ago.
+fn turns() -> Ranked
+    ensures { λ r. ⌜ r ≡ turns ⌝ }
 {
-    if a < b { a } else { b }
-}
-
-fn lowest_turn(state: &[u64]) -> u64
-    ensures { λ r. ⌜ r ≡ lowestTurn (now (state .entry)) slotCount ⌝ }
-{
-    let mut t = at(state, 0, TURN);
-    let mut i: usize = 1;
-    while i < SLOTS {
-        t = least(t, at(state, i, TURN));
-        i += 1;
+    Ranked {
+        first: HEAD,
+        stride: BLOCK,
+        mark: COUNT,
+        rank: TURN,
     }
-    t
 }
 
 // The lowest of the slots with the lowest turn.
 pub fn oldest(state: &[u64]) -> usize
-    ensures { λ r. ⌜ r ≡ orZero (firstBelow (turnIn (now (state .entry)) (lowestTurn (now (state .entry)) slotCount)) slotCount) ⌝ }
+    ensures { λ r. ⌜ r ≡ lowestRanked (now (state .entry)) turns slotCount ⌝ }
 {
-    let t = lowest_turn(state);
-    let mut i: usize = 0;
-    while i < SLOTS {
-        if at(state, i, TURN) == t {
-            return i;
-        }
-        i += 1;
-    }
-    0
+    words::lowest_ranked(state, turns(), SLOTS)
 }
 
 // How many slots are open.
@@ -132,26 +122,11 @@ pub fn open_count(state: &[u64]) -> u64
     n
 }
 
-fn moved_up(n: u64, x: u64, t: u64) -> u64
-    ensures { λ r. ⌜ r ≡ up n x t ⌝ }
-{
-    if n == 0 {
-        return x;
-    }
-    if t < x { x - 1 } else { x }
-}
-
-// A slot of turn t was freed: each open slot with a turn above it moves up by one.
+// A slot of turn t was freed: each open slot with a turn above it falls by one.
 pub fn lower(state: &mut [u64], t: u64)
-    ensures { λ _. ⌜ now (state .exit) ≡ lowered (now (state .entry)) t slotCount ⌝ }
+    ensures { λ _. ⌜ now (state .exit) ≡ ranksLowered (now (state .entry)) turns t slotCount ⌝ }
 {
-    let mut i: usize = 0;
-    while i < SLOTS {
-        let n = at(&*state, i, COUNT);
-        let x = at(&*state, i, TURN);
-        words::put_word(&mut *state, HEAD + BLOCK * i + TURN, moved_up(n, x, t));
-        i += 1;
-    }
+    words::lower_ranks(state, turns(), SLOTS, t);
 }
 
 fn is_sound(state: &[u64], room: u64, i: usize) -> bool
@@ -167,7 +142,7 @@ fn is_sound(state: &[u64], room: u64, i: usize) -> bool
     at(state, i, COUNT) <= datagram::MAX_FRAGMENTS as u64
 }
 
-// Of every open slot the size is at most that of a slot, and the count at most 256.
+// Of every open slot the size is at most that of a slot, and the count at most that of fragments.
 pub fn all_sound(state: &[u64], room: u64) -> bool
     ensures { λ r. ⌜ r ≡ allBelow slotCount (soundIn (now (state .entry)) room) ⌝ }
 {
@@ -187,8 +162,8 @@ pub fn all_sound(state: &[u64], room: u64) -> bool
 pub fn is_held(held: &[u64], k: usize) -> bool
     ensures { λ r. ⌜ r ≡ isHeld (now (held .entry)) k ⌝ }
 {
-    let w = words::word(held, k / 64);
-    let b = k % 64;
+    let w = words::word(held, k / WORD_BITS);
+    let b = k % WORD_BITS;
     (w >> b) % 2 == 1
 }
 
@@ -196,10 +171,10 @@ pub fn is_held(held: &[u64], k: usize) -> bool
 pub fn hold_fragment(held: &mut [u64], k: usize)
     ensures { λ _. ⌜ now (held .exit) ≡ hold (now (held .entry)) k ⌝ }
 {
-    let w = words::word(&*held, k / 64);
-    let b = k % 64;
+    let w = words::word(&*held, k / WORD_BITS);
+    let b = k % WORD_BITS;
     let bit = 1u64 << b;
-    words::put_word(held, k / 64, w | bit);
+    words::put_word(held, k / WORD_BITS, w | bit);
 }
 
 // Fragments 0 to n - 1 are held.
@@ -237,20 +212,14 @@ fn agree(k: usize, offset: usize, len: usize, j: usize, other: usize, size: usiz
     }
 }
 
-fn wide(x: u32) -> usize
-    ensures { λ r. ⌜ (r ≡ x) × (r < 2 ^ 32) ⌝ }
-{
-    x as usize
-}
-
 // Fragment k, from an offset on as long as that, agrees with every held one below n; the slot's ledger has offset and length of each.
 pub fn fits_all(held: &[u64], ledger: &[u32], n: u32, k: u32, offset: u32, len: u32) -> bool
     ensures { λ r. ⌜ r ≡ allBelow n (fitsIn (now (held .entry)) (now (ledger .entry)) k offset len) ⌝ }
 {
-    let number = wide(k);
-    let start = wide(offset);
-    let size = wide(len);
-    let count = wide(n);
+    let number = words::as_size(k);
+    let start = words::as_size(offset);
+    let size = words::as_size(len);
+    let count = words::as_size(n);
     let mut j: usize = 0;
     while j < count {
         if is_held(held, j) {
@@ -268,10 +237,10 @@ pub fn fits_all(held: &[u64], ledger: &[u32], n: u32, k: u32, offset: u32, len: 
 // ---- names
 
 // A name with zeros after it.
-pub fn zero_filled(name: &[u8]) -> [u8; 63]
+pub fn zero_filled(name: &[u8]) -> [u8; datagram::MAX_NAME]
     ensures { λ r. ⌜ r ≡ overlay (replicate maxName 0) 0 (now (name .entry)) ⌝ }
 {
-    let mut out = [0u8; 63];
+    let mut out = [0u8; datagram::MAX_NAME];
     wire::put_bytes(&mut out, 0, name);
     out
 }

@@ -90,12 +90,14 @@ lower t slot = record {
 unfoldable pub release : List Slot → ℕ → List Slot
 release slots s = map (lower (slotAt slots s .turn)) (set slots s noSlot)
 
+-- slot a is freed where it is open for that sender
+abbrev pub releaseOne : ℕ → ℕ → List Slot → List Slot
+releaseOne from a slots = pick (busy (slotAt slots a) && eqb (slotAt slots a .key .sender) from) (release slots a) slots
+
 -- the slots below a of that sender are freed, the lowest first
 unfoldable pub releaseOf : ℕ → ℕ → List Slot → List Slot
 releaseOf from zero slots = slots
-releaseOf from (suc a) slots =
-    let left : List Slot = releaseOf from a slots in
-    pick (busy (slotAt left a) && eqb (slotAt left a .key .sender) from) (release left a) left
+releaseOf from (suc a) slots = releaseOne from a (releaseOf from a slots)
 
 -- ---- a slot is taken
 

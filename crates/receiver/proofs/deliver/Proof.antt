@@ -1,11 +1,12 @@
 -- `receiver::deliver` meets its contract. Assumes nothing.
-use mathlib.Core.Path.{_∙_, ap}
+use mathlib.Core.Path.{_≡_, refl, sym, _∙_, ap, subst}
+use native.Mathlib.Omega.{arith}
 use lib.ListN.{replicate}
-use borrow.Author.Needs.{needs}
 use Rattle.wire.specs.Overlay.{overlay}
 use Rattle.datagram.specs.Limits.{maxName}
-use Rattle.steps.specs.Slots.{release}
+use Rattle.receiver_state.proofs.Moves.{place-small}
 use Rattle.receiver.proofs.Ends.{delivered}
+use borrow.Author.Needs.{needs}
 use Rattle.receiver.proofs.deliver.Statement.{statement}
 use Rattle.receiver.proofs.deliver.Tie as tie
 
@@ -36,8 +37,12 @@ word-requires-3 c κs = search needs
 word-requires-4 : tie.Need-word-requires-4
 word-requires-4 c κs = search needs
 
-place-requires : tie.Need-place-requires
-place-requires c κs = search needs
+mul-at : tie.Need-mul-at
+mul-at c =
+    let word4 = c .word4 in
+    let args = c .before .before .before .before .before .before .before .before .before .before .args in
+    let pre = c .before .before .before .before .before .before .before .before .before .before .pre in
+    omega (arith, word4 .ensures, place-small (args .s) (word4 .result) (pre .0) (rw (word4 .ensures) (pre .1 .room)))
 
 mul-part : tie.Need-mul-part
 mul-part c = search needs
@@ -48,8 +53,8 @@ part-requires c κs = search needs
 zero-filled-requires : tie.Need-zero-filled-requires
 zero-filled-requires c κs = search needs
 
-recall-requires : tie.Need-recall-requires
-recall-requires c κs = search needs
+remember-key-requires : tie.Need-remember-key-requires
+remember-key-requires c κs = search needs
 
 release-requires : tie.Need-release-requires
 release-requires c κs = search needs
@@ -62,29 +67,19 @@ same-length-2 c = search needs
 
 returns : tie.Need-returns
 returns c =
-    let a = c .before .before .before .before .before .before .before .before .before .before .before .before .before .before .before .before .before .before .before .before .before .before .before .before .before .args in
-    delivered (a .state .now) (a .names .now) (c .before .before .before .before .before .before .before .before .before .before .before .before .before .before .before .before .before .before .before .before .before .before .before .before .before .pre .1) (a .s) (c .before .before .before .before .before .before .before .before .before .before .before .before .before .before .before .before .before .before .before .before .before .before .before .before .before .pre .0) (c .before .before .before .before .before .before .before .before .before .before .before .before .before .before .before .before .before .before .before .before .before .word .result) (c .before .before .before .before .before .before .before .before .before .before .before .before .before .before .before .before .before .before .before .word2 .result) (c .before .before .before .before .before .before .before .before .before .before .before .before .before .before .before .before .before .word3 .result) (c .before .before .before .before .before .before .before .before .before .before .before .before .before .before .before .word4 .result) (c .before .before .before .before .before .before .before .before .before .before .before .before .before .before .place .result) (c .before .before .before .before .before .before .before .before .before .before .before .zero-filled .result) _ _ _ (a .gone)
-    (c .before .before .before .before .before .before .before .before .before .before .before .before .before .before .before .before .before .before .before .before .before .word .ensures) (c .before .before .before .before .before .before .before .before .before .before .before .before .before .before .before .before .before .before .before .word2 .ensures) (c .before .before .before .before .before .before .before .before .before .before .before .before .before .before .before .before .before .word3 .ensures) (c .before .before .before .before .before .before .before .before .before .before .before .before .before .before .before .word4 .ensures) (c .before .before .before .before .before .before .before .before .before .before .before .before .before .before .place .ensures) (c .before .before .before .before .before .before .before .before .before .before .before .zero-filled .ensures ∙ ap (λ x. overlay (replicate maxName 0) 0 x) (c .before .before .before .before .before .before .before .before .before .before .before .before .part .ensures)) (c .before .before .before .before .before .before .before .before .before .recall .ensures) (c .before .before .before .before .release .ensures)
+    let zero-filled = c .before .before .before .before .before .before .before .before .before .before .before .zero-filled in
+    let part = c .before .before .before .before .before .before .before .before .before .before .before .before .part in
+    let args = c .before .before .before .before .before .before .before .before .before .before .before .before .before .before .before .before .before .before .before .before .before .before .before .before .args in
+    let pre = c .before .before .before .before .before .before .before .before .before .before .before .before .before .before .before .before .before .before .before .before .before .before .before .before .pre in
+    let word = c .before .before .before .before .before .before .before .before .before .before .before .before .before .before .before .before .before .before .before .before .word in
+    let word2 = c .before .before .before .before .before .before .before .before .before .before .before .before .before .before .before .before .before .before .word2 in
+    let word3 = c .before .before .before .before .before .before .before .before .before .before .before .before .before .before .before .before .word3 in
+    let word4 = c .before .before .before .before .before .before .before .before .before .before .before .before .before .before .word4 in
+    let remember-key = c .before .before .before .before .before .before .before .before .before .remember-key in
+    let release = c .before .before .before .before .release in
+    let named = zero-filled .ensures ∙ ap (λ x. overlay (replicate maxName 0) 0 x) (part .ensures) in
+    delivered (args .state .now) (args .names .now) (pre .1 .shape) (args .s) (pre .0) (word .result) (word2 .result) (word3 .result) (word4 .result) _ (zero-filled .result) _ _ _ (args .gone)
+    (word .ensures) (word2 .ensures) (word3 .ensures) (word4 .ensures) refl named (remember-key .ensures) (release .ensures)
 
 pub deliver-spec : {M : Type 1} → statement M
-deliver-spec =
-    tie.close
-    (tie.spec
-    mul-b
-    add-b
-    add-word
-    word-requires
-    add-word-2
-    word-requires-2
-    add-word-3
-    word-requires-3
-    word-requires-4
-    place-requires
-    mul-part
-    part-requires
-    zero-filled-requires
-    recall-requires
-    release-requires
-    same-length
-    same-length-2
-    returns)
+deliver-spec = tie.close (tie.spec mul-b add-b add-word word-requires add-word-2 word-requires-2 add-word-3 word-requires-3 word-requires-4 mul-at mul-part part-requires zero-filled-requires remember-key-requires release-requires same-length same-length-2 returns)

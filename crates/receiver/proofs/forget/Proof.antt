@@ -1,16 +1,23 @@
 -- `receiver::forget` meets its contract. Assumes nothing.
-use mathlib.Core.Path.{refl, sym, _∙_}
+use mathlib.Core.Path.{_≡_, refl, sym, _∙_, ap, subst}
 use borrow.Author.Tests.{not-true, not-false}
+use Rattle.receiver_state.proofs.Remembers.{in-order-is, drops}
+use Rattle.receiver.proofs.Others.{words-forgets, names-forgets, memory-forgets, known-after, forgets}
 use borrow.Author.Needs.{needs}
-use Rattle.receiver.proofs.Others.{words-forgets, names-forgets, in-order-is, memory-forgets, forgets}
 use Rattle.receiver.proofs.forget.Statement.{statement}
 use Rattle.receiver.proofs.forget.Tie as tie
 
 returns : tie.Need-returns
-returns c = words-forgets (c .before .before .before .args .state .now) (c .before .before .before .args .names .now) (c .before .before .before .args .sender) (c .if1 .taken)
+returns c =
+    let args = c .before .before .before .args in
+    let if1 = c .if1 in
+    words-forgets (args .state .now) (args .names .now) (args .sender) (if1 .taken)
 
 returns-2 : tie.Need-returns-2
-returns-2 c = names-forgets (c .before .before .before .before .args .state .now) (c .before .before .before .before .args .names .now) (c .before .before .before .before .args .sender) (c .if2 .taken)
+returns-2 c =
+    let args = c .before .before .before .before .args in
+    let if2 = c .if2 in
+    names-forgets (args .state .now) (args .names .now) (args .sender) (if2 .taken)
 
 sub-in-order : tie.Need-sub-in-order
 sub-in-order c = search needs
@@ -29,12 +36,19 @@ same-length c = search needs
 
 returns-3 : tie.Need-returns-3
 returns-3 c =
-    let a = c .before .before .before .before .before .before .before .before .args in
-    let e = c .before .before .before .before .before .if1 .left in
-    memory-forgets (a .state .now) (a .names .now) (a .sender) e (c .before .before .before .before .if2 .left) (sym (in-order-is (a .state .now) e _ (c .before .in-order .ensures)) ∙ not-true _ (c .if3 .taken))
+    let args = c .before .before .before .before .before .before .before .before .args in
+    let if1 = c .before .before .before .before .before .if1 in
+    let in-order = c .before .in-order in
+    let if2 = c .before .before .before .before .if2 in
+    let if3 = c .if3 in
+    let known = sym (in-order-is (args .state .now) (if1 .left) _ (in-order .ensures)) in
+    memory-forgets (args .state .now) (args .names .now) (args .sender) (if1 .left) (if2 .left) (known ∙ not-true _ (if3 .taken))
 
 release-all-requires : tie.Need-release-all-requires
-release-all-requires c κs = record { words = c .before .before .before .before .before .before .before .if1 .left; bytes = c .before .before .before .before .before .before .if2 .left }
+release-all-requires c κs =
+    let if1 = c .before .before .before .before .before .before .before .if1 in
+    let if2 = c .before .before .before .before .before .before .if2 in
+    record { words = if1 .left; bytes = if2 .left }
 
 sub-forget : tie.Need-sub-forget
 sub-forget c = search needs
@@ -56,28 +70,19 @@ same-length-3 c = search needs
 
 returns-4 : tie.Need-returns-4
 returns-4 c =
-    let a = c .before .before .before .before .before .before .before .before .before .before .before .before .before .before .before .before .before .before .before .args in
-    let e = c .before .before .before .before .before .before .before .before .before .before .before .before .before .before .before .before .if1 .left in
-    let k = sym (in-order-is (a .state .now) e _ (c .before .before .before .before .before .before .before .before .before .before .before .before .in-order .ensures)) ∙ not-false _ (c .before .before .before .before .before .before .before .before .before .before .before .if3 .left) in
-    forgets (a .state .now) (a .names .now) e (c .before .before .before .before .before .before .before .before .before .before .before .before .before .before .before .if2 .left) (a .sender) _ _ (c .before .before .forget .last .0) _ k (c .before .before .before .before .before .before .before .before .release-all .ensures) (c .before .before .forget .ensures) refl
+    let args = c .before .before .before .before .before .before .before .before .before .before .before .before .before .before .before .before .before .before .before .args in
+    let if1 = c .before .before .before .before .before .before .before .before .before .before .before .before .before .before .before .before .if1 in
+    let in-order = c .before .before .before .before .before .before .before .before .before .before .before .before .in-order in
+    let if3 = c .before .before .before .before .before .before .before .before .before .before .before .if3 in
+    let release-all = c .before .before .before .before .before .before .before .before .release-all in
+    let forget = c .before .before .forget in
+    let if2 = c .before .before .before .before .before .before .before .before .before .before .before .before .before .before .before .if2 in
+    let known = sym (in-order-is (args .state .now) (if1 .left) _ (in-order .ensures)) in
+    let ok = known ∙ not-false _ (if3 .left) in
+    let free = release-all .ensures in
+    let still = known-after (args .state .now) (args .names .now) _ _ (args .sender) ok free in
+    let D = drops _ (free .shape .words) (args .sender) (forget .last .0) _ still (forget .ensures) refl in
+    forgets (args .state .now) (args .names .now) (if1 .left) (if2 .left) (args .sender) _ _ _ ok free D
 
 pub forget-spec : {M : Type 1} → statement M
-forget-spec =
-    tie.close
-    (tie.spec
-    returns
-    returns-2
-    sub-in-order
-    part-in-order-start
-    part-in-order-end
-    in-order-requires
-    same-length
-    returns-3
-    release-all-requires
-    sub-forget
-    part-forget-start
-    part-forget-end
-    forget-requires
-    same-length-2
-    same-length-3
-    returns-4)
+forget-spec = tie.close (tie.spec returns returns-2 sub-in-order part-in-order-start part-in-order-end in-order-requires same-length returns-3 release-all-requires sub-forget part-forget-start part-forget-end forget-requires same-length-2 same-length-3 returns-4)

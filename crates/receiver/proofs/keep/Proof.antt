@@ -1,7 +1,7 @@
 -- `receiver::keep` meets its contract. Assumes nothing.
-use mathlib.Core.Path.{refl}
+use mathlib.Core.Path.{_≡_, refl, sym, _∙_, ap, subst}
+use Rattle.receiver_state.proofs.Moves.{kept}
 use borrow.Author.Needs.{needs}
-use Rattle.receiver.proofs.Moves.{kept}
 use Rattle.receiver.proofs.keep.Statement.{statement}
 use Rattle.receiver.proofs.keep.Tie as tie
 
@@ -29,8 +29,8 @@ part-hold-fragment-start c = search needs
 part-hold-fragment-end : tie.Need-part-hold-fragment-end
 part-hold-fragment-end c = search needs
 
-size-of-requires : tie.Need-size-of-requires
-size-of-requires c κs = search needs
+as-size-requires : tie.Need-as-size-requires
+as-size-requires c κs = search needs
 
 hold-fragment-requires : tie.Need-hold-fragment-requires
 hold-fragment-requires c κs = search needs
@@ -45,23 +45,14 @@ same-length-2 : tie.Need-same-length-2
 same-length-2 c = search needs
 
 returns : tie.Need-returns
-returns c = kept (c .before .before .before .before .before .before .before .before .before .before .before .before .args .state .now) (c .before .before .before .before .before .before .before .before .before .before .before .before .args .names .now) (c .before .before .before .before .before .before .before .before .before .before .before .before .pre .1) (c .before .before .before .before .before .before .before .before .before .before .before .before .args .s) (c .before .before .before .before .before .before .before .before .before .before .before .before .pre .0) (c .before .before .before .before .before .before .before .before .before .before .before .before .args .d .now) (c .before .before .before .before .before .before .before .before .before .before .before .before .args .h) (c .before .before .before .before .before .before .before .before .before .before .before .before .pre .2 .short) (c .before .before .before .before .before .before .hold-fragment .last .0) _ _ (c .before .before .before .before .before .before .before .size-of .result) _ _ refl refl (c .before .before .before .before .before .before .before .size-of .ensures .0) (c .before .before .before .before .before .before .hold-fragment .ensures) refl (c .before .before .put-name .ensures)
+returns c =
+    let args = c .before .before .before .before .before .before .before .before .before .before .before .before .args in
+    let pre = c .before .before .before .before .before .before .before .before .before .before .before .before .pre in
+    let hold-fragment = c .before .before .before .before .before .before .hold-fragment in
+    let as-size = c .before .before .before .before .before .before .before .as-size in
+    let put-name = c .before .before .put-name in
+    kept (args .state .now) (args .names .now) (pre .1) (args .s) (pre .0) (args .d .now) (args .h) (pre .2 .short) (hold-fragment .last .0) _ _ (as-size .result) _ _ refl refl
+    (as-size .ensures .0) (hold-fragment .ensures) refl (put-name .ensures)
 
 pub keep-spec : {M : Type 1} → statement M
-keep-spec =
-    tie.close
-    (tie.spec
-    mul-a
-    add-a
-    add-a-2
-    add-e
-    mul-hold-fragment
-    sub-hold-fragment
-    part-hold-fragment-start
-    part-hold-fragment-end
-    size-of-requires
-    hold-fragment-requires
-    put-name-requires
-    same-length
-    same-length-2
-    returns)
+keep-spec = tie.close (tie.spec mul-a add-a add-a-2 add-e mul-hold-fragment sub-hold-fragment part-hold-fragment-start part-hold-fragment-end as-size-requires hold-fragment-requires put-name-requires same-length same-length-2 returns)

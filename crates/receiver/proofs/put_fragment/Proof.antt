@@ -1,29 +1,44 @@
 -- `receiver::put_fragment` meets its contract. Assumes nothing.
-use mathlib.Core.Path.{_∙_}
+use mathlib.Core.Path.{_≡_, refl, sym, _∙_, ap, subst}
+use Prim.Native.Nat.{_+_, _*_}
+use native.Mathlib.Omega.{arith}
+use Rattle.wire.specs.Overlay.{overlay}
+use Rattle.receiver_state.proofs.Moves.{place-small}
+use Rattle.receiver.proofs.Ends.{ledger-written}
 use borrow.Author.Needs.{needs}
 use Rattle.receiver.proofs.put_fragment.Statement.{statement}
 use Rattle.receiver.proofs.put_fragment.Tie as tie
 
-size-of-requires : tie.Need-size-of-requires
-size-of-requires c κs = search needs
+as-size-requires : tie.Need-as-size-requires
+as-size-requires c κs = search needs
 
-size-of-requires-2 : tie.Need-size-of-requires-2
-size-of-requires-2 c κs = search needs
+mul-at : tie.Need-mul-at
+mul-at c =
+    let args = c .before .before .before .before .args in
+    let pre = c .before .before .before .before .pre in
+    omega (arith, place-small (args .s) (args .room) (pre .0) (pre .1))
 
-place-requires : tie.Need-place-requires
-place-requires c κs = search needs
+as-size-requires-2 : tie.Need-as-size-requires-2
+as-size-requires-2 c κs = search needs
 
-mul-e : tie.Need-mul-e
-mul-e c = search needs
+add-at : tie.Need-add-at
+add-at c =
+    let as-size2 = c .as-size2 in
+    let args = c .before .before .before .before .before .args in
+    let pre = c .before .before .before .before .before .pre in
+    omega (arith, as-size2 .ensures .1, place-small (args .s) (args .room) (pre .0) (pre .1))
 
-add-e : tie.Need-add-e
-add-e c = search needs
+mul-row : tie.Need-mul-row
+mul-row c = search needs
 
-mul-e-2 : tie.Need-mul-e-2
-mul-e-2 c = search needs
+mul-row-2 : tie.Need-mul-row-2
+mul-row-2 c = search needs
 
-part-requires : tie.Need-part-requires
-part-requires c κs = search needs
+add-row : tie.Need-add-row
+add-row c = search needs
+
+part-at-requires : tie.Need-part-at-requires
+part-at-requires c κs = search needs
 
 put-bytes-requires : tie.Need-put-bytes-requires
 put-bytes-requires c κs = search needs
@@ -47,27 +62,19 @@ same-length-2 : tie.Need-same-length-2
 same-length-2 c = search needs
 
 returns : tie.Need-returns
-returns c = (
-  c .before .before .before .before .before .before .before .before .before .before .before .put-bytes .ensures ∙ (rw (c .before .before .before .before .before .before .before .before .before .before .before .before .before .before .before .place .ensures, c .before .before .before .before .before .before .before .before .before .before .before .before .before .before .before .before .size-of2 .ensures .0, c .before .before .before .before .before .before .before .before .before .before .before .before .part .ensures)),
-  c .before .before .put-entry2 .ensures ∙ (rw (c .before .before .before .before .before .before .before .put-entry .ensures, c .before .before .before .before .before .before .before .before .before .before .before .before .before .before .before .before .before .size-of .ensures .0, c .before .before .before .before .before .before .before .before .before .before .before .before .before .before .before .before .before .before .before .before .before .pre .2 .long)),
-)
+returns c =
+    let put-bytes = c .before .before .before .before .before .before .before .before .before .before .before .put-bytes in
+    let args = c .before .before .before .before .before .before .before .before .before .before .before .before .before .before .before .before .before .before .before .before .args in
+    let as-size2 = c .before .before .before .before .before .before .before .before .before .before .before .before .before .before .before .as-size2 in
+    let part-at = c .before .before .before .before .before .before .before .before .before .before .before .before .part-at in
+    let as-size = c .before .before .before .before .before .before .before .before .before .before .before .before .before .before .before .before .as-size in
+    let pre = c .before .before .before .before .before .before .before .before .before .before .before .before .before .before .before .before .before .before .before .before .pre in
+    let put-entry = c .before .before .before .before .before .before .before .put-entry in
+    let put-entry2 = c .before .before .put-entry2 in
+    let bytes = put-bytes .ensures ∙ (λ i. overlay (args .store .now) (args .s * args .room + as-size2 .ensures .0 i) (part-at .ensures i)) in
+    let numbers = ledger-written (args .ledger .now) _ _ (args .s) (as-size .result) (args .h .number) (args .h .offset) (args .h .payload .len) _ (as-size .ensures .0) (sym (pre .2 .long))
+    (put-entry .ensures) (put-entry2 .ensures) in
+    (bytes, numbers)
 
 pub put-fragment-spec : {M : Type 1} → statement M
-put-fragment-spec =
-    tie.close
-    (tie.spec
-    size-of-requires
-    size-of-requires-2
-    place-requires
-    mul-e
-    add-e
-    mul-e-2
-    part-requires
-    put-bytes-requires
-    put-entry-requires
-    add-put-entry
-    cast-put-entry
-    put-entry-requires-2
-    same-length
-    same-length-2
-    returns)
+put-fragment-spec = tie.close (tie.spec as-size-requires mul-at as-size-requires-2 add-at mul-row mul-row-2 add-row part-at-requires put-bytes-requires put-entry-requires add-put-entry cast-put-entry put-entry-requires-2 same-length same-length-2 returns)

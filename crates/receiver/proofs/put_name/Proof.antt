@@ -1,18 +1,18 @@
 -- `receiver::put_name` meets its contract. Assumes nothing.
-use mathlib.Core.Path.{_≡_, _∙_}
+use mathlib.Core.Path.{_≡_, refl, sym, _∙_, ap, subst}
 use borrow.Author.Tests.{eq-eqb, ne-eqb}
+use Rattle.receiver_state.proofs.Moves.{name-filled}
 use borrow.Author.Needs.{needs}
-use Rattle.datagram.specs.Read.{partOf}
-use Rattle.steps.specs.Slots.{padded}
-use Rattle.receiver.proofs.Moves.{padded-is}
 use Rattle.receiver.proofs.put_name.Statement.{statement}
 use Rattle.receiver.proofs.put_name.Tie as tie
 
 returns : tie.Need-returns
-returns c = rw (ne-eqb _ _ (c .if1 .taken))
+returns c =
+    let if1 = c .if1 in
+    rw (ne-eqb _ _ (if1 .taken))
 
-part-requires : tie.Need-part-requires
-part-requires c κs = search needs
+part-at-requires : tie.Need-part-at-requires
+part-at-requires c κs = search needs
 
 zero-filled-requires : tie.Need-zero-filled-requires
 zero-filled-requires c κs = search needs
@@ -31,18 +31,14 @@ same-length c = search needs
 
 returns-2 : tie.Need-returns-2
 returns-2 c =
-    let e : c .before .before .before .before .before .zero-filled .result ≡ padded (partOf (c .before .before .before .before .before .before .before .before .before .before .before .before .args .d .now) (c .before .before .before .before .before .before .before .before .before .before .before .before .args .h .name)) = c .before .before .before .before .before .zero-filled .ensures ∙ (rw (c .before .before .before .before .before .before .part .ensures) (padded-is (partOf (c .before .before .before .before .before .before .before .before .before .before .before .before .args .d .now) (c .before .before .before .before .before .before .before .before .before .before .before .before .args .h .name)) (c .before .before .before .before .before .before .before .before .before .before .before .before .pre .1 .short))) in
-    rw (eq-eqb _ _ (c .before .before .before .before .before .before .before .before .if1 .left)) (c .before .before .put-bytes .ensures ∙ rw e)
+    let args = c .before .before .before .before .before .before .before .before .before .before .before .args in
+    let pre = c .before .before .before .before .before .before .before .before .before .before .before .pre in
+    let part-at = c .before .before .before .before .before .before .part-at in
+    let zero-filled = c .before .before .before .before .before .zero-filled in
+    let if1 = c .before .before .before .before .before .before .before .if1 in
+    let put-bytes = c .before .before .put-bytes in
+    let e = name-filled (args .d .now) (args .h .name) (pre .1 .short) _ _ (part-at .ensures) (zero-filled .ensures) in
+    rw (eq-eqb _ _ (if1 .left)) (put-bytes .ensures ∙ rw e)
 
 pub put-name-spec : {M : Type 1} → statement M
-put-name-spec =
-    tie.close
-    (tie.spec
-    returns
-    part-requires
-    zero-filled-requires
-    mul-put-bytes
-    slice-aggregate-put-bytes
-    put-bytes-requires
-    same-length
-    returns-2)
+put-name-spec = tie.close (tie.spec returns part-at-requires zero-filled-requires mul-put-bytes slice-aggregate-put-bytes put-bytes-requires same-length returns-2)

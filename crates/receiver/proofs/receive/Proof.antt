@@ -1,70 +1,39 @@
 -- `receiver::receive` meets its contract. Assumes nothing.
-use borrow.Author.Tests.{not-true, not-false}
+use mathlib.Core.Path.{_≡_, refl, sym, _∙_, ap, subst}
+use Rattle.deciding.specs.declared.Verdict.{Verdict}
+use Rattle.deciding.specs.Inside.{Possible}
+use Rattle.deciding.proofs.Decides.{possible}
+use Rattle.receiver.specs.declared.Settled.{Settled}
+use Rattle.receiver.specs.Inside.{Storable}
+use Rattle.receiver.proofs.Settling.{receives}
 use borrow.Author.Needs.{needs}
-use Rattle.steps.specs.declared.Answer.the-variants.{Refused}
-use Rattle.receiver.proofs.Gates.{stay-receives, unready, ready-shape, ready-ledger, ready-room, ready-known, passed-receives, told, good-receives}
 use Rattle.receiver.proofs.receive.Statement.{statement}
 use Rattle.receiver.proofs.receive.Tie as tie
-
-is-ready-requires : tie.Need-is-ready-requires
-is-ready-requires c κs = search needs
-
-stay-requires : tie.Need-stay-requires
-stay-requires c κs = search needs
-
-same-length : tie.Need-same-length
-same-length c = search needs
-
-returns : tie.Need-returns
-returns c =
-    let a = c .before .before .before .before .before .before .before .before .before .args in
-    stay-receives (a .state .now) (a .names .now) (a .store .now) (a .ledger .now) (a .sender) (a .d .now) (Refused 9) _ (unready (a .state .now) (a .names .now) (a .store .now) (a .ledger .now) (a .sender) (a .d .now) _ (c .before .before .is-ready .ensures) (not-true _ (c .before .if1 .taken))) (c .stay .ensures)
 
 word-requires : tie.Need-word-requires
 word-requires c κs = search needs
 
-read-datagram-requires : tie.Need-read-datagram-requires
-read-datagram-requires c κs = search needs
+decide-requires : tie.Need-decide-requires
+decide-requires c κs = search needs
 
-enum-known-read : tie.Need-enum-known-read
-enum-known-read c = search needs
+settle-requires : tie.Need-settle-requires
+settle-requires c κs =
+    let args = c .before .before .before .before .before .before .before .before .before .before .before .before .before .before .args in
+    let decide = c .before .before .decide in
+    subst (λ (v : Verdict). Possible (args .state .now) (args .names .now) (args .d .now) v) (sym (decide .ensures)) (possible (args .state .now) (args .names .now) (args .store .now) (args .ledger .now) (args .sender) (args .d .now))
 
-enum-told : tie.Need-enum-told
-enum-told c = search needs
+store-in-requires : tie.Need-store-in-requires
+store-in-requires c κs =
+    let args = c .before .before .before .before .before .before .before .before .before .before .before .before .before .before .before .before .before .before .before .before .before .before .args in
+    let settle = c .before .before .before .before .before .before .before .settle in
+    let word = c .before .before .before .before .before .before .before .before .before .before .before .before .before .before .before .word in
+    subst (λ C. Storable C (args .d .now) (settle .result .stored)) (sym (word .ensures)) (settle .ensures .storable)
 
-passed-on-requires : tie.Need-passed-on-requires
-passed-on-requires c κs = search needs
-
-stay-requires-2 : tie.Need-stay-requires-2
-stay-requires-2 c κs = search needs
+same-length : tie.Need-same-length
+same-length c = search needs
 
 same-length-2 : tie.Need-same-length-2
 same-length-2 c = search needs
-
-returns-2 : tie.Need-returns-2
-returns-2 c =
-    let a = c .before .before .before .before .before .before .before .before .before .before .before .before .before .before .before .args in
-    passed-receives (a .state .now) (a .names .now) (a .store .now) (a .ledger .now) (a .sender) (a .d .now) _ (c .before .before .before .before .before .before .before .before .is-ready .ensures) (not-false _ (c .before .before .before .before .before .before .before .if1 .left)) (c .before .before .before .before .before .word .result) (c .before .before .before .before .before .word .ensures) _ (c .before .before .before .before .read-datagram .ensures) _ _ _ (c .before .before .enum-told .given .1) (c .before .passed-on .ensures) (c .stay2 .ensures)
-
-decide-requires : tie.Need-decide-requires
-decide-requires c κs =
-    let a = c .before .before .before .before .before .before .before .before .before .before .before .before .before .before .before .before .before .before .args in (
-      ready-shape (a .state .now) (a .names .now) (a .store .now) (a .ledger .now) (a .sender) (a .d .now) _ (c .before .before .before .before .before .before .before .before .before .before .before .is-ready .ensures) (not-false _ (c .before .before .before .before .before .before .before .before .before .before .if1 .left)),
-      ready-known (a .state .now) (a .names .now) (a .store .now) (a .ledger .now) (a .sender) (a .d .now) _ (c .before .before .before .before .before .before .before .before .before .before .before .is-ready .ensures) (not-false _ (c .before .before .before .before .before .before .before .before .before .before .if1 .left)),
-      ready-ledger (a .state .now) (a .names .now) (a .store .now) (a .ledger .now) (a .sender) (a .d .now) _ (c .before .before .before .before .before .before .before .before .before .before .before .is-ready .ensures) (not-false _ (c .before .before .before .before .before .before .before .before .before .before .if1 .left)),
-      ready-room (a .state .now) (a .names .now) (a .store .now) (a .ledger .now) (a .sender) (a .d .now) _ (c .before .before .before .before .before .before .before .before .before .before .before .is-ready .ensures) (not-false _ (c .before .before .before .before .before .before .before .before .before .before .if1 .left)),
-      told (a .state .now) (a .names .now) (a .store .now) (a .ledger .now) (a .sender) (a .d .now) _ (c .before .before .before .before .before .before .before .before .before .before .before .is-ready .ensures) (not-false _ (c .before .before .before .before .before .before .before .before .before .before .if1 .left)) (c .before .before .before .before .before .before .before .before .word .result) (c .before .before .before .before .before .before .before .before .word .ensures) _ (c .before .before .before .before .before .before .before .read-datagram .ensures) _ (c .before .before .before .before .before .read .given .1),
-    )
-
-done-requires : tie.Need-done-requires
-done-requires c κs =
-    let a = c .before .before .before .before .before .before .before .before .before .before .before .before .before .before .before .before .before .before .before .before .before .before .before .args in (
-      ready-shape (a .state .now) (a .names .now) (a .store .now) (a .ledger .now) (a .sender) (a .d .now) _ (c .before .before .before .before .before .before .before .before .before .before .before .before .before .before .before .before .is-ready .ensures) (not-false _ (c .before .before .before .before .before .before .before .before .before .before .before .before .before .before .before .if1 .left)),
-      ready-known (a .state .now) (a .names .now) (a .store .now) (a .ledger .now) (a .sender) (a .d .now) _ (c .before .before .before .before .before .before .before .before .before .before .before .before .before .before .before .before .is-ready .ensures) (not-false _ (c .before .before .before .before .before .before .before .before .before .before .before .before .before .before .before .if1 .left)),
-      ready-room (a .state .now) (a .names .now) (a .store .now) (a .ledger .now) (a .sender) (a .d .now) _ (c .before .before .before .before .before .before .before .before .before .before .before .before .before .before .before .before .is-ready .ensures) (not-false _ (c .before .before .before .before .before .before .before .before .before .before .before .before .before .before .before .if1 .left)),
-      told (a .state .now) (a .names .now) (a .store .now) (a .ledger .now) (a .sender) (a .d .now) _ (c .before .before .before .before .before .before .before .before .before .before .before .before .before .before .before .before .is-ready .ensures) (not-false _ (c .before .before .before .before .before .before .before .before .before .before .before .before .before .before .before .if1 .left)) (c .before .before .before .before .before .before .before .before .before .before .before .before .before .word .result) (c .before .before .before .before .before .before .before .before .before .before .before .before .before .word .ensures) _ (c .before .before .before .before .before .before .before .before .before .before .before .before .read-datagram .ensures) _ (c .before .before .before .before .before .before .before .before .before .before .read .given .1),
-      c .before .before .before .before .decide .ensures .1,
-    )
 
 same-length-3 : tie.Need-same-length-3
 same-length-3 c = search needs
@@ -72,37 +41,15 @@ same-length-3 c = search needs
 same-length-4 : tie.Need-same-length-4
 same-length-4 c = search needs
 
-same-length-5 : tie.Need-same-length-5
-same-length-5 c = search needs
-
-same-length-6 : tie.Need-same-length-6
-same-length-6 c = search needs
-
-returns-3 : tie.Need-returns-3
-returns-3 c =
-    let a = c .before .before .before .before .before .before .before .before .before .before .before .before .before .before .before .before .before .before .before .before .before .before .before .before .before .before .before .before .before .before .before .before .args in
-    good-receives (a .state .now) (a .names .now) (a .store .now) (a .ledger .now) (a .sender) (a .d .now) _ (c .before .before .before .before .before .before .before .before .before .before .before .before .before .before .before .before .before .before .before .before .before .before .before .before .before .is-ready .ensures) (not-false _ (c .before .before .before .before .before .before .before .before .before .before .before .before .before .before .before .before .before .before .before .before .before .before .before .before .if1 .left)) (c .before .before .before .before .before .before .before .before .before .before .before .before .before .before .before .before .before .before .before .before .before .before .word .result) (c .before .before .before .before .before .before .before .before .before .before .before .before .before .before .before .before .before .before .before .before .before .before .word .ensures) _ (c .before .before .before .before .before .before .before .before .before .before .before .before .before .before .before .before .before .before .before .before .before .read-datagram .ensures) _ (c .before .before .before .before .before .before .before .before .before .before .before .before .before .before .before .before .before .before .before .read .given .1) (c .before .before .before .before .before .before .before .before .before .before .before .before .before .decide .result) _ _ _ _ _ (c .before .before .before .before .before .before .before .before .before .before .before .before .before .decide .ensures .0) (c .before .before .before .before .before .before .before .before .done .ensures) (search needs) (search needs)
+returns : tie.Need-returns
+returns c =
+    let args = c .before .before .before .before .before .before .before .before .before .before .before .before .before .before .before .before .before .before .before .before .before .before .before .before .before .before .before .args in
+    let word = c .before .before .before .before .before .before .before .before .before .before .before .before .before .before .before .before .before .before .before .before .word in
+    let decide = c .before .before .before .before .before .before .before .before .before .before .before .before .before .before .before .decide in
+    let settle = c .before .before .before .before .before .before .before .before .before .before .before .before .settle in
+    let store-in = c .before .before .before .before .store-in in
+    receives (args .state .now) (args .names .now) (args .store .now) (args .ledger .now) (args .sender) (args .d .now) (word .result) (decide .result) (settle .result) _ _ _ _ (word .ensures) (decide .ensures) (settle .ensures) (store-in .ensures .0) (store-in .ensures .1)
+    (search needs) (search needs)
 
 pub receive-spec : {M : Type 1} → statement M
-receive-spec =
-    tie.close
-    (tie.spec
-    is-ready-requires
-    stay-requires
-    same-length
-    returns
-    word-requires
-    read-datagram-requires
-    enum-known-read
-    enum-told
-    passed-on-requires
-    stay-requires-2
-    same-length-2
-    returns-2
-    decide-requires
-    done-requires
-    same-length-3
-    same-length-4
-    same-length-5
-    same-length-6
-    returns-3)
+receive-spec = tie.close (tie.spec word-requires decide-requires settle-requires store-in-requires same-length same-length-2 same-length-3 same-length-4 returns)

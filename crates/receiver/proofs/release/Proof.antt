@@ -1,6 +1,6 @@
 -- `receiver::release` meets its contract. Assumes nothing.
+use Rattle.receiver_state.proofs.Moves.{released}
 use borrow.Author.Needs.{needs}
-use Rattle.receiver.proofs.Moves.{released}
 use Rattle.receiver.proofs.release.Statement.{statement}
 use Rattle.receiver.proofs.release.Tie as tie
 
@@ -41,22 +41,14 @@ same-length-2 : tie.Need-same-length-2
 same-length-2 c = search needs
 
 returns : tie.Need-returns
-returns c = released (c .before .before .before .before .before .before .before .before .before .before .before .before .before .before .before .before .before .before .args .state .now) (c .before .before .before .before .before .before .before .before .before .before .before .before .before .before .before .before .before .before .args .names .now) (c .before .before .before .before .before .before .before .before .before .before .before .before .before .before .before .before .before .before .pre .1) (c .before .before .before .before .before .before .before .before .before .before .before .before .before .before .before .before .before .before .args .s) (c .before .before .before .before .before .before .before .before .before .before .before .before .before .before .before .before .before .before .pre .0) (c .before .before .before .before .before .before .before .before .before .before .before .before .before .before .word .result) _ _ _ (c .before .before .before .before .before .before .before .before .before .before .before .before .before .before .word .ensures) (c .before .before .before .before .before .before .before .before .before .before .before .put-words .ensures) (c .before .before .lower .ensures) (c .before .before .before .before .before .before .put-bytes .ensures)
+returns c =
+    let args = c .before .before .before .before .before .before .before .before .before .before .before .before .before .before .before .before .before .before .args in
+    let pre = c .before .before .before .before .before .before .before .before .before .before .before .before .before .before .before .before .before .before .pre in
+    let word = c .before .before .before .before .before .before .before .before .before .before .before .before .before .before .word in
+    let put-words = c .before .before .before .before .before .before .before .before .before .before .before .put-words in
+    let lower = c .before .before .lower in
+    let put-bytes = c .before .before .before .before .before .before .put-bytes in
+    released (args .state .now) (args .names .now) (pre .1) (args .s) (pre .0) (word .result) _ _ _ (word .ensures) (put-words .ensures) (lower .ensures) (put-bytes .ensures)
 
 pub release-spec : {M : Type 1} → statement M
-release-spec =
-    tie.close
-    (tie.spec
-    mul-b
-    add-b
-    add-word
-    word-requires
-    slice-aggregate-put-words
-    put-words-requires
-    mul-put-bytes
-    slice-aggregate-put-bytes
-    put-bytes-requires
-    lower-requires
-    same-length
-    same-length-2
-    returns)
+release-spec = tie.close (tie.spec mul-b add-b add-word word-requires slice-aggregate-put-words put-words-requires mul-put-bytes slice-aggregate-put-bytes put-bytes-requires lower-requires same-length same-length-2 returns)

@@ -1,29 +1,30 @@
--- `receiver::release_all` meets its contract. The loop's invariant: the i slots passed are freed where they are the sender's. Assumes nothing.
-use mathlib.Core.Path.{_≡_, sym, _∙_}
+-- `receiver::release_all` meets its contract. The loop's invariant: the sender's slots among the i passed are freed. Assumes nothing.
+use mathlib.Core.Path.{_≡_, refl, sym, _∙_, ap, subst}
 use Prim.Native.Nat.{_-_, _≤_}
 use native.Mathlib.Omega.{arith}
-use borrow.Author.Needs.{needs}
 use Rattle.steps.specs.Limits.{slotCount}
-use Rattle.steps.specs.Slots.{releaseOf}
-use Rattle.steps.specs.Receive.{withSlots}
-use Rattle.receiver.specs.View.{view, slotsOf, memoryOf}
-use Rattle.receiver.specs.Parts.{Shows}
-use Rattle.slots.specs.Words.{at}
+use Rattle.receiver.specs.Inside.{ReleasesAll}
 use Rattle.receiver.proofs.Others.{released-none, released-more}
+use borrow.Author.Needs.{needs}
 use Rattle.receiver.proofs.release_all.Statement.{statement}
 use Rattle.receiver.proofs.release_all.Tie as tie
 
 abbrev Inv-loop : tie.InvT-loop
-Inv-loop state₀ names₀ sender i₀ state names i = (i ≤ slotCount) × Shows (withSlots (view state₀ names₀) (releaseOf sender i (slotsOf state₀ names₀)) (memoryOf state₀)) state names
+Inv-loop state₀ names₀ sender i₀ state names i = (i ≤ slotCount) × ReleasesAll state₀ names₀ sender i state names
 
 abbrev μ-loop : tie.MeasureT-loop
 μ-loop state₀ names₀ sender i₀ state names i = slotCount - i
 
 loop-holds : tie.Need-loop-holds Inv-loop μ-loop
-loop-holds c = (omega arith, released-none (c .before .before .args .state .now) (c .before .before .args .names .now) (c .before .before .args .sender) (c .before .before .pre))
+loop-holds c =
+    let args = c .before .before .args in
+    let pre = c .before .before .pre in
+    (omega arith, released-none (args .state .now) (args .names .now) (args .sender) pre)
 
-release-of-requires : tie.Need-release-of-requires Inv-loop μ-loop
-release-of-requires c κs = (omega arith, c .before .before .before .loop .inv .1 .shape)
+release-one-requires : tie.Need-release-one-requires Inv-loop μ-loop
+release-one-requires c κs =
+    let loop = c .before .before .before .loop in
+    (omega arith, loop .inv .1 .shape)
 
 add-i : tie.Need-add-i Inv-loop μ-loop
 add-i c = search needs
@@ -32,30 +33,29 @@ loop-less : tie.Need-loop-less Inv-loop μ-loop
 loop-less c = search needs
 
 loop-again : tie.Need-loop-again Inv-loop μ-loop
-loop-again c = (omega arith, released-more (c .before .before .before .before .before .before .before .before .before .before .before .args .state .now) (c .before .before .before .before .before .before .before .before .before .before .before .args .names .now) (c .before .before .before .before .before .before .before .before .loop .state) (c .before .before .before .before .before .before .before .before .loop .names) _ _ (c .before .before .before .before .before .before .before .before .before .before .before .args .sender) (c .before .before .before .before .before .before .before .before .loop .i) (c .before .before .before .before .before .before .before .before .loop .inv .1) (c .before .before .before .before .release-of .ensures))
+loop-again c =
+    let args = c .before .before .before .before .before .before .before .before .before .before .before .args in
+    let loop = c .before .before .before .before .before .before .before .before .loop in
+    let release-one = c .before .before .before .before .release-one in
+    (omega arith, released-more (args .state .now) (args .names .now) (loop .state) (loop .names) _ _ (args .sender) (loop .i) (loop .inv .1) (release-one .ensures))
 
 same-length : tie.Need-same-length Inv-loop μ-loop
-same-length c = c .before .loop .inv .1 .shape .words ∙ sym (c .before .before .before .before .pre .words)
+same-length c =
+    let loop = c .before .loop in
+    let pre = c .before .before .before .before .pre in
+    loop .inv .1 .shape .words ∙ sym (pre .words)
 
 same-length-2 : tie.Need-same-length-2 Inv-loop μ-loop
-same-length-2 c = c .before .loop .inv .1 .shape .bytes ∙ sym (c .before .before .before .before .pre .bytes)
+same-length-2 c =
+    let loop = c .before .loop in
+    let pre = c .before .before .before .before .pre in
+    loop .inv .1 .shape .bytes ∙ sym (pre .bytes)
 
 returns : tie.Need-returns Inv-loop μ-loop
 returns c =
-    let e : c .before .loop .i ≡ slotCount = omega arith in
-    rw e at (c .before .loop .inv .1)
+    let loop = c .before .loop in
+    let e : loop .i ≡ slotCount = omega arith in
+    rw e at (loop .inv .1)
 
 pub release-all-spec : {M : Type 1} → statement M
-release-all-spec =
-    tie.close
-    (tie.spec
-    Inv-loop
-    μ-loop
-    loop-holds
-    release-of-requires
-    add-i
-    loop-less
-    loop-again
-    same-length
-    same-length-2
-    returns)
+release-all-spec = tie.close (tie.spec Inv-loop μ-loop loop-holds release-one-requires add-i loop-less loop-again same-length same-length-2 returns)

@@ -1,41 +1,41 @@
 -- `receiver::small` meets its contract. Assumes nothing.
-use mathlib.Core.Path.{_≡_, sym, _∙_}
-use borrow.Author.Needs.{needs}
-use Rattle.datagram.specs.Read.{partOf}
-use Rattle.steps.specs.Slots.{padded}
-use Rattle.receiver.proofs.Moves.{padded-is}
-use Rattle.slots.specs.Words.{at}
-use Rattle.steps.specs.declared.Answer.the-variants.{Delivered}
-use Rattle.steps.specs.declared.PayloadAt.the-variants.{InDatagram}
+use mathlib.Core.Path.{_≡_, refl, sym, _∙_, ap, subst}
 use Rattle.steps.specs.declared.Emptied.the-variants.{Nobody}
+use Rattle.steps.specs.declared.PayloadAt.the-variants.{InDatagram}
+use Rattle.steps.specs.declared.Answer.the-variants.{Delivered}
+use Rattle.receiver_state.proofs.Moves.{name-filled}
+use borrow.Author.Needs.{needs}
 use Rattle.receiver.proofs.small.Statement.{statement}
 use Rattle.receiver.proofs.small.Tie as tie
 
-part-requires : tie.Need-part-requires
-part-requires c κs = search needs
+part-at-requires : tie.Need-part-at-requires
+part-at-requires c κs = search needs
 
 zero-filled-requires : tie.Need-zero-filled-requires
 zero-filled-requires c κs = search needs
 
-wide-requires : tie.Need-wide-requires
-wide-requires c κs = search needs
+as-word-requires : tie.Need-as-word-requires
+as-word-requires c κs = search needs
 
-recall-requires : tie.Need-recall-requires
-recall-requires c κs = search needs
+remember-key-requires : tie.Need-remember-key-requires
+remember-key-requires c κs = search needs
 
 same-length : tie.Need-same-length
 same-length c = search needs
 
 returns : tie.Need-returns
 returns c =
-    let a = c .before .before .before .before .before .before .before .before .before .before .before .args in
-    let nm : c .before .before .before .before .before .zero-filled .result ≡ padded (partOf (a .d .now) (a .h .name)) = c .before .before .before .before .before .zero-filled .ensures ∙ (rw (c .before .before .before .before .before .before .part .ensures) (padded-is (partOf (a .d .now) (a .h .name)) (c .before .before .before .before .before .before .before .before .before .before .before .pre .2 .short))) in
+    let args = c .before .before .before .before .before .before .before .before .before .before .args in
+    let pre = c .before .before .before .before .before .before .before .before .before .before .pre in
+    let part-at = c .before .before .before .before .before .before .part-at in
+    let zero-filled = c .before .before .before .before .before .zero-filled in
+    let as-word = c .before .before .before .as-word in
+    let remember-key = c .before .before .remember-key in
+    let nm = name-filled (args .d .now) (args .h .name) (pre .1 .short) _ _ (part-at .ensures) (zero-filled .ensures) in
     record {
-      recalls = rw (c .before .before .before .wide .ensures) at (c .before .before .recall .ensures);
-      outcome = λ i. record { answer = Delivered (InDatagram (c .before .before .before .before .before .before .before .before .before .before .before .pre .2 .small-at (c .before .before .before .before .before .before .before .before .before .before .before .pre .3) i)) (sym (c .before .before .before .before .before .before .before .before .before .before .before .pre .2 .long) i); emptied = Nobody; name = nm i };
+      remembers = rw (as-word .ensures) at (remember-key .ensures);
+      outcome = λ i. record { answer = Delivered (InDatagram (pre .1 .small-at (pre .2) i)) (sym (pre .1 .long) i); emptied = Nobody; name = nm i };
     }
 
 pub small-spec : {M : Type 1} → statement M
-small-spec =
-    tie.close
-    (tie.spec part-requires zero-filled-requires wide-requires recall-requires same-length returns)
+small-spec = tie.close (tie.spec part-at-requires zero-filled-requires as-word-requires remember-key-requires same-length returns)

@@ -7,7 +7,9 @@ no-name-requires : tie.Need-no-name-requires
 no-name-requires c κs = search needs
 
 returns : tie.Need-returns
-returns c = rw (c .no-name .ensures)
+returns c =
+    let no-name = c .no-name in
+    rw (no-name .ensures)
 
 pub stay-spec : {M : Type 1} → statement M
 stay-spec = tie.close (tie.spec no-name-requires returns)

@@ -19,20 +19,20 @@ Inv-loop held ledger n k offset len number start size count j₀ j = (j ≤ coun
 abbrev μ-loop : tie.MeasureT-loop
 μ-loop held ledger n k offset len number start size count j₀ j = count - j
 
-wide-requires : tie.Need-wide-requires Inv-loop μ-loop
-wide-requires c κs = search needs
+as-size-requires : tie.Need-as-size-requires Inv-loop μ-loop
+as-size-requires c κs = search needs
 
-wide-requires-2 : tie.Need-wide-requires-2 Inv-loop μ-loop
-wide-requires-2 c κs = search needs
+as-size-requires-2 : tie.Need-as-size-requires-2 Inv-loop μ-loop
+as-size-requires-2 c κs = search needs
 
-wide-requires-3 : tie.Need-wide-requires-3 Inv-loop μ-loop
-wide-requires-3 c κs = search needs
+as-size-requires-3 : tie.Need-as-size-requires-3 Inv-loop μ-loop
+as-size-requires-3 c κs = search needs
 
-wide-requires-4 : tie.Need-wide-requires-4 Inv-loop μ-loop
-wide-requires-4 c κs = search needs
+as-size-requires-4 : tie.Need-as-size-requires-4 Inv-loop μ-loop
+as-size-requires-4 c κs = search needs
 
 loop-holds : tie.Need-loop-holds Inv-loop μ-loop
-loop-holds c = (omega arith, c .wide4 .ensures .1, refl)
+loop-holds c = (omega arith, c .as-size4 .ensures .1, refl)
 
 is-held-requires : tie.Need-is-held-requires Inv-loop μ-loop
 is-held-requires c κs = search needs
@@ -58,9 +58,9 @@ agree-requires c κs = search needs
 returns : tie.Need-returns Inv-loop μ-loop
 returns c =
     let a = c .before .before .before .before .before .before .before .before .before .before .before .before .before .before .args in
-    rw (← c .before .before .before .before .before .before .before .before .wide4 .ensures .0) (sym (all-not (c .before .before .before .before .before .before .before .before .wide4 .result) (fitsIn (a .held .now) (a .ledger .now) (a .k) (a .offset) (a .len)) (c .before .before .before .before .before .before .before .loop .j) (omega arith)
+    rw (← c .before .before .before .before .before .before .before .before .as-size4 .ensures .0) (sym (all-not (c .before .before .before .before .before .before .before .before .as-size4 .result) (fitsIn (a .held .now) (a .ledger .now) (a .k) (a .offset) (a .len)) (c .before .before .before .before .before .before .before .loop .j) (omega arith)
     (rw (sym (c .before .before .before .before .before .is-held .ensures) ∙ c .before .before .before .before .if1 .taken)
-    (rw (← c .before .before .before .before .before .before .before .before .before .before .before .wide .ensures .0, ← c .before .before .before .before .before .before .before .before .before .before .wide2 .ensures .0, ← c .before .before .before .before .before .before .before .before .before .wide3 .ensures .0, ← c .before .before .before .entry .ensures .0, ← c .before .before .entry2 .ensures .0) (sym (c .before .agree .ensures) ∙ not-true _ (c .if2 .taken))))))
+    (rw (← c .before .before .before .before .before .before .before .before .before .before .before .as-size .ensures .0, ← c .before .before .before .before .before .before .before .before .before .before .as-size2 .ensures .0, ← c .before .before .before .before .before .before .before .before .before .as-size3 .ensures .0, ← c .before .before .before .entry .ensures .0, ← c .before .before .entry2 .ensures .0) (sym (c .before .agree .ensures) ∙ not-true _ (c .if2 .taken))))))
 
 add-j : tie.Need-add-j Inv-loop μ-loop
 add-j c = search needs
@@ -74,15 +74,15 @@ loop-again c =
       omega arith,
       c .before .before .before .loop .inv .1,
       all-more (fitsIn (a .held .now) (a .ledger .now) (a .k) (a .offset) (a .len)) (c .before .before .before .loop .j) (c .before .before .before .loop .inv .2) (⊎-elim
-          (λ w. rw (sym (c .before .is-held .ensures) ∙ w .0 .taken) (rw (← c .before .before .before .before .before .before .before .wide .ensures .0, ← c .before .before .before .before .before .before .wide2 .ensures .0, ← c .before .before .before .before .before .wide3 .ensures .0, ← w .1 .ensures .0, ← w .2 .ensures .0) (sym (w .3 .ensures) ∙ not-false _ (w .4 .left))))
+          (λ w. rw (sym (c .before .is-held .ensures) ∙ w .0 .taken) (rw (← c .before .before .before .before .before .before .before .as-size .ensures .0, ← c .before .before .before .before .before .before .as-size2 .ensures .0, ← c .before .before .before .before .before .as-size3 .ensures .0, ← w .1 .ensures .0, ← w .2 .ensures .0) (sym (w .3 .ensures) ∙ not-false _ (w .4 .left))))
           (λ w. rw (sym (c .before .is-held .ensures) ∙ w .left))
           (c .if1 .came)),
     )
 
 returns-2 : tie.Need-returns-2 Inv-loop μ-loop
 returns-2 c =
-    let e : c .before .loop .j ≡ c .before .before .wide4 .result = omega arith in
-    rw (← c .before .before .wide4 .ensures .0) (sym (rw e at (c .before .loop .inv .2)))
+    let e : c .before .loop .j ≡ c .before .before .as-size4 .result = omega arith in
+    rw (← c .before .before .as-size4 .ensures .0) (sym (rw e at (c .before .loop .inv .2)))
 
 pub fits-all-spec : {M : Type 1} → statement M
 fits-all-spec =
@@ -90,10 +90,10 @@ fits-all-spec =
     (tie.spec
     Inv-loop
     μ-loop
-    wide-requires
-    wide-requires-2
-    wide-requires-3
-    wide-requires-4
+    as-size-requires
+    as-size-requires-2
+    as-size-requires-3
+    as-size-requires-4
     loop-holds
     is-held-requires
     mul-entry

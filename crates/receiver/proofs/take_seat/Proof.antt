@@ -1,0 +1,88 @@
+-- `receiver::take_seat` meets its contract. Assumes nothing.
+use mathlib.Core.Path.{_≡_, refl, sym, _∙_, ap, subst}
+use native.Mathlib.Omega.{arith}
+use Rattle.receiver.proofs.Ends.{oldest-within, seated-free, seated-full}
+use borrow.Author.Needs.{needs}
+use Rattle.receiver.proofs.take_seat.Statement.{statement}
+use Rattle.receiver.proofs.take_seat.Tie as tie
+
+lowest-free-requires : tie.Need-lowest-free-requires
+lowest-free-requires c κs = search needs
+
+enum-known-found : tie.Need-enum-known-found
+enum-known-found c = search needs
+
+enum-told : tie.Need-enum-told
+enum-told c = search needs
+
+oldest-requires : tie.Need-oldest-requires
+oldest-requires c κs = search needs
+
+mul-b : tie.Need-mul-b
+mul-b c =
+    let args = c .before .before .before .before .before .before .before .before .args in
+    let oldest = c .oldest in
+    omega (arith, oldest-within (args .state .now) (oldest .result) (oldest .ensures))
+
+add-b : tie.Need-add-b
+add-b c =
+    let args = c .before .before .before .before .before .before .before .before .args in
+    let oldest = c .oldest in
+    omega (arith, oldest-within (args .state .now) (oldest .result) (oldest .ensures))
+
+add-word : tie.Need-add-word
+add-word c =
+    let args = c .before .before .before .before .before .before .before .before .before .args in
+    let oldest = c .before .oldest in
+    omega (arith, oldest-within (args .state .now) (oldest .result) (oldest .ensures))
+
+word-requires : tie.Need-word-requires
+word-requires c κs = search needs
+
+add-word-2 : tie.Need-add-word-2
+add-word-2 c =
+    let args = c .before .before .before .before .before .before .before .before .before .before .before .args in
+    let oldest = c .before .before .before .oldest in
+    omega (arith, oldest-within (args .state .now) (oldest .result) (oldest .ensures))
+
+word-requires-2 : tie.Need-word-requires-2
+word-requires-2 c κs = search needs
+
+release-requires : tie.Need-release-requires
+release-requires c κs =
+    let args = c .before .before .before .before .before .before .before .before .before .before .before .before .before .before .args in
+    let oldest = c .before .before .before .before .before .before .oldest in
+    let pre = c .before .before .before .before .before .before .before .before .before .before .before .before .before .before .pre in
+    (oldest-within (args .state .now) (oldest .result) (oldest .ensures), pre)
+
+same-length : tie.Need-same-length
+same-length c = search needs
+
+same-length-2 : tie.Need-same-length-2
+same-length-2 c = search needs
+
+returns : tie.Need-returns
+returns c =
+    let args = c .before .before .before .before .before .before .before .before .before .before .before .before .before .before .before .before .before .before .before .args in
+    let oldest = c .before .before .before .before .before .before .before .before .before .before .before .oldest in
+    let word = c .before .before .before .before .before .before .before .before .before .word in
+    let word2 = c .before .before .before .before .before .before .before .word2 in
+    let enum-told = c .before .before .before .before .before .before .before .before .before .before .before .before .before .enum-told in
+    let lowest-free = c .before .before .before .before .before .before .before .before .before .before .before .before .before .before .before .lowest-free in
+    let release = c .before .before .before .before .release in
+    seated-full (args .state .now) (args .names .now) (oldest .result) (word .result) (word2 .result) _ _ (sym (enum-told .given .1) ∙ lowest-free .ensures) (oldest .ensures) (word .ensures) (word2 .ensures)
+    (release .ensures)
+
+same-length-3 : tie.Need-same-length-3
+same-length-3 c = search needs
+
+returns-2 : tie.Need-returns-2
+returns-2 c =
+    let args = c .before .before .before .before .before .before .before .args in
+    let pre = c .before .before .before .before .before .before .before .pre in
+    let found = c .before .found in
+    let lowest-free = c .before .before .before .lowest-free in
+    seated-free (args .state .now) (args .names .now) pre _ (sym (found .given .1) ∙ lowest-free .ensures)
+
+pub take-seat-spec : {M : Type 1} → statement M
+take-seat-spec = tie.close (tie.spec lowest-free-requires enum-known-found enum-told oldest-requires mul-b add-b add-word word-requires add-word-2 word-requires-2 release-requires same-length same-length-2 returns same-length-3 returns-2)

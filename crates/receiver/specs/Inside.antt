@@ -1,0 +1,129 @@
+-- INSIDE: what the receiver's private functions give. Definitions only; no promise of a public function rests on them.
+use mathlib.Core.Path.{_≡_}
+use mathlib.Core.List.{List}
+use Prim.Native.Nat.{ℕ, _+_, _*_, _≤_, _<_}
+use lib.ListN.{length, getD, set}
+use Rattle.datagram.specs.Limits.{maxPayload}
+use Rattle.datagram.specs.Read.{partOf}
+use Rattle.datagram.specs.Said.{Fragment, fragmentIn}
+use Rattle.datagram.specs.declared.Header.{Header}
+use Rattle.steps.specs.Limits.{slotCount}
+use Rattle.steps.specs.declared.Emptied.{Emptied}
+use Rattle.steps.specs.declared.Emptied.the-variants.{Nobody}
+use Rattle.steps.specs.declared.PayloadAt.the-variants.{InStore, InDatagram}
+use Rattle.steps.specs.declared.Answer.{Answer}
+use Rattle.steps.specs.declared.Answer.the-variants.{Refused, Repeat, Delivered}
+use Rattle.steps.specs.Memory.{keyOf, remember}
+use Rattle.steps.specs.Slots.{Slot, slotAt, release, releaseOne, releaseOf, seat, opening, filled, noName, padded}
+use Rattle.steps.specs.Slots as step
+use Rattle.steps.specs.Receive.{Machine, After, withSlots, stay, storeWith, ledgerWith, step5, deliveredSmall, beginAt}
+use Rattle.receiver_state.specs.View.{roomWord, slotsOf, memoryOf, view}
+use Rattle.receiver_state.specs.Inside.{Told, Shows, Remembers}
+use Rattle.deciding.specs.declared.Verdict.{Verdict}
+use Rattle.deciding.specs.declared.Verdict.the-variants.{Refuse, Again, Deliver, Join, Begin}
+use Rattle.receiver.specs.Calls.{Leaves}
+use Rattle.receiver.specs.declared.Outcome.{Outcome}
+use Rattle.receiver.specs.declared.Seat.{Seat}
+use Rattle.receiver.specs.declared.Settled.{Settled}
+use Rattle.receiver.specs.declared.Stored.{Stored}
+use Rattle.receiver.specs.declared.Stored.the-variants as stored
+
+-- ---- the slots change
+
+-- they are those, and the rest of the machine stays
+abbrev pub Slots : List ℕ → List ℕ → List Slot → List ℕ → List ℕ → Type 0
+Slots w n slots w′ n′ = Shows (withSlots (view w n) slots (memoryOf w)) w′ n′
+
+abbrev pub Releases : List ℕ → List ℕ → ℕ → List ℕ → List ℕ → Type 0
+Releases w n s w′ n′ = Slots w n (release (slotsOf w n) s) w′ n′
+
+abbrev pub ReleasesOne : List ℕ → List ℕ → ℕ → ℕ → List ℕ → List ℕ → Type 0
+ReleasesOne w n from i w′ n′ = Slots w n (releaseOne from i (slotsOf w n)) w′ n′
+
+abbrev pub ReleasesAll : List ℕ → List ℕ → ℕ → ℕ → List ℕ → List ℕ → Type 0
+ReleasesAll w n from i w′ n′ = Slots w n (releaseOf from i (slotsOf w n)) w′ n′
+
+-- slot s is opened for that header's message, whatever the datagram
+abbrev pub Occupies : List ℕ → List ℕ → ℕ → ℕ → Header → List ℕ → List ℕ → Type 0
+Occupies w n s sender h w′ n′ = (d : List ℕ) → Slots w n (set (slotsOf w n) s (opening (slotsOf w n) (keyOf sender (h .sequence)) (fragmentIn d h))) w′ n′
+
+-- slot s holds the fragment
+abbrev pub Keeps : List ℕ → List ℕ → ℕ → Header → List ℕ → List ℕ → List ℕ → Type 0
+Keeps w n s h d w′ n′ = Slots w n (set (slotsOf w n) s (filled (slotAt (slotsOf w n) s) (fragmentIn d h))) w′ n′
+
+-- a slot is taken
+pub record Seats (w n : List ℕ) (r : Seat) (w′ n′ : List ℕ) : Type 0 where
+  pub place : r .at ≡ seat (slotsOf w n) .at
+  pub emptied : r .emptied ≡ seat (slotsOf w n) .emptied
+  pub inside : r .at < slotCount
+  pub shows : Slots w n (seat (slotsOf w n) .slots) w′ n′
+
+-- ---- what is answered
+
+abbrev pub stayed : Answer → Outcome
+stayed a = record { answer = a; emptied = Nobody; name = noName }
+
+-- the message in slot s is handed over
+pub record Delivers (w n : List ℕ) (s : ℕ) (gone : Emptied) (r : Outcome) (w′ n′ : List ℕ) : Type 0 where
+  pub shows : Shows (withSlots (view w n) (release (slotsOf w n) s) (remember (memoryOf w) (slotAt (slotsOf w n) s .key))) w′ n′
+  pub outcome : r ≡ record { answer = Delivered (InStore (s * getD w roomWord 0)) (slotAt (slotsOf w n) s .size); emptied = gone; name = slotAt (slotsOf w n) s .name }
+
+-- a small message is handed over
+pub record SmallDone (w : List ℕ) (sender : ℕ) (d : List ℕ) (h : Header) (r : Outcome) (w′ : List ℕ) : Type 0 where
+  pub remembers : Remembers w (keyOf sender (h .sequence)) w′
+  pub outcome : r ≡ record { answer = Delivered (InDatagram (9 + length (partOf d (h .name)))) (length (partOf d (h .payload))); emptied = Nobody; name = padded (partOf d (h .name)) }
+
+-- ---- the store and the ledger
+
+abbrev pub storeAfter : ℕ → List ℕ → List ℕ → Stored → List ℕ
+storeAfter C d store stored.Nothing = store
+storeAfter C d store (stored.In s h) = storeWith C store s (fragmentIn d h)
+
+abbrev pub ledgerAfter : List ℕ → List ℕ → Stored → List ℕ
+ledgerAfter d ledger stored.Nothing = ledger
+ledgerAfter d ledger (stored.In s h) = ledgerWith ledger s (fragmentIn d h)
+
+abbrev pub StoredIn : ℕ → List ℕ → List ℕ → ℕ → Fragment → List ℕ → List ℕ → Type 0
+StoredIn C store ledger s f store′ ledger′ = (store′ ≡ storeWith C store s f) × (ledger′ ≡ ledgerWith ledger s f)
+
+abbrev pub StoredBy : ℕ → List ℕ → List ℕ → Stored → List ℕ → List ℕ → List ℕ → Type 0
+StoredBy C store ledger x d store′ ledger′ = (store′ ≡ storeAfter C d store x) × (ledger′ ≡ ledgerAfter d ledger x)
+
+-- what is known of a fragment that is to be stored
+abbrev pub Storable : ℕ → List ℕ → Stored → Type 0
+Storable C d stored.Nothing = Unit {0}
+Storable C d (stored.In s h) = (s < slotCount) × (C ≤ maxPayload) × Told d h
+
+-- ---- what is done, whatever the store and the ledger
+
+-- step 5
+abbrev pub Puts : List ℕ → List ℕ → ℕ → Emptied → Header → List ℕ → Outcome → List ℕ → List ℕ → Type 0
+Puts w n s gone h d r w′ n′ =
+    (store ledger : List ℕ) → Leaves (step5 (view w n) (slotsOf w n) store ledger gone s (fragmentIn d h)) r w′ n′
+    (storeWith (getD w roomWord 0) store s (fragmentIn d h)) (ledgerWith ledger s (fragmentIn d h))
+
+-- steps 4 and 5
+pub record Begins (w n : List ℕ) (sender : ℕ) (h : Header) (d : List ℕ) (r : Settled) (w′ n′ : List ℕ) : Type 0 where
+  pub place : ℕ
+  pub stores : r .stored ≡ stored.In place h
+  pub inside : place < slotCount
+  pub leaves : (store ledger : List ℕ) → Leaves (beginAt (view w n) store ledger (keyOf sender (h .sequence)) (fragmentIn d h) (seat (slotsOf w n))) (r .outcome) w′ n′
+      (storeWith (getD w roomWord 0) store place (fragmentIn d h)) (ledgerWith ledger place (fragmentIn d h))
+
+-- what a verdict comes to
+abbrev pub enacted : Machine → List ℕ → List ℕ → ℕ → List ℕ → Verdict → After
+enacted m store ledger sender d (Refuse k) = stay m store ledger (Refused k)
+enacted m store ledger sender d Again = stay m store ledger Repeat
+enacted m store ledger sender d (Deliver h) = deliveredSmall m store ledger (keyOf sender (h .sequence)) (partOf d (h .name)) (length (partOf d (h .payload)))
+enacted m store ledger sender d (Join s h) = step5 m (m .slots) store ledger Nobody s (fragmentIn d h)
+enacted m store ledger sender d (Begin h) = beginAt m store ledger (keyOf sender (h .sequence)) (fragmentIn d h) (seat (m .slots))
+
+abbrev pub idle : Outcome → Settled
+idle r = record { outcome = r; stored = stored.Nothing }
+
+pub record Settles (w n : List ℕ) (sender : ℕ) (v : Verdict) (d : List ℕ) (r : Settled) (w′ n′ : List ℕ) : Type 0 where
+  pub leaves : (store ledger : List ℕ) → Leaves (enacted (view w n) store ledger sender d v) (r .outcome) w′ n′
+      (storeAfter (getD w roomWord 0) d store (r .stored)) (ledgerAfter d ledger (r .stored))
+  -- a refusal writes nothing
+  pub still : (k : ℕ) → r .outcome .answer ≡ Refused k → (w′ ≡ w) × (n′ ≡ n) × (r .stored ≡ stored.Nothing)
+  pub storable : Storable (getD w roomWord 0) d (r .stored)

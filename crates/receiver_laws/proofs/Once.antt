@@ -1,0 +1,123 @@
+-- No second outcome satisfies a contract: two that do are one, with every word and byte of what was lent. And calls lead only to states that
+-- the step list can reach, which are in order (steps, `reached-in-order`).
+use mathlib.Core.Path.{_≡_, refl, sym, _∙_, ap, subst}
+use mathlib.Core.Logic.{inl, inr}
+use mathlib.Core.Bool.{Bool, true, false}
+use mathlib.Core.Option.{Option, none, some}
+use mathlib.Core.List.{List}
+use Prim.Native.Nat.{ℕ}
+use native.Mathlib.Omega.{arith}
+use lib.Dec.{eqb}
+use lib.ListN.{length}
+use borrow.Author.Tests.{eqb-true}
+use Rattle.wire.proofs.Choices.{either, and-l, and-r}
+use Rattle.steps.specs.declared.Answer.the-variants.{Refused}
+use Rattle.steps.specs.Receive.{Machine, stay, step}
+use Rattle.steps.specs.Reach.{Reached, opens, receives, forgets}
+use Rattle.receiver_state.specs.View.{stateWords, nameBytes, view, shaped}
+use Rattle.receiver_state.specs.Inside.{Shaped}
+use Rattle.receiver.specs.Calls.{refusalOf, received, Receives, Changes, Opens, Forgets, forgotten}
+use Rattle.receiver.specs.declared.Outcome.{Outcome}
+use Rattle.receiver.specs.declared.Call.{Call}
+use Rattle.receiver.specs.declared.Call.the-variants as call
+use Rattle.receiver_state.proofs.Unique.{words-same, names-same}
+
+-- words and names of the lengths that were lent
+shape-of : (w n v m : List ℕ) → shaped w n ≡ true → length v ≡ length w → length m ≡ length n → Shaped v m
+shape-of w n v m s a b = record {
+  words = a ∙ eqb-true _ _ (and-l (eqb (length w) stateWords) (eqb (length n) nameBytes) s);
+  bytes = b ∙ eqb-true _ _ (and-r (eqb (length w) stateWords) (eqb (length n) nameBytes) s);
+}
+
+-- ---- receive
+
+pub record Same (r s : Outcome) (w n store ledger w′ n′ store′ ledger′ : List ℕ) : Type 0 where
+  pub outcome : r ≡ s
+  pub words : w ≡ w′
+  pub names : n ≡ n′
+  pub bytes : store ≡ store′
+  pub numbers : ledger ≡ ledger′
+
+unshaped-nine : (w n store ledger : List ℕ) (sender : ℕ) (d : List ℕ) → shaped w n ≡ false → received w n store ledger sender d .answer ≡ Refused 9
+unfolding received stay
+unshaped-nine w n store ledger sender d e = rw e
+
+module _ (w n store ledger : List ℕ) (sender : ℕ) (d : List ℕ) (r s : Outcome) (w1 n1 s1 l1 w2 n2 s2 l2 : List ℕ) (A : Receives w n store ledger sender d r w1 n1 s1 l1)
+    (B : Receives w n store ledger sender d s w2 n2 s2 l2) where
+  one : r ≡ s
+  one = λ i. record {
+    answer = (A .leaves .answer ∙ sym (B .leaves .answer)) i;
+    emptied = (A .leaves .emptied ∙ sym (B .leaves .emptied)) i;
+    name = (A .leaves .name ∙ sym (B .leaves .name)) i;
+  }
+
+  pub receive-once : Same r s w1 n1 s1 l1 w2 n2 s2 l2
+  receive-once = elim (either (shaped w n)) [
+    | inl t ↦
+        let p : Shaped w1 n1 = shape-of w n w1 n1 t (A .words) (A .bytes) in
+        let q : Shaped w2 n2 = shape-of w n w2 n2 t (B .words) (B .bytes) in
+        let e : view w1 n1 ≡ view w2 n2 = A .leaves .machine ∙ sym (B .leaves .machine) in
+        record {
+          outcome = one;
+          words = words-same w1 n1 w2 n2 p q e;
+          names = names-same w1 n1 w2 n2 p q e;
+          bytes = A .leaves .store ∙ sym (B .leaves .store);
+          numbers = A .leaves .ledger ∙ sym (B .leaves .ledger);
+        }
+    | inr f ↦
+        let nine = unshaped-nine w n store ledger sender d f in
+        let a = A .still 9 (A .leaves .answer ∙ nine) in
+        let b = B .still 9 (B .leaves .answer ∙ nine) in
+        record { outcome = one; words = a .0 ∙ sym (b .0); names = a .1 ∙ sym (b .1); bytes = a .2 ∙ sym (b .2); numbers = a .3 ∙ sym (b .3) }
+  ]
+
+-- ---- open and forget
+
+refusal-once : (r s : Call) → refusalOf r ≡ refusalOf s → r ≡ s
+refusal-once call.Done call.Done e = refl
+refusal-once call.Done (call.Refused k) e = let z : _≡_ {A = ℕ} 0 1 = cc in absurd (let h : ⊥ = omega arith in h)
+refusal-once (call.Refused j) call.Done e = let z : _≡_ {A = ℕ} 0 1 = cc in absurd (let h : ⊥ = omega arith in h)
+refusal-once (call.Refused j) (call.Refused k) e = let z : j ≡ k = cc in ap call.Refused z
+
+pub record Alike (r s : Call) (w n w′ n′ : List ℕ) : Type 0 where
+  pub answer : r ≡ s
+  pub words : w ≡ w′
+  pub names : n ≡ n′
+
+changes-once : (m : Machine) (o : Option ℕ) (w n : List ℕ) → (shaped w n ≡ false → o ≡ some 9) → (r s : Call) (w1 n1 w2 n2 : List ℕ)
+    → Changes m o w n r w1 n1 → Changes m o w n s w2 n2 → Alike r s w1 n1 w2 n2
+changes-once m o w n nine r s w1 n1 w2 n2 A B = elim (either (shaped w n)) [
+  | inl t ↦
+      let p : Shaped w1 n1 = shape-of w n w1 n1 t (A .words) (A .bytes) in
+      let q : Shaped w2 n2 = shape-of w n w2 n2 t (B .words) (B .bytes) in
+      let e : view w1 n1 ≡ view w2 n2 = A .machine ∙ sym (B .machine) in
+      record { answer = refusal-once r s (A .gave ∙ sym (B .gave)); words = words-same w1 n1 w2 n2 p q e; names = names-same w1 n1 w2 n2 p q e }
+  | inr f ↦
+      let a = A .still 9 (A .gave ∙ nine f) in
+      let b = B .still 9 (B .gave ∙ nine f) in
+      record { answer = refusal-once r s (A .gave ∙ sym (B .gave)); words = a .0 ∙ sym (b .0); names = a .1 ∙ sym (b .1) }
+]
+
+pub open-once : (w n : List ℕ) (k : ℕ) (r s : Call) (w1 n1 w2 n2 : List ℕ) → Opens w n k r w1 n1 → Opens w n k s w2 n2 → Alike r s w1 n1 w2 n2
+open-once w n k = changes-once _ _ w n (λ f. rw f)
+
+pub forget-once : (w n : List ℕ) (sender : ℕ) (r s : Call) (w1 n1 w2 n2 : List ℕ) → Forgets w n sender r w1 n1 → Forgets w n sender s w2 n2 → Alike r s w1 n1 w2 n2
+unfolding forgotten
+forget-once w n sender = changes-once _ _ w n (λ f. rw f)
+
+-- ---- calls lead to states that the step list reaches
+
+module _ (w n : List ℕ) (t : shaped w n ≡ true) where
+  pub open-reaches : (k : ℕ) (r : Call) (w1 n1 : List ℕ) → Opens w n k r w1 n1 → Reached k (view w1 n1)
+  open-reaches k r w1 n1 A = subst (Reached k) (sym (A .machine ∙ rw t)) opens
+
+  pub receive-reaches : (k : ℕ) → Reached k (view w n) → (store ledger : List ℕ) (sender : ℕ) (d : List ℕ) (r : Outcome) (w1 n1 s1 l1 : List ℕ)
+      → Receives w n store ledger sender d r w1 n1 s1 l1 → Reached k (view w1 n1)
+  unfolding received
+  receive-reaches k R store ledger sender d r w1 n1 s1 l1 A =
+      let e : received w n store ledger sender d .machine ≡ step (view w n) store ledger sender d .machine = rw t in
+      subst (Reached k) (sym (A .leaves .machine ∙ e)) (receives R store ledger sender d)
+
+  pub forget-reaches : (k : ℕ) → Reached k (view w n) → (sender : ℕ) (r : Call) (w1 n1 : List ℕ) → Forgets w n sender r w1 n1 → Reached k (view w1 n1)
+  unfolding forgotten
+  forget-reaches k R sender r w1 n1 A = subst (Reached k) (sym (A .machine ∙ rw t)) (forgets R sender)

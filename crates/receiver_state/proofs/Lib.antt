@@ -1,0 +1,7 @@
+pub mod Windows
+pub mod Firsts
+pub mod Bridge
+pub mod Remembers
+pub mod Moves
+pub mod Cases
+pub mod Unique
