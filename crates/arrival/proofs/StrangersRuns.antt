@@ -11,7 +11,7 @@ use Rattle.steps.specs.Runs.{World, lending, worldOf, Arrival, keyIn, call}
 use Rattle.steps.specs.Reach.{Reached, opens, receives, forgets}
 use Rattle.receiver.specs.declared.Outcome.{Outcome}
 use Rattle.receiver.specs.declared.Call.{Call}
-use Rattle.receiver.specs.View.{view, shaped}
+use Rattle.receiver_state.specs.View.{view, shaped}
 use Rattle.receiver.specs.Calls.{refusalOf, Opens, Receives, received, Forgets, forgotten}
 use Rattle.arrival.specs.Demand.{Message, handedBy, nameIn}
 use Rattle.arrival.specs.Runs.{Lent, handsOver}

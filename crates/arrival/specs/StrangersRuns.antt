@@ -8,7 +8,7 @@ use Rattle.steps.specs.Runs.{World, lending, Arrival}
 use Rattle.steps.specs.Reach.{isOpen}
 use Rattle.receiver.specs.declared.Outcome.{Outcome}
 use Rattle.receiver.specs.declared.Call.{Call}
-use Rattle.receiver.specs.View.{view}
+use Rattle.receiver_state.specs.View.{view}
 use Rattle.receiver.specs.Calls.{refusalOf, Opens, Receives, Forgets}
 use Rattle.arrival.specs.Demand.{Message, InFragments, key, parts, Delivery}
 use Rattle.arrival.specs.Runs.{Lent, handsOver}
