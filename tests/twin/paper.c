@@ -29,7 +29,7 @@ const struct paper_case paper_cases[] = {
     /* offset and length summed in 32 bits would pass */
     {"replay", "4c433033 00000007 00000003 fffffffe 0001 0003 42 43;", "1 refused 7\nend 1\n"},
     {"gaps", "4c433032 ffffffff 50 00; 4c433032 00000001 50 00;", "1 first\n2 forward 1\nend 2\n"},
-    {"gaps", "4c433032 00000000 50 00; 4c433032 80000000 50 00;", "1 first\n2 late 2147483648\nend 2\n"},
+    {"gaps", "4c433032 00000000 50 00; 4c433032 80000000 50 00;", "1 first\n2 restarted 2147483648\nend 2\n"},
     {"gaps", A B, "1 first\n2 same\nend 2\n"},
     {"lmcp_list", "4c4d4350 0000000f " PING " 0000037b;", "1 list 1 1\nend 1\n"},
     {"lmcp_list", "4c4d4350 0000000f " PING " 0000037c; 4c4d4350 0000000f " PING " 00000000;", "1 refused 22\n2 list 1 1\nend 2\n"},
