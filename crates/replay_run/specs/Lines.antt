@@ -6,7 +6,7 @@ use Rattle.steps.specs.declared.Answer.{Answer}
 use Rattle.steps.specs.declared.Answer.the-variants.{Refused, Kept, Repeat, Delivered}
 use Rattle.steps.specs.declared.Emptied.{Emptied}
 use Rattle.steps.specs.declared.Emptied.the-variants.{Nobody, Was}
-use Rattle.receiver.specs.View.{view}
+use Rattle.receiver_state.specs.View.{view}
 use Rattle.receiver.specs.Calls.{received}
 use Rattle.text.specs.Text.{decimal}
 use Rattle.output.specs.Output.{Pours}
