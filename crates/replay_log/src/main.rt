@@ -7,8 +7,8 @@ use log::Step;
 use receiver::Call;
 use stream::All;
 
-// The bytes of the store: a slot takes the largest payload.
-const STORE: usize = slots::SLOTS * datagram::MAX_PAYLOAD;
+// The bytes of the store: each of the eight slots takes a payload of 262,144.
+const STORE: usize = 2097152;
 
 // Entry n: its datagram is received from its sender, and its line goes out. Answers the place after it.
 fn one_more(

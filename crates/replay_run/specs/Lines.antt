@@ -27,6 +27,10 @@ emptiedText (Was key) =
 abbrev pub line : ℕ → Answer → Emptied → List ℕ
 line n answer emptied = decimal n ++ answerText answer ++ emptiedText emptied
 
+-- whose datagrams `replay` takes them all for
+abbrev pub onlySender : ℕ
+onlySender = 0
+
 -- Datagram d of a sender was received over the lent state, names, store and ledger, and line n says the outcome.
 pub record Replayed (w n store ledger : List ℕ) (sender : ℕ) (d : List ℕ) (number : ℕ) (out : List ℕ) (at : ℕ) (w′ n′ store′ ledger′ out′ : List ℕ) (r : ℕ) : Type 0 where
   pub outcome : Outcome

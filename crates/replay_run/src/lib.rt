@@ -4,7 +4,7 @@ ghost use mathlib.Core.Path.{_≡_};
 ghost use mathlib.Core.List.{[], _∷_, _++_};
 ghost use lib.ListN.{length};
 ghost use Rattle.output.specs.Output.{Pours};
-ghost use Rattle.replay_run.specs.Lines.{answerText, emptiedText, line, Replayed};
+ghost use Rattle.replay_run.specs.Lines.{answerText, emptiedText, line, onlySender, Replayed};
 use receiver::Call;
 use receiver::Outcome;
 use steps::Answer;
@@ -69,7 +69,7 @@ pub fn replay_one(
     pour_line(out, at, n, answer, emptied)
 }
 
-// In `replay` each is of sender 0.
+// In `replay` all are of one sender, 0.
 fn one_more(
     out: &mut [u8],
     at: usize,
@@ -80,7 +80,7 @@ fn one_more(
     ledger: &mut [u32],
     d: &[u8],
 ) -> usize
-    ensures { λ r. ⌜ Replayed (now (state .entry)) (now (names .entry)) (now (store .entry)) (now (ledger .entry)) 0 (now (d .entry)) n (now (out .entry)) at (now (state .exit)) (now (names .exit)) (now (store .exit)) (now (ledger .exit)) (now (out .exit)) r ⌝ }
+    ensures { λ r. ⌜ Replayed (now (state .entry)) (now (names .entry)) (now (store .entry)) (now (ledger .entry)) onlySender (now (d .entry)) n (now (out .entry)) at (now (state .exit)) (now (names .exit)) (now (store .exit)) (now (ledger .exit)) (now (out .exit)) r ⌝ }
 {
     replay_one(out, at, n, state, names, store, ledger, 0, d)
 }
