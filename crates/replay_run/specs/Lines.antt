@@ -1,13 +1,12 @@
 -- The lines of the program `replay`, in ASCII, and what they are about. Definitions only.
-use mathlib.Core.Path.{_≡_}
 use mathlib.Core.List.{List, [], _∷_, _++_}
 use Prim.Native.Nat.{ℕ}
 use Rattle.steps.specs.declared.Answer.{Answer}
 use Rattle.steps.specs.declared.Answer.the-variants.{Refused, Kept, Repeat, Delivered}
 use Rattle.steps.specs.declared.Emptied.{Emptied}
 use Rattle.steps.specs.declared.Emptied.the-variants.{Nobody, Was}
-use Rattle.receiver_state.specs.View.{view}
-use Rattle.receiver.specs.Calls.{received}
+use Rattle.receiver.specs.declared.Outcome.{Outcome}
+use Rattle.receiver.specs.Calls.{Receives}
 use Rattle.text.specs.Text.{decimal}
 use Rattle.output.specs.Output.{Pours}
 
@@ -28,9 +27,12 @@ emptiedText (Was key) =
 abbrev pub line : ℕ → Answer → Emptied → List ℕ
 line n answer emptied = decimal n ++ answerText answer ++ emptiedText emptied
 
--- Datagram d of sender 0 was received over the lent state, names, store and ledger, as the step list has it, and line n says so.
-pub record Replayed (w n store ledger d : List ℕ) (number : ℕ) (out : List ℕ) (at : ℕ) (w′ n′ store′ ledger′ out′ : List ℕ) (r : ℕ) : Type 0 where
-  pub machine : view w′ n′ ≡ received w n store ledger 0 d .machine
-  pub stored : store′ ≡ received w n store ledger 0 d .store
-  pub entered : ledger′ ≡ received w n store ledger 0 d .ledger
-  pub said : Pours out at (line number (received w n store ledger 0 d .answer) (received w n store ledger 0 d .emptied)) out′ r
+-- whose datagrams `replay` takes them all for
+abbrev pub onlySender : ℕ
+onlySender = 0
+
+-- Datagram d of a sender was received over the lent state, names, store and ledger, and line n says the outcome.
+pub record Replayed (w n store ledger : List ℕ) (sender : ℕ) (d : List ℕ) (number : ℕ) (out : List ℕ) (at : ℕ) (w′ n′ store′ ledger′ out′ : List ℕ) (r : ℕ) : Type 0 where
+  pub outcome : Outcome
+  pub heard : Receives w n store ledger sender d outcome w′ n′ store′ ledger′
+  pub said : Pours out at (line number (outcome .answer) (outcome .emptied)) out′ r

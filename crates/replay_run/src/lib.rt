@@ -1,10 +1,10 @@
 // What the program `replay` does. Standard input holds datagrams, each after a 2-byte big-endian length, from one sender; each is given
-// to a fresh receiver, and a line says what it answers.
+// to a fresh receiver, and a line says what it answers. `replay_log` shares the lines.
 ghost use mathlib.Core.Path.{_≡_};
 ghost use mathlib.Core.List.{[], _∷_, _++_};
 ghost use lib.ListN.{length};
 ghost use Rattle.output.specs.Output.{Pours};
-ghost use Rattle.replay_run.specs.Lines.{answerText, emptiedText, line, Replayed};
+ghost use Rattle.replay_run.specs.Lines.{answerText, emptiedText, line, onlySender, Replayed};
 use receiver::Call;
 use receiver::Outcome;
 use steps::Answer;
@@ -49,7 +49,27 @@ fn pour_line(out: &mut [u8], at: usize, n: u64, answer: Answer, emptied: Emptied
     pour_emptied(out, b, emptied)
 }
 
-// Datagram n is received, and its line goes out. Answers the place after it.
+// Datagram n, of a sender, is received, and its line goes out. Answers the place after it.
+pub fn replay_one(
+    out: &mut [u8],
+    at: usize,
+    n: u64,
+    state: &mut [u64],
+    names: &mut [u8],
+    store: &mut [u8],
+    ledger: &mut [u32],
+    sender: u64,
+    d: &[u8],
+) -> usize
+    ensures { λ r. ⌜ Replayed (now (state .entry)) (now (names .entry)) (now (store .entry)) (now (ledger .entry)) sender (now (d .entry)) n (now (out .entry)) at (now (state .exit)) (now (names .exit)) (now (store .exit)) (now (ledger .exit)) (now (out .exit)) r ⌝ }
+{
+    let outcome = receiver::receive(state, names, store, ledger, sender, d);
+    let answer = outcome.answer;
+    let emptied = outcome.emptied;
+    pour_line(out, at, n, answer, emptied)
+}
+
+// In `replay` all are of one sender, 0.
 fn one_more(
     out: &mut [u8],
     at: usize,
@@ -60,12 +80,9 @@ fn one_more(
     ledger: &mut [u32],
     d: &[u8],
 ) -> usize
-    ensures { λ r. ⌜ Replayed (now (state .entry)) (now (names .entry)) (now (store .entry)) (now (ledger .entry)) (now (d .entry)) n (now (out .entry)) at (now (state .exit)) (now (names .exit)) (now (store .exit)) (now (ledger .exit)) (now (out .exit)) r ⌝ }
+    ensures { λ r. ⌜ Replayed (now (state .entry)) (now (names .entry)) (now (store .entry)) (now (ledger .entry)) onlySender (now (d .entry)) n (now (out .entry)) at (now (state .exit)) (now (names .exit)) (now (store .exit)) (now (ledger .exit)) (now (out .exit)) r ⌝ }
 {
-    let outcome = receiver::receive(state, names, store, ledger, 0, d);
-    let answer = outcome.answer;
-    let emptied = outcome.emptied;
-    pour_line(out, at, n, answer, emptied)
+    replay_one(out, at, n, state, names, store, ledger, 0, d)
 }
 
 // One line a datagram, and the last line.

@@ -1,0 +1,19 @@
+-- Nothing is asked of the two buffers but their lengths, which are those written. Assumes nothing.
+use Rattle.replay_log.proofs.Zeros.{zeros}
+use Rattle.replay_log.proofs.main.Statement.{statement}
+use Rattle.replay_log.proofs.main.Tie as tie
+
+slice-aggregate-run : tie.Need-slice-aggregate-run
+slice-aggregate-run c = zeros _
+
+slice-aggregate-run-2 : tie.Need-slice-aggregate-run-2
+slice-aggregate-run-2 c = zeros _
+
+run-requires : tie.Need-run-requires
+run-requires c κs = tt
+
+returns : tie.Need-returns
+returns c = tt
+
+pub main-spec : {M : Type 1} → statement M
+main-spec = tie.close (tie.spec slice-aggregate-run slice-aggregate-run-2 run-requires returns)

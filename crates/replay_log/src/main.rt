@@ -1,0 +1,85 @@
+// Replays a flight that was kept. Standard input is a log; each datagram is given, from its entry's sender, to a fresh receiver, and a line
+// says what it answers, as in `replay`; the last line says how many entries there are, or the refusal that ended them.
+ghost use Rattle.log.specs.Told.{entrySaid};
+ghost use Rattle.replay_run.specs.Lines.{Replayed};
+use log::EntryAt;
+use log::Step;
+use receiver::Call;
+use stream::All;
+
+// The bytes of the store: each of the eight slots takes a payload of 262,144.
+const STORE: usize = 2097152;
+
+// Entry n: its datagram is received from its sender, and its line goes out. Answers the place after it.
+fn one_more(
+    out: &mut [u8],
+    at: usize,
+    n: u64,
+    state: &mut [u64],
+    names: &mut [u8],
+    store: &mut [u8],
+    ledger: &mut [u32],
+    log: &[u8],
+    entry: EntryAt,
+) -> usize
+    ensures { λ r. ⌜ Replayed (now (state .entry)) (now (names .entry)) (now (store .entry)) (now (ledger .entry)) (entry .sender) (entrySaid (now (log .entry)) entry .datagram) n (now (out .entry)) at (now (state .exit)) (now (names .exit)) (now (store .exit)) (now (ledger .exit)) (now (out .exit)) r ⌝ }
+{
+    let d = wire::part(log, entry.at, entry.len);
+    replay_run::replay_one(out, at, n, state, names, store, ledger, entry.sender, d)
+}
+
+// One line an entry, and the last line.
+fn replayed(
+    log: &[u8],
+    out: &mut [u8],
+    state: &mut [u64],
+    names: &mut [u8],
+    store: &mut [u8],
+    ledger: &mut [u32],
+) {
+    let mut place: usize = 0;
+    let mut at: usize = 0;
+    let mut n: u64 = 0;
+    while n < stream::MANY {
+        let step = log::read_on(log, place);
+        let Step::Found(entry) = step else {
+            let end = log_lines::pour_last(out, at, n, step);
+            output::write_out(out, end);
+            return;
+        };
+        n += 1;
+        place = entry.next;
+        at = one_more(out, at, n, state, names, store, ledger, log, entry);
+    }
+}
+
+// Over a fresh receiver. A state of the receiver's own lengths is opened, so the refusal, after which nothing would be replayed, does not
+// come.
+fn afresh(log: &[u8], out: &mut [u8]) {
+    let mut state = [0u64; receiver::STATE_WORDS];
+    let mut names = [0u8; receiver::NAME_BYTES];
+    let mut store = [0u8; STORE];
+    let mut ledger = [0u32; receiver::LEDGER];
+    let opened = receiver::open(&mut state, &mut names, STORE);
+    if let Call::Done = opened {
+        replayed(log, out, &mut state, &mut names, &mut store, &mut ledger);
+    }
+}
+
+// Replays the whole input, or says that it is longer than the buffer.
+fn run(buf: &mut [u8], out: &mut [u8]) {
+    let all = stream::read_all(buf);
+    match all {
+        All::Whole(n) => afresh(wire::part(buf, 0, n), out),
+        All::Longer => {
+            let end = log_lines::pour_longer(out, 0, buf.len() as u64);
+            output::write_out(out, end);
+        }
+    }
+}
+
+fn main() {
+    let mut buf = [0u8; log_lines::HOLDS];
+    let mut out = [0u8; 65536];
+    run(&mut buf, &mut out);
+}
