@@ -1,0 +1,5 @@
+pub mod Cases
+pub mod Walks
+pub mod Runs
+pub mod Trips
+pub mod Once
