@@ -3,3 +3,4 @@ pub mod Walks
 pub mod Runs
 pub mod Trips
 pub mod Once
+pub mod Longest
