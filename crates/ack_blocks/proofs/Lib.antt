@@ -4,3 +4,4 @@ pub mod Runs
 pub mod Trips
 pub mod Once
 pub mod Longest
+pub mod Shortest

@@ -1,12 +1,11 @@
 -- Each run is as long as it can be: between two blocks of a rising list at least one number is missing. Assumes nothing.
-use mathlib.Core.Path.{_≡_, refl, ap, sym, _∙_, subst}
-use mathlib.Core.Bool.{Bool, true, false}
+use mathlib.Core.Path.{_≡_, refl}
+use mathlib.Core.Bool.{true}
 use mathlib.Core.List.{List, [], _∷_}
 use Prim.Native.Nat.{ℕ, _+_, _-_, _<_}
 use native.Mathlib.Omega.{arith}
 use lib.Dec.{eqb, ltb}
 use borrow.Author.Tests.{eqb-true, eqb-false, ltb-true}
-use Rattle.wire.specs.Choice.{pick}
 use Rattle.wire.proofs.Choices.{pick-all, and-l, and-r}
 use Rattle.ack_blocks.specs.Blocks.{Block, single, run, map}
 use Rattle.ack_blocks.specs.Write.{rising, risingFrom, oneBlock, blocksFrom, blocksOf}

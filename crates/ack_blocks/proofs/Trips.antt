@@ -142,7 +142,7 @@ blocks-good (x ∷ xs) a = from-good x x xs (omega arith) (a 0) (λ i. a (suc i)
 
 -- ---- they acknowledge the numbers of the list
 
-one-number : (f n : ℕ) → eqb n f ≡ between f f n
+pub one-number : (f n : ℕ) → eqb n f ≡ between f f n
 one-number f n = elim (decLe f n) [
   | yes h ↦ elim (decLe n f) [
     | yes k ↦ rw (le-leb f n h, le-leb n f k, eq-eqb n f (omega arith))
@@ -158,7 +158,7 @@ one-has f l n = go (eqb f l) refl
     go true e = one-number f n ∙ ap (λ (x : ℕ). between f x n) (eqb-true f l e)
     go false e = refl
 
-one-more : (f l n : ℕ) → f ≤ l → between f (l + 1) n ≡ (between f l n || eqb n (l + 1))
+pub one-more : (f l n : ℕ) → f ≤ l → between f (l + 1) n ≡ (between f l n || eqb n (l + 1))
 one-more f l n h = elim (decLe f n) [
   | yes p ↦ elim (decLe n l) [
     | yes q ↦ rw (le-leb f n p, le-leb n l q, le-leb n (l + 1) (omega arith))
@@ -170,7 +170,7 @@ one-more f l n h = elim (decLe f n) [
   | no p ↦ rw (lt-leb f n (omega arith), ne-eqb n (l + 1) (λ e. omega arith))
 ]
 
-or-assoc : (a b c : Bool) → ((a || b) || c) ≡ (a || (b || c))
+pub or-assoc : (a b c : Bool) → ((a || b) || c) ≡ (a || (b || c))
 or-assoc true b c = refl
 or-assoc false b c = refl
 
