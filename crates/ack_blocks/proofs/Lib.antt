@@ -5,3 +5,4 @@ pub mod Trips
 pub mod Once
 pub mod Longest
 pub mod Shortest
+pub mod Works
