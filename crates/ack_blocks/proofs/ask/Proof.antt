@@ -1,0 +1,22 @@
+-- Refusal 77 first. Assumes nothing.
+use mathlib.Core.Path.{sym, _∙_}
+use Rattle.ack_blocks.proofs.Walks.{asked-long, asked-fits}
+use borrow.Author.Needs.{needs}
+use Rattle.ack_blocks.proofs.ask.Statement.{statement}
+use Rattle.ack_blocks.proofs.ask.Tie as tie
+
+returns : tie.Need-returns
+returns c =
+    let a = c .before .before .args in
+    sym (asked-long (a .b .now) (a .n) (c .if1 .taken))
+
+walk-requires : tie.Need-walk-requires
+walk-requires c κs = search needs
+
+returns-2 : tie.Need-returns-2
+returns-2 c =
+    let a = c .before .before .before .args in
+    c .walk .ensures ∙ sym (asked-fits (a .b .now) (a .n) (c .before .if1 .left))
+
+pub ask-spec : {M : Type 1} → statement M
+ask-spec = tie.close (tie.spec returns walk-requires returns-2)

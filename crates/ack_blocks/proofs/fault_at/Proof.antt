@@ -1,0 +1,76 @@
+-- What is wrong with a block, refusals 71, 70, 72, 73, 74 in that order. Assumes nothing.
+use mathlib.Core.Path.{sym, _∙_}
+use native.Mathlib.Omega.{arith}
+use lib.ListN.{drop, length-drop}
+use Rattle.ack_blocks.proofs.Cases.{fault-kind, fault-cut, fault-run, fault-map, fault-none}
+use borrow.Author.Needs.{needs}
+use Rattle.ack_blocks.proofs.fault_at.Statement.{statement}
+use Rattle.ack_blocks.proofs.fault_at.Tie as tie
+
+kind-at-requires : tie.Need-kind-at-requires
+kind-at-requires c κs = search needs
+
+returns : tie.Need-returns
+returns c =
+    let a = c .before .before .before .args in
+    let s = drop (a .at) (a .b .now) in
+    let k = c .before in
+    sym (fault-kind s (omega (arith, k .kind-at .ensures)))
+
+sub-if2 : tie.Need-sub-if2
+sub-if2 c = search needs
+
+size-at-requires : tie.Need-size-at-requires
+size-at-requires c κs = search needs
+
+returns-2 : tie.Need-returns-2
+returns-2 c =
+    let a = c .before .before .before .before .before .args in
+    let s = drop (a .at) (a .b .now) in
+    let k = c .before .before .before in
+    sym (fault-cut s (omega (arith, k .kind-at .ensures)) (omega (arith, c .before .size-at .ensures .0, length-drop (a .at) (a .b .now))))
+
+run-fault-requires : tie.Need-run-fault-requires
+run-fault-requires c κs = search needs
+
+returns-3 : tie.Need-returns-3
+returns-3 c =
+    let a = c .before .before .before .before .before .before .before .args in
+    let s = drop (a .at) (a .b .now) in
+    let k = c .before .before .before .before .before in
+    let z = c .before .before .before in
+    c .run-fault .ensures ∙ sym (fault-run s (omega (arith, k .kind-at .ensures)) (omega (arith, z .size-at .ensures .0, length-drop (a .at) (a .b .now))) (sym (k .kind-at .ensures) ∙ c .before .if3 .taken))
+
+map-fault-requires : tie.Need-map-fault-requires
+map-fault-requires c κs = search needs
+
+returns-4 : tie.Need-returns-4
+returns-4 c =
+    let a = c .before .before .before .before .before .before .before .before .args in
+    let s = drop (a .at) (a .b .now) in
+    let k = c .before .before .before .before .before .before in
+    let z = c .before .before .before .before in
+    c .map-fault .ensures ∙ sym (fault-map s (omega (arith, k .kind-at .ensures)) (omega (arith, z .size-at .ensures .0, length-drop (a .at) (a .b .now))) (λ h. c .before .before .if3 .left (k .kind-at .ensures ∙ h)) (sym (k .kind-at .ensures) ∙ c .before .if4 .taken))
+
+returns-5 : tie.Need-returns-5
+returns-5 c =
+    let a = c .before .before .before .before .before .before .before .args in
+    let s = drop (a .at) (a .b .now) in
+    let k = c .before .before .before .before .before in
+    let z = c .before .before .before in
+    sym (fault-none s (omega (arith, k .kind-at .ensures)) (omega (arith, z .size-at .ensures .0, length-drop (a .at) (a .b .now))) (λ h. c .before .if3 .left (k .kind-at .ensures ∙ h)) (λ h. c .if4 .left (k .kind-at .ensures ∙ h)))
+
+pub fault-at-spec : {M : Type 1} → statement M
+fault-at-spec =
+    tie.close
+    (tie.spec
+    kind-at-requires
+    returns
+    sub-if2
+    size-at-requires
+    returns-2
+    run-fault-requires
+    returns-3
+    map-fault-requires
+    returns-4
+    returns-5)

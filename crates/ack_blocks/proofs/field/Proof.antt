@@ -1,0 +1,28 @@
+-- A number of the block at a place. Assumes nothing.
+use mathlib.Core.Path.{_≡_, ap, sym, _∙_, subst}
+use Prim.Native.Nat.{ℕ, _+_, _^_, _<_, min}
+use native.Mathlib.Omega.{arith}
+use lib.ListN.{drop}
+use lib.Seq.{drop-drop}
+use Rattle.wire.specs.Bytes.{be}
+use borrow.Author.Needs.{needs}
+use Rattle.ack_blocks.proofs.field.Statement.{statement}
+use Rattle.ack_blocks.proofs.field.Tie as tie
+
+add-number : tie.Need-add-number
+add-number c = search needs
+
+number-requires : tie.Need-number-requires
+number-requires c κs = search needs
+
+returns : tie.Need-returns
+returns c =
+    let a = c .before .before .args in
+    let k = c .number in
+    let e : min (a .w) 8 ≡ a .w = omega arith in (
+      k .ensures .value ∙ ap (λ (w : ℕ). be w (drop (a .at + a .from) (a .b .now))) e ∙ ap (be (a .w)) (sym (drop-drop (a .from) (a .at) (a .b .now))),
+      subst (λ (w : ℕ). k .result < 256 ^ w) e (k .ensures .fits),
+    )
+
+pub field-spec : {M : Type 1} → statement M
+field-spec = tie.close (tie.spec add-number number-requires returns)

@@ -1,0 +1,60 @@
+-- The bit of a number, by its place. Assumes nothing.
+use mathlib.Core.Path.{ap, sym, _∙_}
+use Prim.Native.Nat.{ℕ, _-_, _^_, _%_, _/_, _<_}
+use native.Mathlib.Omega.{arith}
+use lib.ListN.{drop}
+use lib.Dec.{eqb}
+use Rattle.ack_blocks.specs.Read.{bitsIn, mapIn}
+use Rattle.ack_blocks.proofs.Cases.{map-before, map-past, map-bit, map-byte}
+use borrow.Author.Needs.{needs}
+use Rattle.ack_blocks.proofs.map_has.Statement.{statement}
+use Rattle.ack_blocks.proofs.map_has.Tie as tie
+
+returns : tie.Need-returns
+returns c =
+    let a = c .before .before .args in
+    let s = drop (a .at) (a .b .now) in
+    sym (map-before (a .first) (bitsIn s) (mapIn s) (a .n) (c .if1 .taken))
+
+bits-at-requires : tie.Need-bits-at-requires
+bits-at-requires c κs = search needs
+
+returns-2 : tie.Need-returns-2
+returns-2 c =
+    let a = c .before .before .before .before .args in
+    let s = drop (a .at) (a .b .now) in
+    sym (map-past (a .first) (bitsIn s) (mapIn s) (a .n) (c .before .before .if1 .left) (omega (arith, c .before .bits-at .ensures .0)))
+
+add-field : tie.Need-add-field
+add-field c = search needs
+
+field-requires : tie.Need-field-requires
+field-requires c κs = search needs
+
+sub-result : tie.Need-sub-result
+sub-result c = search needs
+
+shr-result : tie.Need-shr-result
+shr-result c = search needs
+
+returns-3 : tie.Need-returns-3
+returns-3 c =
+    let a = c .before .before .before .before .before .args in
+    let s = drop (a .at) (a .b .now) in
+    let i = a .n - a .first in
+    let below : i < bitsIn s = omega (arith, c .before .before .bits-at .ensures .0) in
+    let byte = c .field .ensures .0 ∙ map-byte s (i / 8) (omega arith) in
+    sym (map-bit (a .first) (bitsIn s) (mapIn s) (a .n) (c .before .before .before .if1 .left) below ∙ ap (λ (x : ℕ). eqb (x / 2 ^ (7 - i % 8) % 2) 1) (sym byte))
+
+pub map-has-spec : {M : Type 1} → statement M
+map-has-spec =
+    tie.close
+    (tie.spec
+    returns
+    bits-at-requires
+    returns-2
+    add-field
+    field-requires
+    sub-result
+    shr-result
+    returns-3)

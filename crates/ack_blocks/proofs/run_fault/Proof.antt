@@ -1,0 +1,30 @@
+-- Last below first. Assumes nothing.
+use mathlib.Core.Path.{sym}
+use native.Mathlib.Omega.{arith}
+use lib.ListN.{drop}
+use borrow.Author.Tests.{lt-ltb, le-ltb}
+use Rattle.ack_blocks.specs.Read.{firstIn, lastIn}
+use borrow.Author.Needs.{needs}
+use Rattle.ack_blocks.proofs.run_fault.Statement.{statement}
+use Rattle.ack_blocks.proofs.run_fault.Tie as tie
+
+field-requires : tie.Need-field-requires
+field-requires c κs = search needs
+
+field-requires-2 : tie.Need-field-requires-2
+field-requires-2 c κs = search needs
+
+returns : tie.Need-returns
+returns c =
+    let a = c .before .before .before .before .args in
+    let s = drop (a .at) (a .b .now) in
+    sym (rw (lt-ltb (lastIn s) (firstIn s) (omega (arith, c .before .field2 .ensures .0, c .before .before .field .ensures .0))))
+
+returns-2 : tie.Need-returns-2
+returns-2 c =
+    let a = c .before .before .before .before .args in
+    let s = drop (a .at) (a .b .now) in
+    sym (rw (le-ltb (lastIn s) (firstIn s) (omega (arith, c .before .field2 .ensures .0, c .before .before .field .ensures .0))))
+
+pub run-fault-spec : {M : Type 1} → statement M
+run-fault-spec = tie.close (tie.spec field-requires field-requires-2 returns returns-2)

@@ -1,0 +1,88 @@
+-- The loop: what was found, and what the blocks left acknowledge, is the answer. Assumes nothing.
+use mathlib.Core.Path.{_≡_, ap, sym, _∙_}
+use Prim.Native.Nat.{_+_, _-_}
+use native.Mathlib.Omega.{arith}
+use lib.ListN.{length, drop}
+use mathlib.Core.Bool.{Bool, _||_}
+use Rattle.ack_blocks.specs.Read.{gives, refuses, blocksIn, told}
+use Rattle.ack_blocks.specs.Walk.{also}
+use Rattle.ack_blocks.proofs.Walks.{also-none, walk-next, walk-bad, walk-end}
+use borrow.Author.Needs.{needs}
+use Rattle.ack_blocks.proofs.walk.Statement.{statement}
+use Rattle.ack_blocks.proofs.walk.Tie as tie
+
+abbrev Inv-loop : tie.InvT-loop
+Inv-loop b n found₀ at₀ found at = told n (blocksIn b) ≡ also found (told n (blocksIn (drop at b)))
+
+abbrev μ-loop : tie.MeasureT-loop
+μ-loop b n found₀ at₀ found at = length b - at
+
+loop-holds : tie.Need-loop-holds Inv-loop μ-loop
+loop-holds c =
+    let a = c .before .args in
+    also-none (told (a .n) (blocksIn (a .b .now)))
+
+fault-at-requires : tie.Need-fault-at-requires Inv-loop μ-loop
+fault-at-requires c κs = record { place = omega arith; fits = omega arith }
+
+returns : tie.Need-returns Inv-loop μ-loop
+returns c =
+    let a = c .before .before .before .before .before .args in
+    let l = c .before .before .before .loop in
+    let e = c .before .fault-at .ensures in
+    sym (l .inv ∙ walk-bad (a .b .now) (l .found) (a .n) (l .at) (c .before .before .loop-test .taken) (λ h. c .if1 .taken (e ∙ h)) ∙ ap refuses (sym e))
+
+has-at-requires : tie.Need-has-at-requires Inv-loop μ-loop
+has-at-requires c κs = search needs
+
+either-of-requires : tie.Need-either-of-requires Inv-loop μ-loop
+either-of-requires c κs = search needs
+
+size-at-requires : tie.Need-size-at-requires Inv-loop μ-loop
+size-at-requires c κs = search needs
+
+add-at : tie.Need-add-at Inv-loop μ-loop
+add-at c = search needs
+
+loop-less : tie.Need-loop-less Inv-loop μ-loop
+loop-less c = search needs
+
+loop-again : tie.Need-loop-again Inv-loop μ-loop
+loop-again c =
+    let a = c .before .before .before .before .before .before .before .before .args in
+    let l = c .before .before .before .before .before .before .loop in
+    let t = c .before .before .before .before .before in
+    let e = c .before .before .before .before .fault-at .ensures in
+    let f = c .before .either-of .ensures ∙ ap (λ (t : Bool). l .found || t) (c .before .before .has-at .ensures) in
+    l .inv ∙ walk-next (a .b .now) (l .found) (a .n) (l .at) (t .loop-test .taken) (sym e ∙ c .before .before .before .if1 .left)
+    ∙ (λ i. also (sym f i) (told (a .n) (blocksIn (drop (l .at + sym (c .size-at .ensures .0) i) (a .b .now)))))
+
+returns-2 : tie.Need-returns-2 Inv-loop μ-loop
+returns-2 c =
+    let a = c .before .before .before .before .args in
+    let l = c .before .before .loop in
+    sym (l .inv ∙ walk-end (a .b .now) (l .found) (a .n) (l .at) (c .before .loop-test .left) ∙ ap gives (c .if2 .taken))
+
+returns-3 : tie.Need-returns-3 Inv-loop μ-loop
+returns-3 c =
+    let a = c .before .before .before .before .args in
+    let l = c .before .before .loop in
+    sym (l .inv ∙ walk-end (a .b .now) (l .found) (a .n) (l .at) (c .before .loop-test .left) ∙ ap gives (c .if2 .left))
+
+pub walk-spec : {M : Type 1} → statement M
+walk-spec =
+    tie.close
+    (tie.spec
+    Inv-loop
+    μ-loop
+    loop-holds
+    fault-at-requires
+    returns
+    has-at-requires
+    either-of-requires
+    size-at-requires
+    add-at
+    loop-less
+    loop-again
+    returns-2
+    returns-3)

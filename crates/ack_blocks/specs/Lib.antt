@@ -1,0 +1,5 @@
+pub mod Limits
+pub mod Blocks
+pub mod Read
+pub mod Write
+pub mod Walk

@@ -1,0 +1,23 @@
+-- The front of a list lies within it. Assumes nothing.
+use mathlib.Core.Path.{sym}
+use lib.Seq.{length-take-le}
+use native.Mathlib.Omega.{arith}
+use Rattle.ack_bytes.proofs.Taken.{take-least}
+use borrow.Author.Needs.{needs}
+use Rattle.ack_bytes.proofs.front.Statement.{statement}
+use Rattle.ack_bytes.proofs.front.Tie as tie
+
+least-requires : tie.Need-least-requires
+least-requires c κs = search needs
+
+slice-aggregate-result : tie.Need-slice-aggregate-result
+slice-aggregate-result c = sym (length-take-le _ _ (let e = c .before .least .ensures in omega arith))
+
+returns : tie.Need-returns
+returns c =
+    let l = c .before in
+    let a = l .before .before .args in
+    take-least (a .list .now) (a .n) (l .least .result) (l .least .ensures)
+
+pub front-spec : {M : Type 1} → statement M
+front-spec = tie.close (tie.spec least-requires slice-aggregate-result returns)

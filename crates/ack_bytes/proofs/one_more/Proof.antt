@@ -1,0 +1,99 @@
+-- A record's line. Assumes nothing.
+use mathlib.Core.Path.{_≡_, ap, sym, _∙_}
+use Prim.Native.Nat.{ℕ, _/_, _≤_}
+use native.Mathlib.Omega.{arith}
+use lib.ListN.{length, take}
+use lib.Seq.{sets}
+use Rattle.output.proofs.Sending.{pours-then, pours-is}
+use Rattle.ack_bytes.specs.Lines.{listLimit, numbersOf}
+use Rattle.ack_bytes.proofs.Taken.{length-numbers, taken-front}
+use Rattle.ack_bytes.proofs.Records.{line-longer, line-cut, line-written}
+use borrow.Author.Needs.{needs}
+use Rattle.ack_bytes.proofs.one_more.Statement.{statement}
+use Rattle.ack_bytes.proofs.one_more.Tie as tie
+
+pour-decimal-requires : tie.Need-pour-decimal-requires
+pour-decimal-requires c κs = search needs
+
+pour-longer-requires : tie.Need-pour-longer-requires
+pour-longer-requires c κs = search needs
+
+same-length : tie.Need-same-length
+same-length c = search needs
+
+returns : tie.Need-returns
+returns c =
+    let a = c .before .before .before .before .before .before .before .before .before .before .before .before .before .args in
+    pours-is (pours-then (c .before .before .before .before .before .before .before .pour-decimal .ensures) (c .before .before .pour-longer .ensures)) (line-longer (a .n) (a .body .now) (c .before .before .before .before .if1 .taken))
+
+pour-refused-requires : tie.Need-pour-refused-requires
+pour-refused-requires c κs = search needs
+
+same-length-2 : tie.Need-same-length-2
+same-length-2 c = search needs
+
+returns-2 : tie.Need-returns-2
+returns-2 c =
+    let a = c .before .before .before .before .before .before .before .before .before .before .before .before .before .before .args in
+    pours-is (pours-then (c .before .before .before .before .before .before .before .before .pour-decimal .ensures) (c .before .before .pour-refused .ensures)) (line-cut (a .n) (a .body .now) (c .before .before .before .before .before .if1 .left) (c .before .before .before .before .if2 .taken))
+
+take-list-requires : tie.Need-take-list-requires
+take-list-requires c κs = search needs
+
+front-requires : tie.Need-front-requires
+front-requires c κs = search needs
+
+write-blocks-requires : tie.Need-write-blocks-requires
+write-blocks-requires c κs = search needs
+
+pour-written-requires : tie.Need-pour-written-requires
+pour-written-requires c κs = search needs
+
+same-length-3 : tie.Need-same-length-3
+same-length-3 c = search needs
+
+same-length-4 : tie.Need-same-length-4
+same-length-4 c = search needs
+
+same-length-5 : tie.Need-same-length-5
+same-length-5 c = search needs
+
+returns-3 : tie.Need-returns-3
+returns-3 c =
+    let w = c .before .before .before .before .before .before .before in
+    let t = w .before .before .before .before .before .before in
+    let f = t .before .before in
+    let d = f .before .before .before .before in
+    let z = d .before .before .before .before .before .before in
+    let a = z .args in
+    let b = a .body .now in
+    let numbers = numbersOf (length b / 8) b in
+    let some : length numbers ≡ length b / 8 = length-numbers (length b / 8) b in
+    let held : length b / 8 ≤ listLimit = f .before .if1 .left in
+    let is =
+    w .before .before .front .ensures
+    ∙ (λ i. take (t .take-list .ensures .0 i) (t .take-list .ensures .1 i))
+    ∙ ap (λ (k : ℕ). take k (sets (a .list .now) 0 numbers)) (sym some)
+    ∙ taken-front (a .list .now) numbers (omega (arith, some, held, z .pre .0)) in
+    pours-is (pours-then (d .pour-decimal .ensures) (c .before .before .pour-written .ensures))
+    (line-written (a .n) b held (f .if2 .left) (a .blocks .now) _ (z .pre .1) _ _ is (w .write-blocks .ensures))
+
+pub one-more-spec : {M : Type 1} → statement M
+one-more-spec =
+    tie.close
+    (tie.spec
+    pour-decimal-requires
+    pour-longer-requires
+    same-length
+    returns
+    pour-refused-requires
+    same-length-2
+    returns-2
+    take-list-requires
+    front-requires
+    write-blocks-requires
+    pour-written-requires
+    same-length-3
+    same-length-4
+    same-length-5
+    returns-3)

@@ -1,0 +1,62 @@
+-- The blocks in hexadecimal, if there are any. Assumes nothing.
+use Rattle.output.proofs.Sending.{pours-then, pours-is}
+use Rattle.ack_bytes.proofs.Records.{bytes-none, bytes-some}
+use borrow.Author.Needs.{needs}
+use Rattle.ack_bytes.proofs.pour_bytes.Statement.{statement}
+use Rattle.ack_bytes.proofs.pour_bytes.Tie as tie
+
+slice-aggregate-pour : tie.Need-slice-aggregate-pour
+slice-aggregate-pour c = search needs
+
+pour-requires : tie.Need-pour-requires
+pour-requires c κs = search needs
+
+same-length : tie.Need-same-length
+same-length c = search needs
+
+returns : tie.Need-returns
+returns c =
+    let a = c .before .before .before .before .before .before .before .before .args in
+    pours-is (c .before .before .pour .ensures) (bytes-none (a .blocks .now) (c .before .before .before .before .before .if1 .taken))
+
+slice-aggregate-pour-2 : tie.Need-slice-aggregate-pour-2
+slice-aggregate-pour-2 c = search needs
+
+pour-requires-2 : tie.Need-pour-requires-2
+pour-requires-2 c κs = search needs
+
+pour-hex-requires : tie.Need-pour-hex-requires
+pour-hex-requires c κs = search needs
+
+slice-aggregate-pour-3 : tie.Need-slice-aggregate-pour-3
+slice-aggregate-pour-3 c = search needs
+
+pour-requires-3 : tie.Need-pour-requires-3
+pour-requires-3 c κs = search needs
+
+same-length-2 : tie.Need-same-length-2
+same-length-2 c = search needs
+
+returns-2 : tie.Need-returns-2
+returns-2 c =
+    let a = c .before .before .before .before .before .before .before .before .before .before .before .before .before .before .before .before .before .args in
+    let h = c .before .before .before .before .before .before .before in
+    let p = h .before .before .before .before in
+    pours-is (pours-then (pours-then (p .pour2 .ensures) (h .pour-hex .ensures)) (c .before .before .pour3 .ensures))
+    (bytes-some (a .blocks .now) (p .before .before .before .if1 .left))
+
+pub pour-bytes-spec : {M : Type 1} → statement M
+pour-bytes-spec =
+    tie.close
+    (tie.spec
+    slice-aggregate-pour
+    pour-requires
+    same-length
+    returns
+    slice-aggregate-pour-2
+    pour-requires-2
+    pour-hex-requires
+    slice-aggregate-pour-3
+    pour-requires-3
+    same-length-2
+    returns-2)

@@ -1,0 +1,53 @@
+-- What was written as text, by its cases. Assumes nothing.
+use mathlib.Core.Path.{ap, sym, _∙_}
+use Rattle.output.proofs.Sending.{pours-is}
+use Rattle.ack_bytes.specs.Lines.{bytesText, writtenText}
+use borrow.Author.Needs.{needs}
+use Rattle.ack_bytes.proofs.pour_written.Statement.{statement}
+use Rattle.ack_bytes.proofs.pour_written.Tie as tie
+
+enum-known-w : tie.Need-enum-known-w
+enum-known-w c = search needs
+
+part-requires : tie.Need-part-requires
+part-requires c κs = search needs
+
+pour-bytes-requires : tie.Need-pour-bytes-requires
+pour-bytes-requires c κs = search needs
+
+enum-known-w-2 : tie.Need-enum-known-w-2
+enum-known-w-2 c = search needs
+
+pour-refused-requires : tie.Need-pour-refused-requires
+pour-refused-requires c κs = search needs
+
+same-length : tie.Need-same-length
+same-length c = search needs
+
+returns : tie.Need-returns
+returns c =
+    let a = c .before .before .before .before .before .before .before .before .before .before .args in
+    pours-is (c .before .before .pour-bytes .ensures)
+    (ap bytesText (c .before .before .before .part .ensures) ∙ ap (writtenText (a .blocks .now)) (sym (c .before .before .before .before .before .before .w .given .1)))
+
+same-length-2 : tie.Need-same-length-2
+same-length-2 c = search needs
+
+returns-2 : tie.Need-returns-2
+returns-2 c =
+    let a = c .before .before .before .before .before .before .before .before .before .args in
+    pours-is (c .before .before .pour-refused .ensures) (ap (writtenText (a .blocks .now)) (sym (c .before .before .before .before .before .w2 .given .1)))
+
+pub pour-written-spec : {M : Type 1} → statement M
+pour-written-spec =
+    tie.close
+    (tie.spec
+    enum-known-w
+    part-requires
+    pour-bytes-requires
+    enum-known-w-2
+    pour-refused-requires
+    same-length
+    returns
+    same-length-2
+    returns-2)

@@ -1,0 +1,74 @@
+-- The numbers of a record. The loop's invariant: the i numbers passed are stored. Assumes nothing.
+use mathlib.Core.Path.{_≡_, refl, ap, _∙_}
+use mathlib.Core.List.{List}
+use Prim.Native.Nat.{ℕ, _+_, _-_, _/_, _≤_}
+use native.Mathlib.Omega.{arith}
+use lib.ListN.{length, set}
+use lib.Seq.{sets, length-sets}
+use Rattle.ack_bytes.specs.Lines.{numbersOf}
+use Rattle.ack_bytes.proofs.Taken.{taken-one}
+use borrow.Author.Needs.{needs}
+use Rattle.ack_bytes.proofs.take_list.Statement.{statement}
+use Rattle.ack_bytes.proofs.take_list.Tie as tie
+
+abbrev Inv-loop : tie.InvT-loop
+Inv-loop body list₀ n i₀ list i = (i ≤ n) × (length list ≡ length list₀) × (list ≡ sets list₀ 0 (numbersOf i body))
+
+abbrev μ-loop : tie.MeasureT-loop
+μ-loop body list₀ n i₀ list i = n - i
+
+loop-holds : tie.Need-loop-holds Inv-loop μ-loop
+loop-holds c = (omega arith, refl, refl)
+
+mul-number : tie.Need-mul-number Inv-loop μ-loop
+mul-number c = search needs
+
+number-requires : tie.Need-number-requires Inv-loop μ-loop
+number-requires c κs = search needs
+
+mul-list : tie.Need-mul-list Inv-loop μ-loop
+mul-list c = search needs
+
+slice-write-list : tie.Need-slice-write-list Inv-loop μ-loop
+slice-write-list c = search needs
+
+add-i : tie.Need-add-i Inv-loop μ-loop
+add-i c = search needs
+
+loop-less : tie.Need-loop-less Inv-loop μ-loop
+loop-less c = search needs
+
+loop-again : tie.Need-loop-again Inv-loop μ-loop
+loop-again c =
+    let a = c .before .before .before .before .before .args in
+    let l = c .before .before .loop in
+    let b = a .body .now in
+    let q = ap (λ (x : List ℕ). set x (l .i) (c .number .result)) (l .inv .2) ∙ taken-one (a .list .now) (l .i) b (c .number .result) (c .number .ensures .value) in
+    (omega arith, ap length q ∙ length-sets (a .list .now) 0 (numbersOf (l .i + 1) b), q)
+
+same-length : tie.Need-same-length Inv-loop μ-loop
+same-length c = search needs
+
+returns : tie.Need-returns Inv-loop μ-loop
+returns c =
+    let a = c .before .before .before .before .args in
+    let l = c .before .loop in
+    let e : l .i ≡ length (a .body .now) / 8 = omega arith in
+    (refl, l .inv .2 ∙ ap (λ (k : ℕ). sets (a .list .now) 0 (numbersOf k (a .body .now))) e)
+
+pub take-list-spec : {M : Type 1} → statement M
+take-list-spec =
+    tie.close
+    (tie.spec
+    Inv-loop
+    μ-loop
+    loop-holds
+    mul-number
+    number-requires
+    mul-list
+    slice-write-list
+    add-i
+    loop-less
+    loop-again
+    same-length
+    returns)

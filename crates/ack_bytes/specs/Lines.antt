@@ -1,0 +1,54 @@
+-- The lines of the program `ack_bytes`, in ASCII, and what they are about. Definitions only.
+use mathlib.Core.List.{List, [], _∷_, _++_}
+use Prim.Native.Nat.{ℕ, zero, suc, _/_, _%_}
+use lib.Dec.{eqb, ltb}
+use lib.ListN.{length, take, drop}
+use Rattle.wire.specs.Choice.{pick}
+use Rattle.wire.specs.Bytes.{be}
+use Rattle.ack_blocks.specs.Limits.{maxBlocks, cut}
+use Rattle.ack_blocks.specs.Read.{Given, gives, refuses}
+use Rattle.ack_blocks.specs.Write.{bytesOf, writtenOf}
+use Rattle.ack_blocks.specs.declared.Written.{Written}
+use Rattle.ack_blocks.specs.declared.Written.the-variants.{Bytes, Refused}
+use Rattle.text.specs.Text.{decimal, hex}
+
+-- the numbers that the program holds
+abbrev pub listLimit : ℕ
+listLimit = 65_536
+
+-- the first n numbers of a record, of 8 bytes each
+abbrev pub numbersOf : ℕ → List ℕ → List ℕ
+numbersOf zero b = []
+numbersOf (suc n) b = be 8 b ∷ numbersOf n (drop 8 b)
+
+abbrev pub recordList : List ℕ → List ℕ
+recordList b = numbersOf (length b / 8) b
+
+-- where the numbers are whole, what the writer answers for an output of the longest block list
+unfoldable pub recordAnswer : List ℕ → Given ℕ
+recordAnswer b = pick (eqb (length b % 8) 0) (writtenOf (recordList b) maxBlocks) (refuses cut)
+
+-- " bytes 000000000000000001"; nothing after the word where there are no blocks
+abbrev pub bytesText : List ℕ → List ℕ
+bytesText [] = 32 ∷ 98 ∷ 121 ∷ 116 ∷ 101 ∷ 115 ∷ 10 ∷ []
+bytesText (x ∷ b) = (32 ∷ 98 ∷ 121 ∷ 116 ∷ 101 ∷ 115 ∷ 32 ∷ []) ++ hex (x ∷ b) ++ 10 ∷ []
+
+-- the blocks, or " refused 75", and the end of the line
+abbrev pub answerText : Given ℕ → List ℕ → List ℕ
+answerText (refuses number) b = (32 ∷ 114 ∷ 101 ∷ 102 ∷ 117 ∷ 115 ∷ 101 ∷ 100 ∷ 32 ∷ []) ++ decimal number ++ 10 ∷ []
+answerText (gives n) b = bytesText b
+
+-- the same of the code's answer and of the output that it left
+abbrev pub writtenText : List ℕ → Written → List ℕ
+writtenText blocks (Bytes k) = bytesText (take k blocks)
+writtenText blocks (Refused number) = (32 ∷ 114 ∷ 101 ∷ 102 ∷ 117 ∷ 115 ∷ 101 ∷ 100 ∷ 32 ∷ []) ++ decimal number ++ 10 ∷ []
+
+-- " longer than 65536 numbers"
+abbrev pub longerText : List ℕ
+longerText =
+    (32 ∷ 108 ∷ 111 ∷ 110 ∷ 103 ∷ 101 ∷ 114 ∷ 32 ∷ 116 ∷ 104 ∷ 97 ∷ 110 ∷ 32 ∷ []) ++ decimal listLimit
+    ++ 32 ∷ 110 ∷ 117 ∷ 109 ∷ 98 ∷ 101 ∷ 114 ∷ 115 ∷ 10 ∷ []
+
+-- line n
+unfoldable pub line : ℕ → List ℕ → List ℕ
+line n b = decimal n ++ pick (ltb listLimit (length b / 8)) longerText (answerText (recordAnswer b) (bytesOf (recordList b)))

@@ -1,0 +1,18 @@
+-- A record's answer by its cases. Assumes nothing.
+use mathlib.Core.Path.{_≡_}
+use mathlib.Core.List.{List}
+use Prim.Native.Nat.{ℕ, _≤_, _<_}
+use lib.ListN.{length, drop}
+use borrow.Author.Tests.{lt-ltb, le-ltb}
+use Rattle.wire.specs.Bytes.{be}
+use Rattle.ack_blocks.specs.Limits.{cut}
+use Rattle.ack_blocks.specs.Read.{refuses, asked}
+use Rattle.acks.specs.Lines.{numberLength, recordAnswer}
+
+pub answer-short : (b : List ℕ) → length b < numberLength → recordAnswer b ≡ refuses cut
+unfolding recordAnswer
+answer-short b h = rw (lt-ltb (length b) numberLength h)
+
+pub answer-whole : (b : List ℕ) → numberLength ≤ length b → recordAnswer b ≡ asked (drop numberLength b) (be numberLength b)
+unfolding recordAnswer
+answer-whole b h = rw (le-ltb (length b) numberLength h)

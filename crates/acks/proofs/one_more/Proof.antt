@@ -1,0 +1,73 @@
+-- A record's line. Assumes nothing.
+use mathlib.Core.Path.{ap, sym, _∙_}
+use mathlib.Core.Bool.{Bool}
+use mathlib.Core.List.{_++_}
+use native.Mathlib.Omega.{arith}
+use lib.ListN.{length, drop, length-drop}
+use lib.Seq.{take-all}
+use Rattle.ack_blocks.specs.Read.{Given, asked}
+use Rattle.text.specs.Text.{decimal}
+use Rattle.output.proofs.Sending.{pours-then, pours-is}
+use Rattle.acks.specs.Lines.{answerText}
+use Rattle.acks.proofs.Records.{answer-short, answer-whole}
+use borrow.Author.Needs.{needs}
+use Rattle.acks.proofs.one_more.Statement.{statement}
+use Rattle.acks.proofs.one_more.Tie as tie
+
+pour-decimal-requires : tie.Need-pour-decimal-requires
+pour-decimal-requires c κs = search needs
+
+pour-refused-requires : tie.Need-pour-refused-requires
+pour-refused-requires c κs = search needs
+
+same-length : tie.Need-same-length
+same-length c = search needs
+
+returns : tie.Need-returns
+returns c =
+    let a = c .before .before .before .before .before .before .before .before .before .before .before .args in
+    let d = c .before .before .before .before .before .before .before in
+    pours-is (pours-then (d .pour-decimal .ensures) (c .before .before .pour-refused .ensures))
+    (ap (λ (g : Given Bool). decimal (a .n) ++ answerText g) (sym (answer-short (a .b .now) (c .before .before .before .before .if1 .taken))))
+
+number-requires : tie.Need-number-requires
+number-requires c κs = search needs
+
+part-requires : tie.Need-part-requires
+part-requires c κs = search needs
+
+ask-requires : tie.Need-ask-requires
+ask-requires c κs = search needs
+
+pour-answer-requires : tie.Need-pour-answer-requires
+pour-answer-requires c κs = search needs
+
+same-length-2 : tie.Need-same-length-2
+same-length-2 c = search needs
+
+returns-2 : tie.Need-returns-2
+returns-2 c =
+    let a = c .before .before .before .before .before .before .before .before .before .before .before .before .before .before .args in
+    let q = c .before .before .before .before in
+    let d = q .before .before .before .before .before .before in
+    let b = a .b .now in
+    let blocks = q .before .part .ensures ∙ take-all (length b) (drop 8 b) (omega (arith, length-drop 8 b)) in
+    let number = q .before .before .number .ensures .value in
+    pours-is (pours-then (d .pour-decimal .ensures) (c .before .before .pour-answer .ensures))
+    (ap (λ (g : Given Bool). decimal (a .n) ++ answerText g)
+    (q .ask .ensures ∙ (λ i. asked (blocks i) (number i)) ∙ sym (answer-whole b (q .before .before .before .if1 .left))))
+
+pub one-more-spec : {M : Type 1} → statement M
+one-more-spec =
+    tie.close
+    (tie.spec
+    pour-decimal-requires
+    pour-refused-requires
+    same-length
+    returns
+    number-requires
+    part-requires
+    ask-requires
+    pour-answer-requires
+    same-length-2
+    returns-2)

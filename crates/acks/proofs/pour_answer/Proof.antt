@@ -1,0 +1,70 @@
+-- The answer as text, by its cases. Assumes nothing.
+use mathlib.Core.Path.{ap, sym}
+use Rattle.output.proofs.Sending.{pours-is}
+use Rattle.ack_blocks.specs.Read.{answers}
+use Rattle.ack_blocks.specs.declared.Answer.{Answer}
+use Rattle.acks.specs.Lines.{answerText}
+use borrow.Author.Needs.{needs}
+use Rattle.acks.proofs.pour_answer.Statement.{statement}
+use Rattle.acks.proofs.pour_answer.Tie as tie
+
+enum-told : tie.Need-enum-told
+enum-told c = search needs
+
+slice-aggregate-pour : tie.Need-slice-aggregate-pour
+slice-aggregate-pour c = search needs
+
+pour-requires : tie.Need-pour-requires
+pour-requires c κs = search needs
+
+enum-told-2 : tie.Need-enum-told-2
+enum-told-2 c = search needs
+
+slice-aggregate-pour-2 : tie.Need-slice-aggregate-pour-2
+slice-aggregate-pour-2 c = search needs
+
+pour-requires-2 : tie.Need-pour-requires-2
+pour-requires-2 c κs = search needs
+
+enum-known-a : tie.Need-enum-known-a
+enum-known-a c = search needs
+
+pour-refused-requires : tie.Need-pour-refused-requires
+pour-refused-requires c κs = search needs
+
+same-length : tie.Need-same-length
+same-length c = search needs
+
+returns : tie.Need-returns
+returns c = pours-is (c .before .before .pour .ensures) (ap (λ (x : Answer). answerText (answers x)) (sym (c .before .before .before .before .before .enum-told .given .1)))
+
+same-length-2 : tie.Need-same-length-2
+same-length-2 c = search needs
+
+returns-2 : tie.Need-returns-2
+returns-2 c = pours-is (c .before .before .pour2 .ensures) (ap (λ (x : Answer). answerText (answers x)) (sym (c .before .before .before .before .before .enum-told2 .given .1)))
+
+same-length-3 : tie.Need-same-length-3
+same-length-3 c = search needs
+
+returns-3 : tie.Need-returns-3
+returns-3 c = pours-is (c .before .before .pour-refused .ensures) (ap (λ (x : Answer). answerText (answers x)) (sym (c .before .before .before .before .before .a .given .1)))
+
+pub pour-answer-spec : {M : Type 1} → statement M
+pour-answer-spec =
+    tie.close
+    (tie.spec
+    enum-told
+    slice-aggregate-pour
+    pour-requires
+    enum-told-2
+    slice-aggregate-pour-2
+    pour-requires-2
+    enum-known-a
+    pour-refused-requires
+    same-length
+    returns
+    same-length-2
+    returns-2
+    same-length-3
+    returns-3)

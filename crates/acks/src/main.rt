@@ -1,0 +1,66 @@
+// Is a packet acknowledged? Standard input holds records, each after a 4-byte big-endian length: an 8-byte number and then acknowledge blocks;
+// a line says whether the blocks acknowledge the number, or why they are refused.
+ghost use mathlib.Core.List.{[], _∷_, _++_};
+ghost use Rattle.ack_blocks.specs.Read.{answers};
+ghost use Rattle.output.specs.Output.{Pours};
+ghost use Rattle.text.specs.Text.{decimal};
+ghost use Rattle.acks.specs.Lines.{answerText, line};
+use ack_blocks::Answer;
+use stream::Input;
+use stream::Kind;
+use stream::Next;
+
+// The bytes of a record before its blocks.
+const NUMBER: usize = 8;
+
+fn pour_refused(out: &mut [u8], at: usize, number: u32) -> usize
+    ensures { λ r. ⌜ Pours (now (out .entry)) at ((32 ∷ 114 ∷ 101 ∷ 102 ∷ 117 ∷ 115 ∷ 101 ∷ 100 ∷ 32 ∷ []) ++ decimal number ++ 10 ∷ []) (now (out .exit)) r ⌝ }
+{
+    output::pour_counted_line(out, at, b" refused ", number as u64)
+}
+
+fn pour_answer(out: &mut [u8], at: usize, a: Answer) -> usize
+    ensures { λ r. ⌜ Pours (now (out .entry)) at (answerText (answers a)) (now (out .exit)) r ⌝ }
+{
+    match a {
+        Answer::Yes => output::pour(out, at, b" yes\n"),
+        Answer::No => output::pour(out, at, b" no\n"),
+        Answer::Refused(number) => pour_refused(out, at, number),
+    }
+}
+
+// The line of a record. Answers the place after it.
+fn one_more(out: &mut [u8], at: usize, n: u64, b: &[u8]) -> usize
+    ensures { λ r. ⌜ Pours (now (out .entry)) at (line n (now (b .entry))) (now (out .exit)) r ⌝ }
+{
+    let next = output::pour_decimal(out, at, n);
+    if b.len() < NUMBER {
+        return pour_refused(out, next, ack_blocks::CUT);
+    }
+    let number = wire::number(b, 0, NUMBER);
+    let a = ack_blocks::ask(wire::part(b, NUMBER, b.len()), number);
+    pour_answer(out, next, a)
+}
+
+// One line a record, and the last line. The buffer holds more than the longest record, so that a longer one is refused by its front.
+fn run(buf: &mut [u8], out: &mut [u8]) {
+    let mut input = Input { at: 0, end: 0 };
+    let mut at: usize = 0;
+    let mut n: u64 = 0;
+    while n < stream::MANY {
+        let next = stream::next_record(buf, input, Kind::Bytes4);
+        let Next::Record(from, len, left) = next else {
+            output::finish(out, at, n, next);
+            return;
+        };
+        n += 1;
+        input = left;
+        at = one_more(out, at, n, wire::part(buf, from, len));
+    }
+}
+
+fn main() {
+    let mut buf = [0u8; 131072];
+    let mut out = [0u8; 65536];
+    run(&mut buf, &mut out);
+}
