@@ -23,8 +23,12 @@ same-length c = search needs
 
 returns : tie.Need-returns
 returns c =
-    let a = c .before .before .before .before .before .before .before .before .before .before .before .before .before .args in
-    pours-is (pours-then (c .before .before .before .before .before .before .before .pour-decimal .ensures) (c .before .before .pour-longer .ensures)) (line-longer (a .n) (a .body .now) (c .before .before .before .before .if1 .taken))
+    let at-pour-longer = c .before .before in
+    let at-if1 = at-pour-longer .before .before in
+    let at-pour-decimal = at-if1 .before .before .before in
+    let start = at-pour-decimal .before .before .before .before .before .before in
+    let a = start .args in
+    pours-is (pours-then (at-pour-decimal .pour-decimal .ensures) (at-pour-longer .pour-longer .ensures)) (line-longer (a .n) (a .body .now) (at-if1 .if1 .taken))
 
 pour-refused-requires : tie.Need-pour-refused-requires
 pour-refused-requires c κs = search needs
@@ -34,8 +38,13 @@ same-length-2 c = search needs
 
 returns-2 : tie.Need-returns-2
 returns-2 c =
-    let a = c .before .before .before .before .before .before .before .before .before .before .before .before .before .before .args in
-    pours-is (pours-then (c .before .before .before .before .before .before .before .before .pour-decimal .ensures) (c .before .before .pour-refused .ensures)) (line-cut (a .n) (a .body .now) (c .before .before .before .before .before .if1 .left) (c .before .before .before .before .if2 .taken))
+    let at-pour-refused = c .before .before in
+    let at-if2 = at-pour-refused .before .before in
+    let at-if1 = at-if2 .before in
+    let at-pour-decimal = at-if1 .before .before .before in
+    let start = at-pour-decimal .before .before .before .before .before .before in
+    let a = start .args in
+    pours-is (pours-then (at-pour-decimal .pour-decimal .ensures) (at-pour-refused .pour-refused .ensures)) (line-cut (a .n) (a .body .now) (at-if1 .if1 .left) (at-if2 .if2 .taken))
 
 take-list-requires : tie.Need-take-list-requires
 take-list-requires c κs = search needs
@@ -60,7 +69,9 @@ same-length-5 c = search needs
 
 returns-3 : tie.Need-returns-3
 returns-3 c =
-    let w = c .before .before .before .before .before .before .before in
+    let at-pour-written = c .before .before in
+    let place = at-pour-written .before .before .before .before .before in
+    let w = place in
     let t = w .before .before .before .before .before .before in
     let f = t .before .before in
     let d = f .before .before .before .before in
@@ -75,7 +86,7 @@ returns-3 c =
     ∙ (λ i. take (t .take-list .ensures .0 i) (t .take-list .ensures .1 i))
     ∙ ap (λ (k : ℕ). take k (sets (a .list .now) 0 numbers)) (sym some)
     ∙ taken-front (a .list .now) numbers (omega (arith, some, held, z .pre .0)) in
-    pours-is (pours-then (d .pour-decimal .ensures) (c .before .before .pour-written .ensures))
+    pours-is (pours-then (d .pour-decimal .ensures) (at-pour-written .pour-written .ensures))
     (line-written (a .n) b held (f .if2 .left) (a .blocks .now) _ (z .pre .1) _ _ is (w .write-blocks .ensures))
 
 pub one-more-spec : {M : Type 1} → statement M

@@ -16,8 +16,11 @@ same-length c = search needs
 
 returns : tie.Need-returns
 returns c =
-    let a = c .before .before .before .before .before .before .before .before .args in
-    pours-is (c .before .before .pour .ensures) (bytes-none (a .blocks .now) (c .before .before .before .before .before .if1 .taken))
+    let at-pour = c .before .before in
+    let at-if1 = at-pour .before .before .before in
+    let start = at-if1 .before .before .before in
+    let a = start .args in
+    pours-is (at-pour .pour .ensures) (bytes-none (a .blocks .now) (at-if1 .if1 .taken))
 
 slice-aggregate-pour-2 : tie.Need-slice-aggregate-pour-2
 slice-aggregate-pour-2 c = search needs
@@ -39,10 +42,13 @@ same-length-2 c = search needs
 
 returns-2 : tie.Need-returns-2
 returns-2 c =
-    let a = c .before .before .before .before .before .before .before .before .before .before .before .before .before .before .before .before .before .args in
-    let h = c .before .before .before .before .before .before .before in
+    let at-pour3 = c .before .before in
+    let place = at-pour3 .before .before .before .before .before in
+    let start = place .before .before .before .before .before .before .before .before .before .before in
+    let a = start .args in
+    let h = place in
     let p = h .before .before .before .before in
-    pours-is (pours-then (pours-then (p .pour2 .ensures) (h .pour-hex .ensures)) (c .before .before .pour3 .ensures))
+    pours-is (pours-then (pours-then (p .pour2 .ensures) (h .pour-hex .ensures)) (at-pour3 .pour3 .ensures))
     (bytes-some (a .blocks .now) (p .before .before .before .if1 .left))
 
 pub pour-bytes-spec : {M : Type 1} → statement M

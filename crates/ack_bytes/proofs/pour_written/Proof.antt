@@ -26,17 +26,24 @@ same-length c = search needs
 
 returns : tie.Need-returns
 returns c =
-    let a = c .before .before .before .before .before .before .before .before .before .before .args in
-    pours-is (c .before .before .pour-bytes .ensures)
-    (ap bytesText (c .before .before .before .part .ensures) ∙ ap (writtenText (a .blocks .now)) (sym (c .before .before .before .before .before .before .w .given .1)))
+    let at-pour-bytes = c .before .before in
+    let at-part = at-pour-bytes .before in
+    let at-w = at-part .before .before .before in
+    let start = at-w .before .before .before .before in
+    let a = start .args in
+    pours-is (at-pour-bytes .pour-bytes .ensures)
+    (ap bytesText (at-part .part .ensures) ∙ ap (writtenText (a .blocks .now)) (sym (at-w .w .given .1)))
 
 same-length-2 : tie.Need-same-length-2
 same-length-2 c = search needs
 
 returns-2 : tie.Need-returns-2
 returns-2 c =
-    let a = c .before .before .before .before .before .before .before .before .before .args in
-    pours-is (c .before .before .pour-refused .ensures) (ap (writtenText (a .blocks .now)) (sym (c .before .before .before .before .before .w2 .given .1)))
+    let at-pour-refused = c .before .before in
+    let at-w2 = at-pour-refused .before .before .before in
+    let start = at-w2 .before .before .before .before in
+    let a = start .args in
+    pours-is (at-pour-refused .pour-refused .ensures) (ap (writtenText (a .blocks .now)) (sym (at-w2 .w2 .given .1)))
 
 pub pour-written-spec : {M : Type 1} → statement M
 pour-written-spec =

@@ -40,8 +40,10 @@ loop-less c = search needs
 
 loop-again : tie.Need-loop-again Inv-loop μ-loop
 loop-again c =
-    let a = c .before .before .before .before .before .args in
-    let l = c .before .before .loop in
+    let turn = c .before .before in
+    let start = turn .before .before .before in
+    let a = start .args in
+    let l = turn .loop in
     let b = a .body .now in
     let q = ap (λ (x : List ℕ). set x (l .i) (c .number .result)) (l .inv .2) ∙ taken-one (a .list .now) (l .i) b (c .number .result) (c .number .ensures .value) in
     (omega arith, ap length q ∙ length-sets (a .list .now) 0 (numbersOf (l .i + 1) b), q)
@@ -51,8 +53,10 @@ same-length c = search needs
 
 returns : tie.Need-returns Inv-loop μ-loop
 returns c =
-    let a = c .before .before .before .before .args in
-    let l = c .before .loop in
+    let turn = c .before in
+    let start = turn .before .before .before in
+    let a = start .args in
+    let l = turn .loop in
     let e : l .i ≡ length (a .body .now) / 8 = omega arith in
     (refl, l .inv .2 ∙ ap (λ (k : ℕ). sets (a .list .now) 0 (numbersOf k (a .body .now))) e)
 

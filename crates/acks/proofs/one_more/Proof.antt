@@ -25,10 +25,14 @@ same-length c = search needs
 
 returns : tie.Need-returns
 returns c =
-    let a = c .before .before .before .before .before .before .before .before .before .before .before .args in
-    let d = c .before .before .before .before .before .before .before in
-    pours-is (pours-then (d .pour-decimal .ensures) (c .before .before .pour-refused .ensures))
-    (ap (λ (g : Given Bool). decimal (a .n) ++ answerText g) (sym (answer-short (a .b .now) (c .before .before .before .before .if1 .taken))))
+    let at-pour-refused = c .before .before in
+    let at-if1 = at-pour-refused .before .before in
+    let place = at-if1 .before .before .before in
+    let start = place .before .before .before .before in
+    let a = start .args in
+    let d = place in
+    pours-is (pours-then (d .pour-decimal .ensures) (at-pour-refused .pour-refused .ensures))
+    (ap (λ (g : Given Bool). decimal (a .n) ++ answerText g) (sym (answer-short (a .b .now) (at-if1 .if1 .taken))))
 
 number-requires : tie.Need-number-requires
 number-requires c κs = search needs
@@ -47,13 +51,16 @@ same-length-2 c = search needs
 
 returns-2 : tie.Need-returns-2
 returns-2 c =
-    let a = c .before .before .before .before .before .before .before .before .before .before .before .before .before .before .args in
-    let q = c .before .before .before .before in
+    let at-pour-answer = c .before .before in
+    let place = at-pour-answer .before .before in
+    let start = place .before .before .before .before .before .before .before .before .before .before in
+    let a = start .args in
+    let q = place in
     let d = q .before .before .before .before .before .before in
     let b = a .b .now in
     let blocks = q .before .part .ensures ∙ take-all (length b) (drop 8 b) (omega (arith, length-drop 8 b)) in
     let number = q .before .before .number .ensures .value in
-    pours-is (pours-then (d .pour-decimal .ensures) (c .before .before .pour-answer .ensures))
+    pours-is (pours-then (d .pour-decimal .ensures) (at-pour-answer .pour-answer .ensures))
     (ap (λ (g : Given Bool). decimal (a .n) ++ answerText g)
     (q .ask .ensures ∙ (λ i. asked (blocks i) (number i)) ∙ sym (answer-whole b (q .before .before .before .if1 .left))))
 

@@ -36,19 +36,28 @@ same-length : tie.Need-same-length
 same-length c = search needs
 
 returns : tie.Need-returns
-returns c = pours-is (c .before .before .pour .ensures) (ap (λ (x : Answer). answerText (answers x)) (sym (c .before .before .before .before .before .enum-told .given .1)))
+returns c =
+    let at-pour = c .before .before in
+    let at-enum-told = at-pour .before .before .before in
+    pours-is (at-pour .pour .ensures) (ap (λ (x : Answer). answerText (answers x)) (sym (at-enum-told .enum-told .given .1)))
 
 same-length-2 : tie.Need-same-length-2
 same-length-2 c = search needs
 
 returns-2 : tie.Need-returns-2
-returns-2 c = pours-is (c .before .before .pour2 .ensures) (ap (λ (x : Answer). answerText (answers x)) (sym (c .before .before .before .before .before .enum-told2 .given .1)))
+returns-2 c =
+    let at-pour2 = c .before .before in
+    let at-enum-told2 = at-pour2 .before .before .before in
+    pours-is (at-pour2 .pour2 .ensures) (ap (λ (x : Answer). answerText (answers x)) (sym (at-enum-told2 .enum-told2 .given .1)))
 
 same-length-3 : tie.Need-same-length-3
 same-length-3 c = search needs
 
 returns-3 : tie.Need-returns-3
-returns-3 c = pours-is (c .before .before .pour-refused .ensures) (ap (λ (x : Answer). answerText (answers x)) (sym (c .before .before .before .before .before .a .given .1)))
+returns-3 c =
+    let at-pour-refused = c .before .before in
+    let at-a = at-pour-refused .before .before .before in
+    pours-is (at-pour-refused .pour-refused .ensures) (ap (λ (x : Answer). answerText (answers x)) (sym (at-a .a .given .1)))
 
 pub pour-answer-spec : {M : Type 1} → statement M
 pour-answer-spec =

@@ -17,13 +17,21 @@ wide-requires c κs = search needs
 
 returns-2 : tie.Need-returns-2
 unfolding planOf
-returns-2 c = rw (le-ltb _ _ (c .before .before .before .if1 .left), lt-ltb _ _ (rw (c .before .before .count-of .ensures, c .before .wide .ensures) at (c .if2 .taken)))
+returns-2 c =
+    let at-wide = c .before in
+    let at-count-of = at-wide .before in
+    let at-if1 = at-count-of .before in
+    rw (le-ltb _ _ (at-if1 .if1 .left), lt-ltb _ _ (rw (at-count-of .count-of .ensures, at-wide .wide .ensures) at (c .if2 .taken)))
 
 returns-3 : tie.Need-returns-3
 unfolding planOf
 returns-3 c =
-    let n = c .before .before .before .count-of .ensures in
-    rw (le-ltb _ _ (c .before .before .before .before .if1 .left), le-ltb _ _ (rw (n, c .before .before .wide .ensures) at (c .before .if2 .left)), le-leb _ _ (rw n at (c .if3 .taken)))
+    let at-if2 = c .before in
+    let at-wide = at-if2 .before in
+    let at-count-of = at-wide .before in
+    let at-if1 = at-count-of .before in
+    let n = at-count-of .count-of .ensures in
+    rw (le-ltb _ _ (at-if1 .if1 .left), le-ltb _ _ (rw (n, at-wide .wide .ensures) at (at-if2 .if2 .left)), le-leb _ _ (rw n at (c .if3 .taken)))
 
 length-of-requires : tie.Need-length-of-requires
 length-of-requires c κs = search needs
@@ -31,23 +39,35 @@ length-of-requires c κs = search needs
 returns-4 : tie.Need-returns-4
 unfolding planOf
 returns-4 c =
-    let n = c .before .before .before .before .before .count-of .ensures in
+    let at-length-of = c .before in
+    let at-if3 = at-length-of .before in
+    let at-if2 = at-if3 .before in
+    let at-wide = at-if2 .before in
+    let at-count-of = at-wide .before in
+    let at-if1 = at-count-of .before in
+    let n = at-count-of .count-of .ensures in
     rw (
-      le-ltb _ _ (c .before .before .before .before .before .before .if1 .left),
-      le-ltb _ _ (rw (n, c .before .before .before .before .wide .ensures) at (c .before .before .before .if2 .left)),
-      lt-leb _ _ (rw n at (c .before .before .if3 .left)),
-      lt-ltb _ _ (rw (c .before .length-of .ensures) at (c .if4 .taken)),
+      le-ltb _ _ (at-if1 .if1 .left),
+      le-ltb _ _ (rw (n, at-wide .wide .ensures) at (at-if2 .if2 .left)),
+      lt-leb _ _ (rw n at (at-if3 .if3 .left)),
+      lt-ltb _ _ (rw (at-length-of .length-of .ensures) at (c .if4 .taken)),
     )
 
 returns-5 : tie.Need-returns-5
 unfolding planOf
 returns-5 c =
-    let n = c .before .before .before .before .before .count-of .ensures in
-    let l = c .before .length-of .ensures in
+    let at-length-of = c .before in
+    let at-if3 = at-length-of .before in
+    let at-if2 = at-if3 .before in
+    let at-wide = at-if2 .before in
+    let at-count-of = at-wide .before in
+    let at-if1 = at-count-of .before in
+    let n = at-count-of .count-of .ensures in
+    let l = at-length-of .length-of .ensures in
     rw (
-      le-ltb _ _ (c .before .before .before .before .before .before .if1 .left),
-      le-ltb _ _ (rw (n, c .before .before .before .before .wide .ensures) at (c .before .before .before .if2 .left)),
-      lt-leb _ _ (rw n at (c .before .before .if3 .left)),
+      le-ltb _ _ (at-if1 .if1 .left),
+      le-ltb _ _ (rw (n, at-wide .wide .ensures) at (at-if2 .if2 .left)),
+      lt-leb _ _ (rw n at (at-if3 .if3 .left)),
       le-ltb _ _ (rw l at (c .if4 .left)),
       n,
       l,

@@ -38,12 +38,19 @@ same-length c = search needs
 returns : tie.Need-returns
 unfolding smallBytes
 returns c =
-    let d = c .before .before .before .before .before .before .before .before .before .before .before .before .before .before .before .before .before .before .before .before .before .before .before .before .args .out .now in
-    let w1 = rw (c .before .before .before .before .before .before .before .before .before .before .before .before .before .before .before .before .before .before .before .wide .ensures) at (c .before .before .before .before .before .before .before .before .before .before .before .before .before .before .before .before .before .before .put .ensures) in
-    let w2 = overlay-next d _ _ _ _ 4 w1 (simp length-bytes) (c .before .before .before .before .before .before .before .before .before .before .before .before .before .before .put2 .ensures) in
-    let w3 = overlay-next d _ _ _ _ 8 w2 (simp (length-append, length-bytes)) (c .before .before .before .before .before .before .before .before .before .before .put-bytes .ensures) in
-    let w4 = overlay-next d _ _ _ _ _ w3 (simp (length-append, length-bytes) (omega arith)) (c .before .before .before .before .before .before .put3 .ensures) in
-    overlay-next d _ _ _ _ _ w4 (simp (length-append, length-bytes) (omega arith)) (c .before .before .put-bytes2 .ensures)
+    let at-put-bytes2 = c .before .before in
+    let at-put3 = at-put-bytes2 .before .before .before .before in
+    let at-put-bytes = at-put3 .before .before .before .before in
+    let at-put2 = at-put-bytes .before .before .before .before in
+    let at-put = at-put2 .before .before .before .before in
+    let at-wide = at-put .before in
+    let start = at-wide .before .before .before .before .before in
+    let d = start .args .out .now in
+    let w1 = rw (at-wide .wide .ensures) at (at-put .put .ensures) in
+    let w2 = overlay-next d _ _ _ _ 4 w1 (simp length-bytes) (at-put2 .put2 .ensures) in
+    let w3 = overlay-next d _ _ _ _ 8 w2 (simp (length-append, length-bytes)) (at-put-bytes .put-bytes .ensures) in
+    let w4 = overlay-next d _ _ _ _ _ w3 (simp (length-append, length-bytes) (omega arith)) (at-put3 .put3 .ensures) in
+    overlay-next d _ _ _ _ _ w4 (simp (length-append, length-bytes) (omega arith)) (at-put-bytes2 .put-bytes2 .ensures)
 
 pub put-small-spec : {M : Type 1} → statement M
 put-small-spec =

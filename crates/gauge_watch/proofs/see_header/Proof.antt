@@ -36,7 +36,8 @@ session-at-requires c κs = search needs
 
 last-of-requires : tie.Need-last-of-requires
 last-of-requires c κs =
-    let s = c .before .before .before .before .before in
+    let place = c .before .before .before .before .before in
+    let s = place in
     let h = its s in
     omega (arith, messages-few (s .args .p .now) (h .packet) (h .is), ap (λ (x : Header). x .count) (h .header))
 

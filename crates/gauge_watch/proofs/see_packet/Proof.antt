@@ -16,8 +16,10 @@ enum-known-read c = search needs
 
 see-header-requires : tie.Need-see-header-requires
 see-header-requires c κs =
-    let r = c .before .read in
-    let k = c .before .before .before in
+    let at-read = c .before in
+    let place = at-read .before .before in
+    let r = at-read .read in
+    let k = place in
     sym (ap reads (r .given .1)) ∙ k .read-packet .ensures
 
 enum-known-read-2 : tie.Need-enum-known-read-2
@@ -28,8 +30,10 @@ returns c = c .see-header .ensures
 
 returns-2 : tie.Need-returns-2
 returns-2 c =
-    let r = c .before .read2 in
-    let k = c .before .before .before in
+    let at-read2 = c .before in
+    let place = at-read2 .before .before in
+    let r = at-read2 .read2 in
+    let k = place in
     let a = k .before .before .args in
     let e = not-read (packetOf (a .p .now)) _ (sym (ap reads (r .given .1)) ∙ k .read-packet .ensures) in
     record { answer = sym (ap (asked (a .g)) e); gauge = sym (ap (after (a .g)) e) }

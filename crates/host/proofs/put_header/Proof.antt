@@ -64,9 +64,12 @@ same-length c = search needs
 
 returns-2 : tie.Need-returns-2
 returns-2 c =
-    let a = c .before .before .before .before .before .before .before .args in
-    let t = le-ltb _ 10 (c .before .before .before .before .before .if1 .left) in
-    record { gave = rw t; left = rw (t, c .before .before .before .before .kind-of .ensures) (sym (overlay-sets (a .fields .now) 0 (fieldsOf (a .h)))) }
+    let at-kind-of = c .before .before .before .before in
+    let at-if1 = at-kind-of .before in
+    let start = at-if1 .before .before in
+    let a = start .args in
+    let t = le-ltb _ 10 (at-if1 .if1 .left) in
+    record { gave = rw t; left = rw (t, at-kind-of .kind-of .ensures) (sym (overlay-sets (a .fields .now) 0 (fieldsOf (a .h)))) }
 
 pub put-header-spec : {M : Type 1} → statement M
 put-header-spec =

@@ -18,12 +18,16 @@ enum-known-count c = search needs
 
 mul-result : tie.Need-mul-result
 mul-result c =
-    let d = made _ _ _ _ _ _ _ (sym (c .before .before .before .before .before .cut-datagram .ensures .answer) ∙ ap says (c .before .count .given .1)) in
+    let at-count = c .before in
+    let at-cut-datagram = at-count .before .before .before .before in
+    let d = made _ _ _ _ _ _ _ (sym (at-cut-datagram .cut-datagram .ensures .answer) ∙ ap says (at-count .count .given .1)) in
     omega (arith, d .plan .few)
 
 add-result : tie.Need-add-result
 add-result c =
-    let d = made _ _ _ _ _ _ _ (sym (c .before .before .before .before .before .cut-datagram .ensures .answer) ∙ ap says (c .before .count .given .1)) in
+    let at-count = c .before in
+    let at-cut-datagram = at-count .before .before .before .before in
+    let d = made _ _ _ _ _ _ _ (sym (at-cut-datagram .cut-datagram .ensures .answer) ∙ ap says (at-count .count .given .1)) in
     omega (arith, d .plan .few, made-short _ _ _ _ _ _ _ d)
 
 enum-known-n : tie.Need-enum-known-n
@@ -36,13 +40,19 @@ same-length : tie.Need-same-length
 same-length c = search needs
 
 returns : tie.Need-returns
-returns c = cut-told _ _ _ _ _ _ _ _ _ (c .before .before .before .before .before .cut-datagram .ensures) (sym (ap (λ (r : Cut). codeOf (says r)) (c .before .count .given .1)))
+returns c =
+    let at-count = c .before in
+    let at-cut-datagram = at-count .before .before .before .before in
+    cut-told _ _ _ _ _ _ _ _ _ (at-cut-datagram .cut-datagram .ensures) (sym (ap (λ (r : Cut). codeOf (says r)) (at-count .count .given .1)))
 
 same-length-2 : tie.Need-same-length-2
 same-length-2 c = search needs
 
 returns-2 : tie.Need-returns-2
-returns-2 c = cut-told _ _ _ _ _ _ _ _ _ (c .before .before .before .before .before .before .cut-datagram .ensures) (c .wide .ensures ∙ sym (ap (λ (r : Cut). codeOf (says r)) (c .before .before .n .given .1)))
+returns-2 c =
+    let at-n = c .before .before in
+    let at-cut-datagram = at-n .before .before .before .before in
+    cut-told _ _ _ _ _ _ _ _ _ (at-cut-datagram .cut-datagram .ensures) (c .wide .ensures ∙ sym (ap (λ (r : Cut). codeOf (says r)) (at-n .n .given .1)))
 
 pub qm-cut-spec : {M : Type 1} → statement M
 qm-cut-spec =

@@ -13,7 +13,11 @@ enum-known-h : tie.Need-enum-known-h
 enum-known-h c = search needs
 
 put-header-requires : tie.Need-put-header-requires
-put-header-requires c κs = places-fit maxPayload maxFragments (c .before .before .before .before .before .before .before .args .datagram .now) _ (sym (c .before .before .before .before .read-datagram .ensures) ∙ c .before .before .h .given .1)
+put-header-requires c κs =
+    let at-h = c .before .before in
+    let at-read-datagram = at-h .before .before in
+    let start = at-read-datagram .before .before .before in
+    places-fit maxPayload maxFragments (start .args .datagram .now) _ (sym (at-read-datagram .read-datagram .ensures) ∙ at-h .h .given .1)
 
 enum-known-n : tie.Need-enum-known-n
 enum-known-n c = search needs
@@ -22,10 +26,17 @@ same-length : tie.Need-same-length
 same-length c = search needs
 
 returns : tie.Need-returns
-returns c = rw (sym (c .before .before .before .before .before .before .before .read-datagram .ensures) ∙ c .before .before .before .before .before .h .given .1) (c .before .before .put-header .ensures)
+returns c =
+    let at-put-header = c .before .before in
+    let at-h = at-put-header .before .before .before in
+    let at-read-datagram = at-h .before .before in
+    rw (sym (at-read-datagram .read-datagram .ensures) ∙ at-h .h .given .1) (at-put-header .put-header .ensures)
 
 returns-2 : tie.Need-returns-2
-returns-2 c = rw (sym (c .before .before .before .read-datagram .ensures) ∙ c .before .n .given .1) (record { gave = refl; left = refl })
+returns-2 c =
+    let at-n = c .before in
+    let at-read-datagram = at-n .before .before in
+    rw (sym (at-read-datagram .read-datagram .ensures) ∙ at-n .n .given .1) (record { gave = refl; left = refl })
 
 pub qm-read-datagram-spec : {M : Type 1} → statement M
 qm-read-datagram-spec =

@@ -23,7 +23,9 @@ sub-result : tie.Need-sub-result
 sub-result c = from-end-fits w64 (c .before .args .u) (c .before .fits .u .fits) (c .if1 .left)
 
 returns-2 : tie.Need-returns-2
-returns-2 c = toZ-ofZ w64 _ (from-end-fits w64 (c .before .args .u) (c .before .fits .u .fits) (c .if1 .left)) ∙ from-end w64 (c .before .args .u) (c .before .fits .u .fits) (c .if1 .left) ∙ toZ-signed w64 (c .before .args .u)
+returns-2 c =
+    let start = c .before in
+    toZ-ofZ w64 _ (from-end-fits w64 (start .args .u) (start .fits .u .fits) (c .if1 .left)) ∙ from-end w64 (start .args .u) (start .fits .u .fits) (c .if1 .left) ∙ toZ-signed w64 (start .args .u)
 
 pub signed-of-spec : {M : Type 1} → statement M
 signed-of-spec = tie.close (tie.spec cast-result returns sub-k cast-m sub-result returns-2)

@@ -111,23 +111,33 @@ field-at-row-at-requires : (t : ℕ) → field-at-lts.Need-row-at-requires (fiel
 field-at-row-at-requires t c κs = search needs
 
 field-at-items-at-requires : (t : ℕ) → field-at-lts.Need-items-at-requires (field-at-claims t) (field-at-at t) field-at.Post
-field-at-items-at-requires t c κs = (search needs, (c .before .before .before .before .pre .1 .0, row-fit (c .before .before .before .before .args .version) (c .before .before .before .before .args .i) (c .before .before .before .before .pre .1 .1) (c .before .before .row-at .ensures)))
+field-at-items-at-requires t c κs =
+    let at-row-at = c .before .before in
+    let start = at-row-at .before .before in
+    (search needs, (start .pre .1 .0, row-fit (start .args .version) (start .args .i) (start .pre .1 .1) (at-row-at .row-at .ensures)))
 
 field-at-same-length : (t : ℕ) → field-at-lts.Need-same-length (field-at-claims t) (field-at-at t) field-at.Post
 field-at-same-length t c = search needs
 
 field-at-returns : (t : ℕ) → field-at-lts.Need-returns (field-at-claims t) (field-at-at t) field-at.Post
 field-at-returns t c =
-    let a = c .before .before .before .before .before .before .args in
-    let f = c .before .before .before .before .row-at .result in
-    same-run Few1 (a .s .now) (a .list .now) (a .to) (c .before .items-at .result) (c .before .items-at .last .1 .1 .1 .1 .1 .1 .0)
-    (ap (λ (f : Row). readField (a .version) (a .deep) f (drop (a .at) (a .s .now))) (sym (c .before .before .before .before .row-at .ensures)) ∙ field-fixed (reading (pitsurv (a .version))) (readObject (a .version) (a .deep)) f (drop (a .at) (a .s .now)) (c .before .before .before .if1 .taken)) (c .before .items-at .ensures)
+    let at-items-at = c .before in
+    let at-if1 = at-items-at .before .before in
+    let at-row-at = at-if1 .before in
+    let start = at-row-at .before .before in
+    let a = start .args in
+    let f = at-row-at .row-at .result in
+    same-run Few1 (a .s .now) (a .list .now) (a .to) (at-items-at .items-at .result) (at-items-at .items-at .last .1 .1 .1 .1 .1 .1 .0)
+    (ap (λ (f : Row). readField (a .version) (a .deep) f (drop (a .at) (a .s .now))) (sym (at-row-at .row-at .ensures)) ∙ field-fixed (reading (pitsurv (a .version))) (readObject (a .version) (a .deep)) f (drop (a .at) (a .s .now)) (at-if1 .if1 .taken)) (at-items-at .items-at .ensures)
 
 field-at-count-at-requires : (t : ℕ) → field-at-lts.Need-count-at-requires (field-at-claims t) (field-at-at t) field-at.Post
 field-at-count-at-requires t c κs =
-    let n = c .before .if1 .left in
-    let fits = row-fit (c .before .before .before .before .args .version) (c .before .before .before .before .args .i) (c .before .before .before .before .pre .1 .1) (c .before .before .row-at .ensures) in
-    (c .before .before .before .before .pre .1 .0, (omega (arith, n), fits .count-fits))
+    let at-if1 = c .before in
+    let at-row-at = at-if1 .before in
+    let start = at-row-at .before .before in
+    let n = at-if1 .if1 .left in
+    let fits = row-fit (start .args .version) (start .args .i) (start .pre .1 .1) (at-row-at .row-at .ensures) in
+    (start .pre .1 .0, (omega (arith, n), fits .count-fits))
 
 field-at-enum-known-c : (t : ℕ) → field-at-lts.Need-enum-known-c (field-at-claims t) (field-at-at t) field-at.Post
 field-at-enum-known-c t c = search needs
@@ -137,31 +147,46 @@ field-at-enum-known-c-2 t c = search needs
 
 field-at-items-at-requires-2 : (t : ℕ) → field-at-lts.Need-items-at-requires-2 (field-at-claims t) (field-at-at t) field-at.Post
 field-at-items-at-requires-2 t c κs =
-    let a = c .before .before .before .before .before .before .before .before .before .before .args in
-    let h = mark-on Few1 (a .s .now) (a .list .now) (a .to) (c .before .before .before .before .before .count-at .result) (c .before .before .before .before .before .count-at .last .1 .1 .1 .0) (c .before .before .before .before .before .count-at .ensures) _ _ _ (c .before .before .c2 .given .1) in
-    (search needs, ((h .fewer, h .within), row-fit (c .before .before .before .before .before .before .before .before .before .before .args .version) (c .before .before .before .before .before .before .before .before .before .before .args .i) (c .before .before .before .before .before .before .before .before .before .before .pre .1 .1) (c .before .before .before .before .before .before .before .before .row-at .ensures)))
+    let at-c2 = c .before .before in
+    let at-count-at = at-c2 .before .before .before in
+    let at-row-at = at-count-at .before .before .before in
+    let start = at-row-at .before .before in
+    let a = start .args in
+    let h = mark-on Few1 (a .s .now) (a .list .now) (a .to) (at-count-at .count-at .result) (at-count-at .count-at .last .1 .1 .1 .0) (at-count-at .count-at .ensures) _ _ _ (at-c2 .c2 .given .1) in
+    (search needs, ((h .fewer, h .within), row-fit (start .args .version) (start .args .i) (start .pre .1 .1) (at-row-at .row-at .ensures)))
 
 field-at-same-length-2 : (t : ℕ) → field-at-lts.Need-same-length-2 (field-at-claims t) (field-at-at t) field-at.Post
 field-at-same-length-2 t c = search needs
 
 field-at-returns-2 : (t : ℕ) → field-at-lts.Need-returns-2 (field-at-claims t) (field-at-at t) field-at.Post
 field-at-returns-2 t c =
-    let a = c .before .before .before .before .before .before .before .before .before .args in
-    let f = c .before .before .before .before .before .before .before .row-at .result in
-    (ap (λ (f : Row). readField (a .version) (a .deep) f (drop (a .at) (a .s .now))) (sym (c .before .before .before .before .before .before .before .row-at .ensures)) ∙ field-counted (reading (pitsurv (a .version))) (readObject (a .version) (a .deep)) f (drop (a .at) (a .s .now)) (c .before .before .before .before .before .before .if1 .left))
-    ∙ marked-stops _ (λ n. repeat n (readItem (a .version) (a .deep) f)) (mark-stop Few1 (a .s .now) (a .list .now) (a .to) (c .before .before .before .before .count-at .result) (c .before .before .before .before .count-at .last .1 .1 .1 .0) (c .before .before .before .before .count-at .ensures) _ (c .before .c .given .1))
+    let at-c = c .before in
+    let at-count-at = at-c .before .before .before in
+    let at-if1 = at-count-at .before .before in
+    let at-row-at = at-if1 .before in
+    let start = at-row-at .before .before in
+    let a = start .args in
+    let f = at-row-at .row-at .result in
+    (ap (λ (f : Row). readField (a .version) (a .deep) f (drop (a .at) (a .s .now))) (sym (at-row-at .row-at .ensures)) ∙ field-counted (reading (pitsurv (a .version))) (readObject (a .version) (a .deep)) f (drop (a .at) (a .s .now)) (at-if1 .if1 .left))
+    ∙ marked-stops _ (λ n. repeat n (readItem (a .version) (a .deep) f)) (mark-stop Few1 (a .s .now) (a .list .now) (a .to) (at-count-at .count-at .result) (at-count-at .count-at .last .1 .1 .1 .0) (at-count-at .count-at .ensures) _ (at-c .c .given .1))
 
 field-at-same-length-3 : (t : ℕ) → field-at-lts.Need-same-length-3 (field-at-claims t) (field-at-at t) field-at.Post
 field-at-same-length-3 t c = search needs
 
 field-at-returns-3 : (t : ℕ) → field-at-lts.Need-returns-3 (field-at-claims t) (field-at-at t) field-at.Post
 field-at-returns-3 t c =
-    let a = c .before .before .before .before .before .before .before .before .before .before .before .before .args in
-    let f = c .before .before .before .before .before .before .before .before .before .before .row-at .result in
-    let h = mark-on Few1 (a .s .now) (a .list .now) (a .to) (c .before .before .before .before .before .before .before .count-at .result) (c .before .before .before .before .before .before .before .count-at .last .1 .1 .1 .0) (c .before .before .before .before .before .before .before .count-at .ensures) _ _ _ (c .before .before .before .before .c2 .given .1) in
-    same-run Few1 (a .s .now) (a .list .now) (a .to) (c .before .items-at2 .result) (c .before .items-at2 .last .1 .1 .1 .1 .1 .1 .0)
-    (ap (λ (f : Row). readField (a .version) (a .deep) f (drop (a .at) (a .s .now))) (sym (c .before .before .before .before .before .before .before .before .before .before .row-at .ensures)) ∙ field-counted (reading (pitsurv (a .version))) (readObject (a .version) (a .deep)) f (drop (a .at) (a .s .now)) (c .before .before .before .before .before .before .before .before .before .if1 .left))
-    (marked-then h (λ n. repeat n (readItem (a .version) (a .deep) f)) (c .before .items-at2 .result) (c .before .items-at2 .last .1 .1 .1 .1 .1 .1 .0) (c .before .items-at2 .ensures))
+    let at-items-at2 = c .before in
+    let at-c2 = at-items-at2 .before .before .before in
+    let at-count-at = at-c2 .before .before .before in
+    let at-if1 = at-count-at .before .before in
+    let at-row-at = at-if1 .before in
+    let start = at-row-at .before .before in
+    let a = start .args in
+    let f = at-row-at .row-at .result in
+    let h = mark-on Few1 (a .s .now) (a .list .now) (a .to) (at-count-at .count-at .result) (at-count-at .count-at .last .1 .1 .1 .0) (at-count-at .count-at .ensures) _ _ _ (at-c2 .c2 .given .1) in
+    same-run Few1 (a .s .now) (a .list .now) (a .to) (at-items-at2 .items-at2 .result) (at-items-at2 .items-at2 .last .1 .1 .1 .1 .1 .1 .0)
+    (ap (λ (f : Row). readField (a .version) (a .deep) f (drop (a .at) (a .s .now))) (sym (at-row-at .row-at .ensures)) ∙ field-counted (reading (pitsurv (a .version))) (readObject (a .version) (a .deep)) f (drop (a .at) (a .s .now)) (at-if1 .if1 .left))
+    (marked-then h (λ n. repeat n (readItem (a .version) (a .deep) f)) (at-items-at2 .items-at2 .result) (at-items-at2 .items-at2 .last .1 .1 .1 .1 .1 .1 .0) (at-items-at2 .items-at2 .ensures))
 
 abbrev fields-at-Inv-loop : fields-at-lts.InvT-loop
 fields-at-Inv-loop s at version deep t list₀ to p₀ q₀ i₀ end list p q i =
@@ -184,15 +209,17 @@ fields-at-start-of-requires-2 t c κs = search needs
 
 fields-at-loop-holds : (t : ℕ) → fields-at-lts.Need-loop-holds (fields-at-claims t) (fields-at-at t) fields-at.Post fields-at-Inv-loop fields-at-μ-loop
 fields-at-loop-holds t c =
-    let a = c .before .before .before .args in
-    let r = rows-of (pitsurv (a .version)) (a .t) (c .before .start-of .result) (c .start-of2 .result) (c .before .before .before .pre .1 .1) (c .before .start-of .ensures) (c .start-of2 .ensures) in (
+    let at-start-of = c .before in
+    let start = at-start-of .before .before in
+    let a = start .args in
+    let r = rows-of (pitsurv (a .version)) (a .t) (at-start-of .start-of .result) (c .start-of2 .result) (start .pre .1 .1) (at-start-of .start-of .ensures) (c .start-of2 .ensures) in (
       r .rise,
       (
         r .inside,
         (
           refl,
-          begins (readFields (a .version) (a .deep) (slice (c .before .start-of .result) (c .start-of2 .result) (rowsOf (pitsurv (a .version))))) (a .at) (a .to) (a .list .now)
-              (ap (λ (fs : List Row). readFields (a .version) (a .deep) fs (drop (a .at) (a .s .now))) (r .are)) (c .before .before .before .pre .1 .0 .0) (c .before .before .before .pre .1 .0 .1),
+          begins (readFields (a .version) (a .deep) (slice (at-start-of .start-of .result) (c .start-of2 .result) (rowsOf (pitsurv (a .version))))) (a .at) (a .to) (a .list .now)
+              (ap (λ (fs : List Row). readFields (a .version) (a .deep) fs (drop (a .at) (a .s .now))) (r .are)) (start .pre .1 .0 .0) (start .pre .1 .0 .1),
         ),
       ),
     )
@@ -210,9 +237,15 @@ fields-at-same-length t c = search needs
 
 fields-at-returns : (t : ℕ) → fields-at-lts.Need-returns (fields-at-claims t) (fields-at-at t) fields-at.Post fields-at-Inv-loop fields-at-μ-loop
 fields-at-returns t c =
-    let a = c .before .before .before .before .before .before .before .before .before .before .before .args in
-    let x = c .before .before .before .before .before .before .before .loop in
-    fields-stop Few1 (reading (pitsurv (a .version))) (readObject (a .version) (a .deep)) (rowsOf (pitsurv (a .version))) (x .i) (c .before .before .before .before .before .before .before .before .start-of2 .result) (x .inv .1 .1 .1) (c .before .before .before .before .before .before .loop-test .taken) (x .inv .1 .0) (c .before .before .before .before .field-at .result) (c .before .before .before .before .field-at .last .1 .1 .1 .1 .1 .0) (c .before .before .before .before .field-at .ensures) _ (c .before .r .given .1)
+    let at-r = c .before in
+    let at-field-at = at-r .before .before .before in
+    let at-loop-test = at-field-at .before .before in
+    let turn = at-loop-test .before in
+    let at-start-of2 = turn .before in
+    let start = at-start-of2 .before .before .before in
+    let a = start .args in
+    let x = turn .loop in
+    fields-stop Few1 (reading (pitsurv (a .version))) (readObject (a .version) (a .deep)) (rowsOf (pitsurv (a .version))) (x .i) (at-start-of2 .start-of2 .result) (x .inv .1 .1 .1) (at-loop-test .loop-test .taken) (x .inv .1 .0) (at-field-at .field-at .result) (at-field-at .field-at .last .1 .1 .1 .1 .1 .0) (at-field-at .field-at .ensures) _ (at-r .r .given .1)
 
 fields-at-enum-known-r-2 : (t : ℕ) → fields-at-lts.Need-enum-known-r-2 (fields-at-claims t) (fields-at-at t) fields-at.Post fields-at-Inv-loop fields-at-μ-loop
 fields-at-enum-known-r-2 t c = search needs
@@ -225,18 +258,35 @@ fields-at-loop-less t c = search needs
 
 fields-at-loop-again : (t : ℕ) → fields-at-lts.Need-loop-again (fields-at-claims t) (fields-at-at t) fields-at.Post fields-at-Inv-loop fields-at-μ-loop
 fields-at-loop-again t c =
-    let a = c .before .before .before .before .before .before .before .before .before .before .before .args in
-    let x = c .before .before .before .before .before .before .before .loop in
-    (search needs, (x .inv .1 .0, (c .before .before .before .before .field-at .kept .1 .1 .1 .1 .1 .0 ∙ x .inv .1 .1 .0, fields-turn Few1 (reading (pitsurv (a .version))) (readObject (a .version) (a .deep)) (rowsOf (pitsurv (a .version))) (x .i) (c .before .before .before .before .before .before .before .before .start-of2 .result) (x .inv .1 .1 .1) (c .before .before .before .before .before .before .loop-test .taken) (x .inv .1 .0) (c .before .before .before .before .field-at .result) (c .before .before .before .before .field-at .last .1 .1 .1 .1 .1 .0) (c .before .before .before .before .field-at .ensures) _ _ (c .before .r2 .given .1))))
+    let at-r2 = c .before in
+    let at-field-at = at-r2 .before .before .before in
+    let at-loop-test = at-field-at .before .before in
+    let turn = at-loop-test .before in
+    let at-start-of2 = turn .before in
+    let start = at-start-of2 .before .before .before in
+    let a = start .args in
+    let x = turn .loop in (
+      search needs,
+      (
+        x .inv .1 .0,
+        (
+          at-field-at .field-at .kept .1 .1 .1 .1 .1 .0 ∙ x .inv .1 .1 .0,
+          fields-turn Few1 (reading (pitsurv (a .version))) (readObject (a .version) (a .deep)) (rowsOf (pitsurv (a .version))) (x .i) (at-start-of2 .start-of2 .result) (x .inv .1 .1 .1) (at-loop-test .loop-test .taken) (x .inv .1 .0) (at-field-at .field-at .result) (at-field-at .field-at .last .1 .1 .1 .1 .1 .0) (at-field-at .field-at .ensures) _ _ (at-r2 .r2 .given .1),
+        ),
+      ),
+    )
 
 fields-at-same-length-2 : (t : ℕ) → fields-at-lts.Need-same-length-2 (fields-at-claims t) (fields-at-at t) fields-at.Post fields-at-Inv-loop fields-at-μ-loop
 fields-at-same-length-2 t c = search needs
 
 fields-at-returns-2 : (t : ℕ) → fields-at-lts.Need-returns-2 (fields-at-claims t) (fields-at-at t) fields-at.Post fields-at-Inv-loop fields-at-μ-loop
 fields-at-returns-2 t c =
-    let a = c .before .before .before .before .before .args in
-    let x = c .before .loop in
-    fields-done Few1 (reading (pitsurv (a .version))) (readObject (a .version) (a .deep)) (rowsOf (pitsurv (a .version))) (x .i) (c .before .before .start-of2 .result) (x .inv .1 .1 .1) (c .loop-test .left) (x .inv .0)
+    let turn = c .before in
+    let at-start-of2 = turn .before in
+    let start = at-start-of2 .before .before .before in
+    let a = start .args in
+    let x = turn .loop in
+    fields-done Few1 (reading (pitsurv (a .version))) (readObject (a .version) (a .deep)) (rowsOf (pitsurv (a .version))) (x .i) (at-start-of2 .start-of2 .result) (x .inv .1 .1 .1) (c .loop-test .left) (x .inv .0)
 
 item-at-object-at-requires : (t : ℕ) → item-at-lts.Need-object-at-requires (item-at-claims t) (item-at-at t) item-at.Post
 item-at-object-at-requires t c κs = search needs
@@ -246,22 +296,30 @@ item-at-same-length t c = search needs
 
 item-at-returns : (t : ℕ) → item-at-lts.Need-returns (item-at-claims t) (item-at-at t) item-at.Post
 item-at-returns t c =
-    let a = c .before .before .before .before .before .args in
-    same-run Few1 (a .s .now) (a .list .now) (a .to) (c .before .object-at .result) (c .before .object-at .last .1 .1 .1 .1 .1 .0) (item-object (reading (pitsurv (a .version))) (readObject (a .version) (a .deep)) (a .f) (drop (a .at) (a .s .now)) (c .before .before .before .if1 .taken)) (c .before .object-at .ensures)
+    let at-object-at = c .before in
+    let at-if1 = at-object-at .before .before in
+    let start = at-if1 .before .before in
+    let a = start .args in
+    same-run Few1 (a .s .now) (a .list .now) (a .to) (at-object-at .object-at .result) (at-object-at .object-at .last .1 .1 .1 .1 .1 .0) (item-object (reading (pitsurv (a .version))) (readObject (a .version) (a .deep)) (a .f) (drop (a .at) (a .s .now)) (at-if1 .if1 .taken)) (at-object-at .object-at .ensures)
 
 item-at-value-at-requires : (t : ℕ) → item-at-lts.Need-value-at-requires (item-at-claims t) (item-at-at t) item-at.Post
 item-at-value-at-requires t c κs =
-    let fits = c .before .before .before .pre .1 .1 in
-    let plain = c .before .if1 .left in
-    (c .before .before .before .pre .1 .0, ((fits .arg-least plain, fits .arg-signed plain), fits .arg-plain plain))
+    let at-if1 = c .before in
+    let start = at-if1 .before .before in
+    let fits = start .pre .1 .1 in
+    let plain = at-if1 .if1 .left in
+    (start .pre .1 .0, ((fits .arg-least plain, fits .arg-signed plain), fits .arg-plain plain))
 
 item-at-same-length-2 : (t : ℕ) → item-at-lts.Need-same-length-2 (item-at-claims t) (item-at-at t) item-at.Post
 item-at-same-length-2 t c = search needs
 
 item-at-returns-2 : (t : ℕ) → item-at-lts.Need-returns-2 (item-at-claims t) (item-at-at t) item-at.Post
 item-at-returns-2 t c =
-    let a = c .before .before .before .before .before .args in
-    same-run Few1 (a .s .now) (a .list .now) (a .to) (c .before .value-at .result) (c .before .value-at .last .1 .1 .1 .1 .0) (item-value (reading (pitsurv (a .version))) (readObject (a .version) (a .deep)) (a .f) (drop (a .at) (a .s .now)) (c .before .before .before .if1 .left)) (c .before .value-at .ensures)
+    let at-value-at = c .before in
+    let at-if1 = at-value-at .before .before in
+    let start = at-if1 .before .before in
+    let a = start .args in
+    same-run Few1 (a .s .now) (a .list .now) (a .to) (at-value-at .value-at .result) (at-value-at .value-at .last .1 .1 .1 .1 .0) (item-value (reading (pitsurv (a .version))) (readObject (a .version) (a .deep)) (a .f) (drop (a .at) (a .s .now)) (at-if1 .if1 .left)) (at-value-at .value-at .ensures)
 
 abbrev items-at-Inv-loop : items-at-lts.InvT-loop
 items-at-Inv-loop s at version deep f n list₀ to p₀ q₀ k₀ list p q k =
@@ -286,9 +344,14 @@ items-at-same-length t c = search needs
 
 items-at-returns : (t : ℕ) → items-at-lts.Need-returns (item-at-below t, item-at.Post) (items-at-at t) items-at.Post items-at-Inv-loop items-at-μ-loop
 items-at-returns t c =
-    let a = c .before .before .before .before .before .before .before .before .before .args in
-    let x = c .before .before .before .before .before .before .before .loop in
-    items-stop Few1 (readItem (a .version) (a .deep) (a .f)) (a .n) (x .k) (x .inv .1 .1) (c .before .before .before .before .before .before .loop-test .taken) (c .before .before .before .before .item-at .result) (c .before .before .before .before .item-at .last .1 .1 .1 .1 .1 .0) (c .before .before .before .before .item-at .ensures) _ (c .before .r .given .1)
+    let at-r = c .before in
+    let at-item-at = at-r .before .before .before in
+    let at-loop-test = at-item-at .before .before in
+    let turn = at-loop-test .before in
+    let start = turn .before .before in
+    let a = start .args in
+    let x = turn .loop in
+    items-stop Few1 (readItem (a .version) (a .deep) (a .f)) (a .n) (x .k) (x .inv .1 .1) (at-loop-test .loop-test .taken) (at-item-at .item-at .result) (at-item-at .item-at .last .1 .1 .1 .1 .1 .0) (at-item-at .item-at .ensures) _ (at-r .r .given .1)
 
 items-at-enum-known-r-2 : (t : ℕ) → items-at-lts.Need-enum-known-r-2 (items-at-claims t) (items-at-at t) items-at.Post items-at-Inv-loop items-at-μ-loop
 items-at-enum-known-r-2 t c = search needs
@@ -301,17 +364,24 @@ items-at-loop-less t c = search needs
 
 items-at-loop-again : (t : ℕ) → items-at-lts.Need-loop-again (item-at-below t, item-at.Post) (items-at-at t) items-at.Post items-at-Inv-loop items-at-μ-loop
 items-at-loop-again t c =
-    let a = c .before .before .before .before .before .before .before .before .before .args in
-    let x = c .before .before .before .before .before .before .before .loop in
-    (search needs, (c .before .before .before .before .item-at .kept .1 .1 .1 .1 .1 .0 ∙ x .inv .1 .0, items-turn Few1 (readItem (a .version) (a .deep) (a .f)) (a .n) (x .k) (x .inv .1 .1) (c .before .before .before .before .before .before .loop-test .taken) (c .before .before .before .before .item-at .result) (c .before .before .before .before .item-at .last .1 .1 .1 .1 .1 .0) (c .before .before .before .before .item-at .ensures) _ _ (c .before .r2 .given .1)))
+    let at-r2 = c .before in
+    let at-item-at = at-r2 .before .before .before in
+    let at-loop-test = at-item-at .before .before in
+    let turn = at-loop-test .before in
+    let start = turn .before .before in
+    let a = start .args in
+    let x = turn .loop in
+    (search needs, (at-item-at .item-at .kept .1 .1 .1 .1 .1 .0 ∙ x .inv .1 .0, items-turn Few1 (readItem (a .version) (a .deep) (a .f)) (a .n) (x .k) (x .inv .1 .1) (at-loop-test .loop-test .taken) (at-item-at .item-at .result) (at-item-at .item-at .last .1 .1 .1 .1 .1 .0) (at-item-at .item-at .ensures) _ _ (at-r2 .r2 .given .1)))
 
 items-at-same-length-2 : (t : ℕ) → items-at-lts.Need-same-length-2 (item-at-below t, item-at.Post) (items-at-at t) items-at.Post items-at-Inv-loop items-at-μ-loop
 items-at-same-length-2 t c = search needs
 
 items-at-returns-2 : (t : ℕ) → items-at-lts.Need-returns-2 (item-at-below t, item-at.Post) (items-at-at t) items-at.Post items-at-Inv-loop items-at-μ-loop
 items-at-returns-2 t c =
-    let a = c .before .before .before .args in
-    let x = c .before .loop in
+    let turn = c .before in
+    let start = turn .before .before in
+    let a = start .args in
+    let x = turn .loop in
     items-end Few1 (readItem (a .version) (a .deep) (a .f)) (a .n) (x .k) (x .inv .1 .1) (c .loop-test .left)
 
 object-at-head-at-requires : (t : ℕ) → object-at-lts.Need-head-at-requires (object-at-claims t) (object-at-at t) object-at.Post
@@ -328,53 +398,71 @@ object-at-same-length t c = search needs
 
 object-at-returns : (t : ℕ) → object-at-lts.Need-returns (object-at-claims t) (object-at-at t) object-at.Post
 object-at-returns t c =
-    let a = c .before .before .before .before .before .before .before .before .args in
-    let h = mark-on Few1 (a .s .now) (a .list .now) (a .to) (c .before .before .before .before .before .head-at .result) (c .before .before .before .before .before .head-at .last .1 .1 .1 .1 .1 .0) (c .before .before .before .before .before .head-at .ensures) _ _ _ (c .before .before .h2 .given .1) in
-    let n = c .before .before .h2 .given .0 .0 in
-    let p = c .before .before .h2 .given .0 .1 .0 in
-    let q = c .before .before .h2 .given .0 .1 .1 .0 in
-    same-run Few1 (a .s .now) (a .list .now) (a .to) (To p q) (c .before .before .before .before .before .head-at .last .1 .1 .1 .1 .1 .0) (object-is (reading (pitsurv (a .version))) (pitsurv (a .version)) (a .deep) (a .declared) (drop (a .at) (a .s .now)))
+    let at-h2 = c .before .before in
+    let at-head-at = at-h2 .before .before .before in
+    let start = at-head-at .before .before .before in
+    let a = start .args in
+    let h = mark-on Few1 (a .s .now) (a .list .now) (a .to) (at-head-at .head-at .result) (at-head-at .head-at .last .1 .1 .1 .1 .1 .0) (at-head-at .head-at .ensures) _ _ _ (at-h2 .h2 .given .1) in
+    let n = at-h2 .h2 .given .0 .0 in
+    let p = at-h2 .h2 .given .0 .1 .0 in
+    let q = at-h2 .h2 .given .0 .1 .1 .0 in
+    same-run Few1 (a .s .now) (a .list .now) (a .to) (To p q) (at-head-at .head-at .last .1 .1 .1 .1 .1 .0) (object-is (reading (pitsurv (a .version))) (pitsurv (a .version)) (a .deep) (a .declared) (drop (a .at) (a .s .now)))
     (marked-end h (inside (reading (pitsurv (a .version))) (pitsurv (a .version)) (a .deep))
     (ap (λ (m : ℕ). inside (reading (pitsurv (a .version))) (pitsurv (a .version)) (a .deep) m (drop p (a .s .now))) (c .if1 .taken) ∙ inside-null (reading (pitsurv (a .version))) (pitsurv (a .version)) (a .deep) (drop p (a .s .now)) refl))
 
 object-at-sub-fields-at : (t : ℕ) → object-at-lts.Need-sub-fields-at (object-at-claims t) (object-at-at t) object-at.Post
 object-at-sub-fields-at t c =
-    let a = c .before .before .before .before .before .before .before .before .args in
-    let h = mark-on Few1 (a .s .now) (a .list .now) (a .to) (c .before .before .before .before .before .head-at .result) (c .before .before .before .before .before .head-at .last .1 .1 .1 .1 .1 .0) (c .before .before .before .before .before .head-at .ensures) _ _ _ (c .before .before .h2 .given .1) in
+    let at-h2 = c .before .before in
+    let at-head-at = at-h2 .before .before .before in
+    let start = at-head-at .before .before .before in
+    let a = start .args in
+    let h = mark-on Few1 (a .s .now) (a .list .now) (a .to) (at-head-at .head-at .result) (at-head-at .head-at .last .1 .1 .1 .1 .1 .0) (at-head-at .head-at .ensures) _ _ _ (at-h2 .h2 .given .1) in
     let y = read-some (pitsurv (a .version)) (a .deep) (a .declared) _ (c .if1 .left) (drop (a .at) (a .s .now)) (h .whole) in
     omega (arith, y .deep)
 
 object-at-fields-at-requires : (t : ℕ) → object-at-lts.Need-fields-at-requires (object-at-claims t) (object-at-at t) object-at.Post
 object-at-fields-at-requires t c κs =
-    let a = c .before .before .before .before .before .before .before .before .before .args in
-    let h = mark-on Few1 (a .s .now) (a .list .now) (a .to) (c .before .before .before .before .before .before .head-at .result) (c .before .before .before .before .before .before .head-at .last .1 .1 .1 .1 .1 .0) (c .before .before .before .before .before .before .head-at .ensures) _ _ _ (c .before .before .before .h2 .given .1) in
-    let y = read-some (pitsurv (a .version)) (a .deep) (a .declared) _ (c .before .if1 .left) (drop (a .at) (a .s .now)) (h .whole) in
-    (omega (arith, c .before .before .before .before .before .before .before .before .before .pre .0, y .deep), ((h .fewer, h .within), y .within))
+    let at-if1 = c .before in
+    let at-h2 = at-if1 .before .before in
+    let at-head-at = at-h2 .before .before .before in
+    let start = at-head-at .before .before .before in
+    let a = start .args in
+    let h = mark-on Few1 (a .s .now) (a .list .now) (a .to) (at-head-at .head-at .result) (at-head-at .head-at .last .1 .1 .1 .1 .1 .0) (at-head-at .head-at .ensures) _ _ _ (at-h2 .h2 .given .1) in
+    let y = read-some (pitsurv (a .version)) (a .deep) (a .declared) _ (at-if1 .if1 .left) (drop (a .at) (a .s .now)) (h .whole) in
+    (omega (arith, start .pre .0, y .deep), ((h .fewer, h .within), y .within))
 
 object-at-same-length-2 : (t : ℕ) → object-at-lts.Need-same-length-2 (object-at-claims t) (object-at-at t) object-at.Post
 object-at-same-length-2 t c = search needs
 
 object-at-returns-2 : (t : ℕ) → object-at-lts.Need-returns-2 (object-at-claims t) (object-at-at t) object-at.Post
 object-at-returns-2 t c =
-    let a = c .before .before .before .before .before .before .before .args in
-    object-is (reading (pitsurv (a .version))) (pitsurv (a .version)) (a .deep) (a .declared) (drop (a .at) (a .s .now)) ∙ marked-stops _ (inside (reading (pitsurv (a .version))) (pitsurv (a .version)) (a .deep)) (mark-stop Few1 (a .s .now) (a .list .now) (a .to) (c .before .before .before .before .head-at .result) (c .before .before .before .before .head-at .last .1 .1 .1 .1 .1 .0) (c .before .before .before .before .head-at .ensures) _ (c .before .h .given .1))
+    let at-h = c .before in
+    let at-head-at = at-h .before .before .before in
+    let start = at-head-at .before .before .before in
+    let a = start .args in
+    object-is (reading (pitsurv (a .version))) (pitsurv (a .version)) (a .deep) (a .declared) (drop (a .at) (a .s .now)) ∙ marked-stops _ (inside (reading (pitsurv (a .version))) (pitsurv (a .version)) (a .deep)) (mark-stop Few1 (a .s .now) (a .list .now) (a .to) (at-head-at .head-at .result) (at-head-at .head-at .last .1 .1 .1 .1 .1 .0) (at-head-at .head-at .ensures) _ (at-h .h .given .1))
 
 object-at-same-length-3 : (t : ℕ) → object-at-lts.Need-same-length-3 (object-at-claims t) (object-at-at t) object-at.Post
 object-at-same-length-3 t c = search needs
 
 object-at-returns-3 : (t : ℕ) → object-at-lts.Need-returns-3 (object-at-claims t) (object-at-at t) object-at.Post
 object-at-returns-3 t c =
-    let a = c .before .before .before .before .before .before .before .before .before .before .before .args in
-    let h = mark-on Few1 (a .s .now) (a .list .now) (a .to) (c .before .before .before .before .before .before .before .before .head-at .result) (c .before .before .before .before .before .before .before .before .head-at .last .1 .1 .1 .1 .1 .0) (c .before .before .before .before .before .before .before .before .head-at .ensures) _ _ _ (c .before .before .before .before .before .h2 .given .1) in
-    let n = c .before .before .before .before .before .h2 .given .0 .0 in
-    let p = c .before .before .before .before .before .h2 .given .0 .1 .0 in
-    let q = c .before .before .before .before .before .h2 .given .0 .1 .1 .0 in
-    let y = read-some (pitsurv (a .version)) (a .deep) (a .declared) _ (c .before .before .before .if1 .left) (drop (a .at) (a .s .now)) (h .whole) in
-    let r = c .before .fields-at .result in
-    let out' = c .before .fields-at .last .1 .1 .1 .1 .1 .0 in
+    let at-fields-at = c .before in
+    let at-if1 = at-fields-at .before .before in
+    let at-h2 = at-if1 .before .before in
+    let at-head-at = at-h2 .before .before .before in
+    let start = at-head-at .before .before .before in
+    let a = start .args in
+    let h = mark-on Few1 (a .s .now) (a .list .now) (a .to) (at-head-at .head-at .result) (at-head-at .head-at .last .1 .1 .1 .1 .1 .0) (at-head-at .head-at .ensures) _ _ _ (at-h2 .h2 .given .1) in
+    let n = at-h2 .h2 .given .0 .0 in
+    let p = at-h2 .h2 .given .0 .1 .0 in
+    let q = at-h2 .h2 .given .0 .1 .1 .0 in
+    let y = read-some (pitsurv (a .version)) (a .deep) (a .declared) _ (at-if1 .if1 .left) (drop (a .at) (a .s .now)) (h .whole) in
+    let r = at-fields-at .fields-at .result in
+    let out' = at-fields-at .fields-at .last .1 .1 .1 .1 .1 .0 in
     same-run Few1 (a .s .now) (a .list .now) (a .to) r out' (object-is (reading (pitsurv (a .version))) (pitsurv (a .version)) (a .deep) (a .declared) (drop (a .at) (a .s .now)))
     (marked-then h (inside (reading (pitsurv (a .version))) (pitsurv (a .version)) (a .deep)) r out'
-    (same-run Few1 (a .s .now) (c .before .before .before .before .before .before .before .before .head-at .last .1 .1 .1 .1 .1 .0) q r out' (inside-fields (reading (pitsurv (a .version))) (pitsurv (a .version)) (a .deep) n (drop p (a .s .now)) (y .deep)) (c .before .fields-at .ensures)))
+    (same-run Few1 (a .s .now) (at-head-at .head-at .last .1 .1 .1 .1 .1 .0) q r out' (inside-fields (reading (pitsurv (a .version))) (pitsurv (a .version)) (a .deep) n (drop p (a .s .now)) (y .deep)) (at-fields-at .fields-at .ensures)))
 
 pub +field-at+fields-at+item-at+items-at+object-at-spec : {M : Type 1} → statement M
 +field-at+fields-at+item-at+items-at+object-at-spec =

@@ -24,8 +24,10 @@ number-requires c κs = search needs
 
 plain-of-requires : tie.Need-plain-of-requires
 plain-of-requires c κs =
-    let h : c .before .before .before .before .args .w ≤ 8 = omega (arith, c .before .before .before .before .pre .1 .1) in
-    plain-small _ _ (c .before .before .before .before .pre .1 .1) (number-is (c .before .before .before .before .args .s .now) (c .before .before .before .before .args .at) (c .before .before .before .before .args .w) (c .before .number .result) h (c .before .number .ensures) .1)
+    let at-number = c .before in
+    let start = at-number .before .before .before in
+    let h : start .args .w ≤ 8 = omega (arith, start .pre .1 .1) in
+    plain-small _ _ (start .pre .1 .1) (number-is (start .args .s .now) (start .args .at) (start .args .w) (at-number .number .result) h (at-number .number .ensures) .1)
 
 put-requires : tie.Need-put-requires
 put-requires c κs = search needs
@@ -41,14 +43,19 @@ same-length c = search needs
 
 returns-2 : tie.Need-returns-2
 returns-2 c =
-    let a = c .before .before .before .before .before .before .before .args in
-    let h : a .w ≤ 8 = omega (arith, c .before .before .before .before .before .before .before .pre .1 .1) in
-    let v = number-is (c .before .before .before .before .before .before .before .args .s .now) (c .before .before .before .before .before .before .before .args .at) (c .before .before .before .before .before .before .before .args .w) (c .before .before .before .before .number .result) h (c .before .before .before .before .number .ensures) in
-    let n = c .before .before .before .before .number .result in
-    let e = count-good 0 (a .w) (drop (a .at) (a .s .now)) (simp length-drop (c .before .before .before .before .before .if1 .left)) n (v .0) in
+    let at-put = c .before in
+    let at-plain-of = at-put .before in
+    let at-number = at-plain-of .before .before in
+    let at-if1 = at-number .before in
+    let start = at-if1 .before .before in
+    let a = start .args in
+    let h : a .w ≤ 8 = omega (arith, start .pre .1 .1) in
+    let v = number-is (start .args .s .now) (start .args .at) (start .args .w) (at-number .number .result) h (at-number .number .ensures) in
+    let n = at-number .number .result in
+    let e = count-good 0 (a .w) (drop (a .at) (a .s .now)) (simp length-drop (at-if1 .if1 .left)) n (v .0) in
     marked n (pos n ∷ []) (a .at + a .w) (a .to + 1) (e ∙ ap (tag n (pos n ∷ [])) (drop-drop (a .w) (a .at) (a .s .now)))
-    (c .before .put .ensures ∙ ap (λ (z : ℤ). set (a .list .now) (a .to) z) (through (record { sfits = c .before .before .plain-of .ok }) (c .before .before .plain-of .ensures))) refl
-    (omega (arith, c .before .before .before .before .before .before .before .pre .0 .0, c .before .before .before .before .before .before .before .pre .1 .0)) (omega (arith, c .before .before .before .before .before .if1 .left, c .before .before .before .before .before .before .before .pre .0 .1))
+    (at-put .put .ensures ∙ ap (λ (z : ℤ). set (a .list .now) (a .to) z) (through (record { sfits = at-plain-of .plain-of .ok }) (at-plain-of .plain-of .ensures))) refl
+    (omega (arith, start .pre .0 .0, start .pre .1 .0)) (omega (arith, at-if1 .if1 .left, start .pre .0 .1))
 
 pub count-at-spec : {M : Type 1} → statement M
 count-at-spec =

@@ -24,11 +24,13 @@ same-length c = search needs
 
 returns : tie.Need-returns
 returns c =
-    let a = c .before .before .before .before .args in
-    let o : List ℤ = c .before .root-at .last .1 .1 .0 in
-    let nil : o ≡ [] = empty o (c .before .root-at .kept .1 .1 .0) in (
+    let at-root-at = c .before in
+    let start = at-root-at .before .before .before in
+    let a = start .args in
+    let o : List ℤ = at-root-at .root-at .last .1 .1 .0 in
+    let nil : o ≡ [] = empty o (at-root-at .root-at .kept .1 .1 .0) in (
       ap (λ (l : List ℤ). l ++ a .list .now) nil,
-      subst (λ (l : List ℤ). Ends (a .s .now) [] 0 (readRoot (a .version) (a .s .now)) (c .before .root-at .result) l) nil (c .before .root-at .ensures),
+      subst (λ (l : List ℤ). Ends (a .s .now) [] 0 (readRoot (a .version) (a .s .now)) (at-root-at .root-at .result) l) nil (at-root-at .root-at .ensures),
     )
 
 pub count-root-spec : {M : Type 1} → statement M

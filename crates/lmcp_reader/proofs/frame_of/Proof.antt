@@ -58,7 +58,10 @@ same-at-requires : tie.Need-same-at-requires
 same-at-requires c κs = search needs
 
 returns-2 : tie.Need-returns-2
-returns-2 c = let e = c .before .before .before in not-magic (M e) (long e) (sym (c .before .same-at .ensures) ∙ not-true _ (c .if2 .taken))
+returns-2 c =
+    let at-same-at = c .before in
+    let place = at-same-at .before .before in
+    let e = place in not-magic (M e) (long e) (sym (at-same-at .same-at .ensures) ∙ not-true _ (c .if2 .taken))
 
 returns-3 : tie.Need-returns-3
 returns-3 c = let e = c .before in too-long (M (at2 e)) (long (at2 e)) (known e) (c .if3 .taken)
@@ -72,9 +75,12 @@ add-if4 c = search needs
 returns-4 : tie.Need-returns-4
 unfolding be
 returns-4 c =
-    let e = c .before .before .before in
-    not-length (M (at2 e)) (long (at2 e)) (known e) (short (c .before .before))
-    (λ q. c .if4 .taken (q ∙ ap (λ (n : ℕ). 12 + n) (sym (c .before .number .ensures .value))))
+    let at-number = c .before in
+    let place = at-number .before in
+    let place2 = place .before in
+    let e = place2 in
+    not-length (M (at2 e)) (long (at2 e)) (known e) (short (place))
+    (λ q. c .if4 .taken (q ∙ ap (λ (n : ℕ). 12 + n) (sym (at-number .number .ensures .value))))
 
 sub-end : tie.Need-sub-end
 sub-end c = search needs
@@ -103,21 +109,25 @@ cast-if6 c = search needs
 returns-6 : tie.Need-returns-6
 unfolding be
 returns-6 c =
-    let b = c .before .before .before in
+    let at-checksum = c .before in
+    let place = at-checksum .before .before in
+    let b = place in
     let d = at5 b in
     let e = at4 d in
     sum-right (M (at2 e)) (long (at2 e)) (known e) (short (d .before .before)) (sized d)
-    (sym (b .before .number2 .ensures .value) ∙ c .if6 .taken ∙ c .before .checksum .ensures)
+    (sym (b .before .number2 .ensures .value) ∙ c .if6 .taken ∙ at-checksum .checksum .ensures)
 
 returns-7 : tie.Need-returns-7
 unfolding be
 returns-7 c =
-    let b = c .before .before .before in
+    let at-checksum = c .before in
+    let place = at-checksum .before .before in
+    let b = place in
     let d = at5 b in
     let e = at4 d in
     sum-wrong (M (at2 e)) (long (at2 e)) (known e) (short (d .before .before)) (sized d)
     (λ z. b .if5 .left (b .before .number2 .ensures .value ∙ z))
-    (λ q. c .if6 .left (b .before .number2 .ensures .value ∙ q ∙ sym (c .before .checksum .ensures)))
+    (λ q. c .if6 .left (b .before .number2 .ensures .value ∙ q ∙ sym (at-checksum .checksum .ensures)))
 
 pub frame-of-spec : {M : Type 1} → statement M
 frame-of-spec =

@@ -73,13 +73,15 @@ same-length c = search needs
 
 returns-3 : tie.Need-returns-3
 returns-3 c =
-    let null = c .before .before .before in
+    let at-put = c .before in
+    let place = at-put .before .before in
+    let null = place in
     let r = read (null .before) in
     let s = start (null .before) in
     let a = s .args in
     let e = head-null (T s) (a .deep) (a .declared) (B s) (enough (r .before)) (r .number .result) (r .number .ensures .value) (null .if3 .taken) in
     marked 0 (pos 0 ∷ []) (a .at + 1) (a .to + 1) (e ∙ ap (tag 0 (pos 0 ∷ [])) (drop-drop 1 (a .at) (a .s .now)))
-    (c .before .put .ensures) refl (omega (arith, s .pre .0)) (omega (arith, r .before .if1 .left, s .pre .1))
+    (at-put .put .ensures) refl (omega (arith, s .pre .0)) (omega (arith, r .before .if1 .left, s .pre .1))
 
 returns-4 : tie.Need-returns-4
 returns-4 c =

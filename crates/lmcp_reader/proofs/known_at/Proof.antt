@@ -17,8 +17,10 @@ number-requires c κs = search needs
 returns : tie.Need-returns
 unfolding be
 returns c =
-    let a = c .before .before .before .args in
-    not-series (pitsurv (a .version)) (a .declared) (drop (a .at) (a .s .now)) (λ e. c .if1 .taken (c .before .number .ensures .value ∙ e))
+    let at-number = c .before in
+    let start = at-number .before .before in
+    let a = start .args in
+    not-series (pitsurv (a .version)) (a .declared) (drop (a .at) (a .s .now)) (λ e. c .if1 .taken (at-number .number .ensures .value ∙ e))
 
 add-number : tie.Need-add-number
 add-number c = search needs
@@ -28,9 +30,11 @@ number-requires-2 c κs = search needs
 
 returns-2 : tie.Need-returns-2
 returns-2 c =
-    let a = c .before .before .before .before .before .args in
+    let at-number2 = c .before in
+    let start = at-number2 .before .before .before .before in
+    let a = start .args in
     not-version (pitsurv (a .version)) (a .declared) (drop (a .at) (a .s .now))
-    (λ e. c .if2 .taken (c .before .number2 .ensures .value ∙ ap (be 2) (sym (drop-drop 12 (a .at) (a .s .now))) ∙ e))
+    (λ e. c .if2 .taken (at-number2 .number2 .ensures .value ∙ ap (be 2) (sym (drop-drop 12 (a .at) (a .s .now))) ∙ e))
 
 add-number-2 : tie.Need-add-number-2
 add-number-2 c = search needs
@@ -44,11 +48,17 @@ typed-in-requires c κs = search needs
 returns-3 : tie.Need-returns-3
 unfolding be
 returns-3 c =
-    let a = c .before .before .before .before .before .before .before .args in
+    let at-number3 = c .before in
+    let at-if2 = at-number3 .before in
+    let at-number2 = at-if2 .before in
+    let at-if1 = at-number2 .before in
+    let at-number = at-if1 .before in
+    let start = at-number .before .before in
+    let a = start .args in
     let b = drop (a .at) (a .s .now) in
-    let s : be 8 b ≡ 5785247913224590848 = sym (c .before .before .before .before .before .number .ensures .value) ∙ c .before .before .before .before .if1 .left in
-    let v : be 2 (drop 12 b) ≡ a .version = ap (be 2) (drop-drop 12 (a .at) (a .s .now)) ∙ sym (c .before .before .before .number2 .ensures .value) ∙ c .before .before .if2 .left in
-    let n = c .before .number3 .ensures .value ∙ ap (be 4) (sym (drop-drop 8 (a .at) (a .s .now))) in
+    let s : be 8 b ≡ 5785247913224590848 = sym (at-number .number .ensures .value) ∙ at-if1 .if1 .left in
+    let v : be 2 (drop 12 b) ≡ a .version = ap (be 2) (drop-drop 12 (a .at) (a .s .now)) ∙ sym (at-number2 .number2 .ensures .value) ∙ at-if2 .if2 .left in
+    let n = at-number3 .number3 .ensures .value ∙ ap (be 4) (sym (drop-drop 8 (a .at) (a .s .now))) in
     c .typed-in .ensures ∙ ap (typed (pitsurv (a .version)) (a .declared)) n ∙ known-typed (pitsurv (a .version)) (a .declared) b s v
 
 pub known-at-spec : {M : Type 1} → statement M

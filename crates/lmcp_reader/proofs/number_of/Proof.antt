@@ -9,7 +9,10 @@ signed-of-requires : tie.Need-signed-of-requires
 signed-of-requires c κs = search needs
 
 returns : tie.Need-returns
-returns c = through (record { sfits = c .signed-of .ok }) (c .signed-of .ensures) ∙ sym (number-signed _ (c .before .before .args .w) (c .before .before .args .v) (c .before .if1 .taken))
+returns c =
+    let at-if1 = c .before in
+    let start = at-if1 .before in
+    through (record { sfits = c .signed-of .ok }) (c .signed-of .ensures) ∙ sym (number-signed _ (start .args .w) (start .args .v) (at-if1 .if1 .taken))
 
 plain-of-requires : tie.Need-plain-of-requires
 plain-of-requires c κs = plain-small _ _ (c .before .pre .1 .0 (c .if1 .left)) (c .before .pre .1 .1)

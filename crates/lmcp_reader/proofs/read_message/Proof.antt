@@ -41,8 +41,10 @@ frame-of-requires c κs = search needs
 
 returns : tie.Need-returns
 returns c =
-    let a = c .before .before .before .args in
-    answer-framed (a .message .now) (a .list .now) (c .before .frame-of .result) (c .before .frame-of .ensures) (c .if1 .taken)
+    let at-frame-of = c .before in
+    let start = at-frame-of .before .before in
+    let a = start .args in
+    answer-framed (a .message .now) (a .list .now) (at-frame-of .frame-of .result) (at-frame-of .frame-of .ensures) (c .if1 .taken)
 
 sub-end : tie.Need-sub-end
 sub-end c = omega (arith, long c)
@@ -60,7 +62,10 @@ version-of-requires : tie.Need-version-of-requires
 version-of-requires c κs = search needs
 
 read-root-requires : tie.Need-read-root-requires
-read-root-requires c κs = version-small (root (start (c .before .before .before) .args .message .now)) (c .before .version-of .ensures)
+read-root-requires c κs =
+    let at-version-of = c .before in
+    let place = at-version-of .before .before in
+    version-small (root (start (place) .args .message .now)) (at-version-of .version-of .ensures)
 
 same-length : tie.Need-same-length
 same-length c = search needs

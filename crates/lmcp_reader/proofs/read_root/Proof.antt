@@ -82,10 +82,12 @@ same-length-2 c = search needs
 
 returns-2 : tie.Need-returns-2
 returns-2 c =
-    let w = c .before .before .before in
+    let at-if1 = c .before in
+    let place2 = at-if1 .before .before in
+    let w = place2 in
     let d = counted w in
     let l : length (L d) ≤ count w = subst (λ (l : List ℤ). length l ≤ count w) (kept d) (c .if2 .taken) in
-    says d (Refused 13) (answer-short (start d .args .version) (B d) (L d) (place w) (count w) (walked w) (c .before .if1 .left) l)
+    says d (Refused 13) (answer-short (start d .args .version) (B d) (L d) (place w) (count w) (walked w) (at-if1 .if1 .left) l)
 
 put-list-requires : tie.Need-put-list-requires
 put-list-requires c κs = search needs

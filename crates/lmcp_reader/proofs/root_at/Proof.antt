@@ -24,10 +24,13 @@ number-requires c κs = search needs
 
 returns-2 : tie.Need-returns-2
 returns-2 c =
-    let a = c .before .before .before .before .args in
-    let l : 1 ≤ length (a .s .now) = omega (arith, c .before .before .if1 .left) in
+    let at-number = c .before in
+    let at-if1 = at-number .before in
+    let start = at-if1 .before .before in
+    let a = start .args in
+    let l : 1 ≤ length (a .s .now) = omega (arith, at-if1 .if1 .left) in
     root-null (reading (pitsurv (a .version))) (pitsurv (a .version)) (a .s .now)
-    (head-null (pitsurv (a .version)) deepest 0 (a .s .now) l (c .before .number .result) (c .before .number .ensures .value) (c .if2 .taken))
+    (head-null (pitsurv (a .version)) deepest 0 (a .s .now) l (at-number .number .result) (at-number .number .ensures .value) (c .if2 .taken))
 
 object-at-requires : tie.Need-object-at-requires
 object-at-requires c κs = search needs
@@ -37,11 +40,15 @@ same-length c = search needs
 
 returns-3 : tie.Need-returns-3
 returns-3 c =
-    let a = c .before .before .before .before .before .before .before .args in
-    same-run Few1 (a .s .now) (a .list .now) 0 (c .before .object-at .result) (c .before .object-at .last .1 .1 .1 .1 .1 .0)
+    let at-object-at = c .before in
+    let at-if2 = at-object-at .before .before in
+    let at-number = at-if2 .before in
+    let start = at-number .before .before .before in
+    let a = start .args in
+    same-run Few1 (a .s .now) (a .list .now) 0 (at-object-at .object-at .result) (at-object-at .object-at .last .1 .1 .1 .1 .1 .0)
     (root-object (reading (pitsurv (a .version))) (pitsurv (a .version)) (a .s .now)
-    (root-some (pitsurv (a .version)) deepest 0 (a .s .now) (λ e. c .before .before .before .if2 .left (c .before .before .before .before .number .ensures .value ∙ e))))
-    (c .before .object-at .ensures)
+    (root-some (pitsurv (a .version)) deepest 0 (a .s .now) (λ e. at-if2 .if2 .left (at-number .number .ensures .value ∙ e))))
+    (at-object-at .object-at .ensures)
 
 pub root-at-spec : {M : Type 1} → statement M
 root-at-spec =

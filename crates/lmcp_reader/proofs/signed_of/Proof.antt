@@ -12,25 +12,46 @@ half-requires : tie.Need-half-requires
 half-requires c κs = search needs
 
 cast-result : tie.Need-cast-result
-cast-result c = omega (arith, half-small (c .before .before .args .w) (c .before .before .args .v) (c .before .before .pre .0 .0) (c .before .before .pre .0 .1) (c .before .before .pre .1) (c .before .half .result) (c .before .half .ensures), c .if1 .taken)
+cast-result c =
+    let at-half = c .before in
+    let start = at-half .before in
+    omega (arith, half-small (start .args .w) (start .args .v) (start .pre .0 .0) (start .pre .0 .1) (start .pre .1) (at-half .half .result) (at-half .half .ensures), c .if1 .taken)
 
 returns : tie.Need-returns
-returns c = low (c .before .before .args .w) (c .before .before .args .v) (c .before .before .pre .0 .0) (c .before .before .pre .0 .1) (c .before .before .pre .1) (c .before .half .result) (c .before .half .ensures) (c .if1 .taken)
+returns c =
+    let at-half = c .before in
+    let start = at-half .before in
+    low (start .args .w) (start .args .v) (start .pre .0 .0) (start .pre .0 .1) (start .pre .1) (at-half .half .result) (at-half .half .ensures) (c .if1 .taken)
 
 sub-k : tie.Need-sub-k
-sub-k c = omega (arith, two-halves (c .before .before .args .w) (c .before .before .args .v) (c .before .before .pre .0 .0) (c .before .before .pre .0 .1) (c .before .before .pre .1) (c .before .half .result) (c .before .half .ensures), c .if1 .left)
+sub-k c =
+    let at-half = c .before in
+    let start = at-half .before in
+    omega (arith, two-halves (start .args .w) (start .args .v) (start .pre .0 .0) (start .pre .0 .1) (start .pre .1) (at-half .half .result) (at-half .half .ensures), c .if1 .left)
 
 sub-k-2 : tie.Need-sub-k-2
-sub-k-2 c = omega (arith, two-halves (c .before .before .args .w) (c .before .before .args .v) (c .before .before .pre .0 .0) (c .before .before .pre .0 .1) (c .before .before .pre .1) (c .before .half .result) (c .before .half .ensures), c .if1 .left)
+sub-k-2 c =
+    let at-half = c .before in
+    let start = at-half .before in
+    omega (arith, two-halves (start .args .w) (start .args .v) (start .pre .0 .0) (start .pre .0 .1) (start .pre .1) (at-half .half .result) (at-half .half .ensures), c .if1 .left)
 
 cast-m : tie.Need-cast-m
-cast-m c = omega (arith, half-small (c .before .before .args .w) (c .before .before .args .v) (c .before .before .pre .0 .0) (c .before .before .pre .0 .1) (c .before .before .pre .1) (c .before .half .result) (c .before .half .ensures))
+cast-m c =
+    let at-half = c .before in
+    let start = at-half .before in
+    omega (arith, half-small (start .args .w) (start .args .v) (start .pre .0 .0) (start .pre .0 .1) (start .pre .1) (at-half .half .result) (at-half .half .ensures))
 
 sub-result : tie.Need-sub-result
-sub-result c = high-fits (c .before .before .args .w) (c .before .before .args .v) (c .before .before .pre .0 .0) (c .before .before .pre .0 .1) (c .before .before .pre .1) (c .before .half .result) (c .before .half .ensures) (c .if1 .left)
+sub-result c =
+    let at-half = c .before in
+    let start = at-half .before in
+    high-fits (start .args .w) (start .args .v) (start .pre .0 .0) (start .pre .0 .1) (start .pre .1) (at-half .half .result) (at-half .half .ensures) (c .if1 .left)
 
 returns-2 : tie.Need-returns-2
-returns-2 c = toZ-ofZ w64 _ (high-fits (c .before .before .args .w) (c .before .before .args .v) (c .before .before .pre .0 .0) (c .before .before .pre .0 .1) (c .before .before .pre .1) (c .before .half .result) (c .before .half .ensures) (c .if1 .left)) ∙ high (c .before .before .args .w) (c .before .before .args .v) (c .before .before .pre .0 .0) (c .before .before .pre .0 .1) (c .before .before .pre .1) (c .before .half .result) (c .before .half .ensures) (c .if1 .left)
+returns-2 c =
+    let at-half = c .before in
+    let start = at-half .before in
+    toZ-ofZ w64 _ (high-fits (start .args .w) (start .args .v) (start .pre .0 .0) (start .pre .0 .1) (start .pre .1) (at-half .half .result) (at-half .half .ensures) (c .if1 .left)) ∙ high (start .args .w) (start .args .v) (start .pre .0 .0) (start .pre .0 .1) (start .pre .1) (at-half .half .result) (at-half .half .ensures) (c .if1 .left)
 
 pub signed-of-spec : {M : Type 1} → statement M
 signed-of-spec =

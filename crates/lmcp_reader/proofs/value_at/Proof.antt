@@ -27,14 +27,20 @@ fault-of-requires c κs = search needs
 
 returns-2 : tie.Need-returns-2
 returns-2 c =
-    let a = c .before .before .before .before .before .args in
-    let v = number-is (c .before .before .before .before .before .args .s .now) (c .before .before .before .before .before .args .at) (c .before .before .before .before .before .args .w) (c .before .before .number .result) (c .before .before .before .before .before .pre .1 .0 .1) (c .before .before .number .ensures) in
-    value-bad (a .kind) (a .w) (drop (a .at) (a .s .now)) (simp length-drop (c .before .before .before .if1 .left)) (c .before .before .number .result) (c .before .fault-of .result) (v .0) (c .before .fault-of .ensures) (c .if2 .taken)
+    let at-fault-of = c .before in
+    let at-number = at-fault-of .before in
+    let at-if1 = at-number .before in
+    let start = at-if1 .before .before in
+    let a = start .args in
+    let v = number-is (start .args .s .now) (start .args .at) (start .args .w) (at-number .number .result) (start .pre .1 .0 .1) (at-number .number .ensures) in
+    value-bad (a .kind) (a .w) (drop (a .at) (a .s .now)) (simp length-drop (at-if1 .if1 .left)) (at-number .number .result) (at-fault-of .fault-of .result) (v .0) (at-fault-of .fault-of .ensures) (c .if2 .taken)
 
 number-of-requires : tie.Need-number-of-requires
 number-of-requires c κs =
-    let v = number-is (c .before .before .before .before .before .before .args .s .now) (c .before .before .before .before .before .before .args .at) (c .before .before .before .before .before .before .args .w) (c .before .before .before .number .result) (c .before .before .before .before .before .before .pre .1 .0 .1) (c .before .before .before .number .ensures) in
-    (c .before .before .before .before .before .before .pre .1 .0, (c .before .before .before .before .before .before .pre .1 .1, v .1))
+    let at-number = c .before .before .before in
+    let start = at-number .before .before .before in
+    let v = number-is (start .args .s .now) (start .args .at) (start .args .w) (at-number .number .result) (start .pre .1 .0 .1) (at-number .number .ensures) in
+    (start .pre .1 .0, (start .pre .1 .1, v .1))
 
 put-requires : tie.Need-put-requires
 put-requires c κs = search needs
@@ -50,12 +56,19 @@ same-length c = search needs
 
 returns-3 : tie.Need-returns-3
 returns-3 c =
-    let a = c .before .before .before .before .before .before .before .before .before .args in
+    let at-put = c .before in
+    let at-number-of = at-put .before in
+    let at-if2 = at-number-of .before .before in
+    let at-fault-of = at-if2 .before in
+    let at-number = at-fault-of .before in
+    let at-if1 = at-number .before in
+    let start = at-if1 .before .before in
+    let a = start .args in
     let b = drop (a .at) (a .s .now) in
-    let v = number-is (c .before .before .before .before .before .before .before .before .before .args .s .now) (c .before .before .before .before .before .before .before .before .before .args .at) (c .before .before .before .before .before .before .before .before .before .args .w) (c .before .before .before .before .before .before .number .result) (c .before .before .before .before .before .before .before .before .before .pre .1 .0 .1) (c .before .before .before .before .before .before .number .ensures) in
-    let z = c .before .before .number-of .result in
-    let e = value-good (a .kind) (a .w) b (simp length-drop (c .before .before .before .before .before .before .before .if1 .left)) (c .before .before .before .before .before .before .number .result) (c .before .before .before .before .before .fault-of .result) z (v .0) (c .before .before .before .before .before .fault-of .ensures) (c .before .before .before .before .if2 .left) (c .before .before .number-of .ensures) in
-    made (z ∷ []) (a .at + a .w) (a .to + 1) (e ∙ ap (got (z ∷ [])) (drop-drop (a .w) (a .at) (a .s .now))) (c .before .put .ensures ∙ ap (λ (y : ℤ). set (a .list .now) (a .to) y) (through (record { sfits = c .before .before .number-of .ok }) refl)) refl (omega (arith, c .before .before .before .before .before .before .before .before .before .pre .0 .0, c .before .before .before .before .before .before .before .before .before .pre .1 .0 .0)) (omega (arith, c .before .before .before .before .before .before .before .if1 .left, c .before .before .before .before .before .before .before .before .before .pre .0 .1))
+    let v = number-is (start .args .s .now) (start .args .at) (start .args .w) (at-number .number .result) (start .pre .1 .0 .1) (at-number .number .ensures) in
+    let z = at-number-of .number-of .result in
+    let e = value-good (a .kind) (a .w) b (simp length-drop (at-if1 .if1 .left)) (at-number .number .result) (at-fault-of .fault-of .result) z (v .0) (at-fault-of .fault-of .ensures) (at-if2 .if2 .left) (at-number-of .number-of .ensures) in
+    made (z ∷ []) (a .at + a .w) (a .to + 1) (e ∙ ap (got (z ∷ [])) (drop-drop (a .w) (a .at) (a .s .now))) (at-put .put .ensures ∙ ap (λ (y : ℤ). set (a .list .now) (a .to) y) (through (record { sfits = at-number-of .number-of .ok }) refl)) refl (omega (arith, start .pre .0 .0, start .pre .1 .0 .0)) (omega (arith, at-if1 .if1 .left, start .pre .0 .1))
 
 pub value-at-spec : {M : Type 1} → statement M
 value-at-spec =

@@ -118,23 +118,33 @@ put-field-row-at-requires : (t : ℕ) → put-field-lts.Need-row-at-requires (pu
 put-field-row-at-requires t c κs = search needs
 
 put-field-put-items-requires : (t : ℕ) → put-field-lts.Need-put-items-requires (put-field-claims t) (put-field-at t) put-field.Post
-put-field-put-items-requires t c κs = (search needs, (c .before .before .before .before .pre .1 .0, row-fit (c .before .before .before .before .args .version) (c .before .before .before .before .args .i) (c .before .before .before .before .pre .1 .1) (c .before .before .row-at .ensures)))
+put-field-put-items-requires t c κs =
+    let at-row-at = c .before .before in
+    let start = at-row-at .before .before in
+    (search needs, (start .pre .1 .0, row-fit (start .args .version) (start .args .i) (start .pre .1 .1) (at-row-at .row-at .ensures)))
 
 put-field-same-length : (t : ℕ) → put-field-lts.Need-same-length (put-field-claims t) (put-field-at t) put-field.Post
 put-field-same-length t c = search needs
 
 put-field-returns : (t : ℕ) → put-field-lts.Need-returns (put-field-claims t) (put-field-at t) put-field.Post
 put-field-returns t c =
-    let a = c .before .before .before .before .before .before .before .args in
-    let f = c .before .before .before .before .before .row-at .result in
-    same-run Few15 (a .list .now) (a .out .now) (a .to) (c .before .before .put-items .result) (c .before .before .put-items .last .1 .1 .1 .1 .1 .1 .0)
-    (ap (λ (f : Row). writeField (a .version) (a .deep) f (drop (a .at) (a .list .now))) (sym (c .before .before .before .before .before .row-at .ensures)) ∙ field-fixed (writing (pitsurv (a .version))) (writeObject (a .version) (a .deep)) f (drop (a .at) (a .list .now)) (c .before .before .before .before .if1 .taken)) (c .before .before .put-items .ensures)
+    let at-put-items = c .before .before in
+    let at-if1 = at-put-items .before .before in
+    let at-row-at = at-if1 .before in
+    let start = at-row-at .before .before in
+    let a = start .args in
+    let f = at-row-at .row-at .result in
+    same-run Few15 (a .list .now) (a .out .now) (a .to) (at-put-items .put-items .result) (at-put-items .put-items .last .1 .1 .1 .1 .1 .1 .0)
+    (ap (λ (f : Row). writeField (a .version) (a .deep) f (drop (a .at) (a .list .now))) (sym (at-row-at .row-at .ensures)) ∙ field-fixed (writing (pitsurv (a .version))) (writeObject (a .version) (a .deep)) f (drop (a .at) (a .list .now)) (at-if1 .if1 .taken)) (at-put-items .put-items .ensures)
 
 put-field-put-count-requires : (t : ℕ) → put-field-lts.Need-put-count-requires (put-field-claims t) (put-field-at t) put-field.Post
 put-field-put-count-requires t c κs =
-    let n = c .before .if1 .left in
-    let fits = row-fit (c .before .before .before .before .args .version) (c .before .before .before .before .args .i) (c .before .before .before .before .pre .1 .1) (c .before .before .row-at .ensures) in
-    (c .before .before .before .before .pre .1 .0, (omega (arith, n), fits .count-fits))
+    let at-if1 = c .before in
+    let at-row-at = at-if1 .before in
+    let start = at-row-at .before .before in
+    let n = at-if1 .if1 .left in
+    let fits = row-fit (start .args .version) (start .args .i) (start .pre .1 .1) (at-row-at .row-at .ensures) in
+    (start .pre .1 .0, (omega (arith, n), fits .count-fits))
 
 put-field-enum-known-c : (t : ℕ) → put-field-lts.Need-enum-known-c (put-field-claims t) (put-field-at t) put-field.Post
 put-field-enum-known-c t c = search needs
@@ -144,31 +154,46 @@ put-field-enum-known-c-2 t c = search needs
 
 put-field-put-items-requires-2 : (t : ℕ) → put-field-lts.Need-put-items-requires-2 (put-field-claims t) (put-field-at t) put-field.Post
 put-field-put-items-requires-2 t c κs =
-    let a = c .before .before .before .before .before .before .before .before .before .before .before .args in
-    let h = mark-on Few15 (a .list .now) (a .out .now) (a .to) (c .before .before .before .before .before .before .put-count .result) (c .before .before .before .before .before .before .put-count .last .1 .1 .1 .0) (c .before .before .before .before .before .before .put-count .ensures) _ _ _ (c .before .before .c2 .given .1) in
-    (search needs, ((h .fewer, h .within), row-fit (c .before .before .before .before .before .before .before .before .before .before .before .args .version) (c .before .before .before .before .before .before .before .before .before .before .before .args .i) (c .before .before .before .before .before .before .before .before .before .before .before .pre .1 .1) (c .before .before .before .before .before .before .before .before .before .row-at .ensures)))
+    let at-c2 = c .before .before in
+    let at-put-count = at-c2 .before .before .before .before in
+    let at-row-at = at-put-count .before .before .before in
+    let start = at-row-at .before .before in
+    let a = start .args in
+    let h = mark-on Few15 (a .list .now) (a .out .now) (a .to) (at-put-count .put-count .result) (at-put-count .put-count .last .1 .1 .1 .0) (at-put-count .put-count .ensures) _ _ _ (at-c2 .c2 .given .1) in
+    (search needs, ((h .fewer, h .within), row-fit (start .args .version) (start .args .i) (start .pre .1 .1) (at-row-at .row-at .ensures)))
 
 put-field-same-length-2 : (t : ℕ) → put-field-lts.Need-same-length-2 (put-field-claims t) (put-field-at t) put-field.Post
 put-field-same-length-2 t c = search needs
 
 put-field-returns-2 : (t : ℕ) → put-field-lts.Need-returns-2 (put-field-claims t) (put-field-at t) put-field.Post
 put-field-returns-2 t c =
-    let a = c .before .before .before .before .before .before .before .before .before .before .args in
-    let f = c .before .before .before .before .before .before .before .before .row-at .result in
-    (ap (λ (f : Row). writeField (a .version) (a .deep) f (drop (a .at) (a .list .now))) (sym (c .before .before .before .before .before .before .before .before .row-at .ensures)) ∙ field-counted (writing (pitsurv (a .version))) (writeObject (a .version) (a .deep)) f (drop (a .at) (a .list .now)) (c .before .before .before .before .before .before .before .if1 .left))
-    ∙ marked-stops _ (λ n. repeat n (writeItem (a .version) (a .deep) f)) (mark-stop Few15 (a .list .now) (a .out .now) (a .to) (c .before .before .before .before .before .put-count .result) (c .before .before .before .before .before .put-count .last .1 .1 .1 .0) (c .before .before .before .before .before .put-count .ensures) _ (c .before .c .given .1))
+    let at-c = c .before in
+    let at-put-count = at-c .before .before .before .before in
+    let at-if1 = at-put-count .before .before in
+    let at-row-at = at-if1 .before in
+    let start = at-row-at .before .before in
+    let a = start .args in
+    let f = at-row-at .row-at .result in
+    (ap (λ (f : Row). writeField (a .version) (a .deep) f (drop (a .at) (a .list .now))) (sym (at-row-at .row-at .ensures)) ∙ field-counted (writing (pitsurv (a .version))) (writeObject (a .version) (a .deep)) f (drop (a .at) (a .list .now)) (at-if1 .if1 .left))
+    ∙ marked-stops _ (λ n. repeat n (writeItem (a .version) (a .deep) f)) (mark-stop Few15 (a .list .now) (a .out .now) (a .to) (at-put-count .put-count .result) (at-put-count .put-count .last .1 .1 .1 .0) (at-put-count .put-count .ensures) _ (at-c .c .given .1))
 
 put-field-same-length-3 : (t : ℕ) → put-field-lts.Need-same-length-3 (put-field-claims t) (put-field-at t) put-field.Post
 put-field-same-length-3 t c = search needs
 
 put-field-returns-3 : (t : ℕ) → put-field-lts.Need-returns-3 (put-field-claims t) (put-field-at t) put-field.Post
 put-field-returns-3 t c =
-    let a = c .before .before .before .before .before .before .before .before .before .before .before .before .before .before .args in
-    let f = c .before .before .before .before .before .before .before .before .before .before .before .before .row-at .result in
-    let h = mark-on Few15 (a .list .now) (a .out .now) (a .to) (c .before .before .before .before .before .before .before .before .before .put-count .result) (c .before .before .before .before .before .before .before .before .before .put-count .last .1 .1 .1 .0) (c .before .before .before .before .before .before .before .before .before .put-count .ensures) _ _ _ (c .before .before .before .before .before .c2 .given .1) in
-    same-run Few15 (a .list .now) (a .out .now) (a .to) (c .before .before .put-items2 .result) (c .before .before .put-items2 .last .1 .1 .1 .1 .1 .1 .0)
-    (ap (λ (f : Row). writeField (a .version) (a .deep) f (drop (a .at) (a .list .now))) (sym (c .before .before .before .before .before .before .before .before .before .before .before .before .row-at .ensures)) ∙ field-counted (writing (pitsurv (a .version))) (writeObject (a .version) (a .deep)) f (drop (a .at) (a .list .now)) (c .before .before .before .before .before .before .before .before .before .before .before .if1 .left))
-    (marked-then h (λ n. repeat n (writeItem (a .version) (a .deep) f)) (c .before .before .put-items2 .result) (c .before .before .put-items2 .last .1 .1 .1 .1 .1 .1 .0) (c .before .before .put-items2 .ensures))
+    let at-put-items2 = c .before .before in
+    let at-c2 = at-put-items2 .before .before .before in
+    let at-put-count = at-c2 .before .before .before .before in
+    let at-if1 = at-put-count .before .before in
+    let at-row-at = at-if1 .before in
+    let start = at-row-at .before .before in
+    let a = start .args in
+    let f = at-row-at .row-at .result in
+    let h = mark-on Few15 (a .list .now) (a .out .now) (a .to) (at-put-count .put-count .result) (at-put-count .put-count .last .1 .1 .1 .0) (at-put-count .put-count .ensures) _ _ _ (at-c2 .c2 .given .1) in
+    same-run Few15 (a .list .now) (a .out .now) (a .to) (at-put-items2 .put-items2 .result) (at-put-items2 .put-items2 .last .1 .1 .1 .1 .1 .1 .0)
+    (ap (λ (f : Row). writeField (a .version) (a .deep) f (drop (a .at) (a .list .now))) (sym (at-row-at .row-at .ensures)) ∙ field-counted (writing (pitsurv (a .version))) (writeObject (a .version) (a .deep)) f (drop (a .at) (a .list .now)) (at-if1 .if1 .left))
+    (marked-then h (λ n. repeat n (writeItem (a .version) (a .deep) f)) (at-put-items2 .put-items2 .result) (at-put-items2 .put-items2 .last .1 .1 .1 .1 .1 .1 .0) (at-put-items2 .put-items2 .ensures))
 
 abbrev put-fields-Inv-loop : put-fields-lts.InvT-loop
 put-fields-Inv-loop list at version deep t out₀ to p₀ q₀ i₀ end out p q i =
@@ -191,15 +216,17 @@ put-fields-start-of-requires-2 t c κs = search needs
 
 put-fields-loop-holds : (t : ℕ) → put-fields-lts.Need-loop-holds (put-fields-claims t) (put-fields-at t) put-fields.Post put-fields-Inv-loop put-fields-μ-loop
 put-fields-loop-holds t c =
-    let a = c .before .before .before .args in
-    let r = rows-of (pitsurv (a .version)) (a .t) (c .before .start-of .result) (c .start-of2 .result) (c .before .before .before .pre .1 .1) (c .before .start-of .ensures) (c .start-of2 .ensures) in (
+    let at-start-of = c .before in
+    let start = at-start-of .before .before in
+    let a = start .args in
+    let r = rows-of (pitsurv (a .version)) (a .t) (at-start-of .start-of .result) (c .start-of2 .result) (start .pre .1 .1) (at-start-of .start-of .ensures) (c .start-of2 .ensures) in (
       r .rise,
       (
         r .inside,
         (
           refl,
-          begins (writeFields (a .version) (a .deep) (slice (c .before .start-of .result) (c .start-of2 .result) (rowsOf (pitsurv (a .version))))) (a .at) (a .to) (a .out .now)
-              (ap (λ (fs : List Row). writeFields (a .version) (a .deep) fs (drop (a .at) (a .list .now))) (r .are)) (c .before .before .before .pre .1 .0 .0) (c .before .before .before .pre .1 .0 .1),
+          begins (writeFields (a .version) (a .deep) (slice (at-start-of .start-of .result) (c .start-of2 .result) (rowsOf (pitsurv (a .version))))) (a .at) (a .to) (a .out .now)
+              (ap (λ (fs : List Row). writeFields (a .version) (a .deep) fs (drop (a .at) (a .list .now))) (r .are)) (start .pre .1 .0 .0) (start .pre .1 .0 .1),
         ),
       ),
     )
@@ -217,9 +244,15 @@ put-fields-same-length t c = search needs
 
 put-fields-returns : (t : ℕ) → put-fields-lts.Need-returns (put-fields-claims t) (put-fields-at t) put-fields.Post put-fields-Inv-loop put-fields-μ-loop
 put-fields-returns t c =
-    let a = c .before .before .before .before .before .before .before .before .before .before .before .before .args in
-    let x = c .before .before .before .before .before .before .before .before .loop in
-    fields-stop Few15 (writing (pitsurv (a .version))) (writeObject (a .version) (a .deep)) (rowsOf (pitsurv (a .version))) (x .i) (c .before .before .before .before .before .before .before .before .before .start-of2 .result) (x .inv .1 .1 .1) (c .before .before .before .before .before .before .before .loop-test .taken) (x .inv .1 .0) (c .before .before .before .before .before .put-field .result) (c .before .before .before .before .before .put-field .last .1 .1 .1 .1 .1 .0) (c .before .before .before .before .before .put-field .ensures) _ (c .before .r .given .1)
+    let at-r = c .before in
+    let at-put-field = at-r .before .before .before .before in
+    let at-loop-test = at-put-field .before .before in
+    let turn = at-loop-test .before in
+    let at-start-of2 = turn .before in
+    let start = at-start-of2 .before .before .before in
+    let a = start .args in
+    let x = turn .loop in
+    fields-stop Few15 (writing (pitsurv (a .version))) (writeObject (a .version) (a .deep)) (rowsOf (pitsurv (a .version))) (x .i) (at-start-of2 .start-of2 .result) (x .inv .1 .1 .1) (at-loop-test .loop-test .taken) (x .inv .1 .0) (at-put-field .put-field .result) (at-put-field .put-field .last .1 .1 .1 .1 .1 .0) (at-put-field .put-field .ensures) _ (at-r .r .given .1)
 
 put-fields-enum-known-r-2 : (t : ℕ) → put-fields-lts.Need-enum-known-r-2 (put-fields-claims t) (put-fields-at t) put-fields.Post put-fields-Inv-loop put-fields-μ-loop
 put-fields-enum-known-r-2 t c = search needs
@@ -232,18 +265,35 @@ put-fields-loop-less t c = search needs
 
 put-fields-loop-again : (t : ℕ) → put-fields-lts.Need-loop-again (put-fields-claims t) (put-fields-at t) put-fields.Post put-fields-Inv-loop put-fields-μ-loop
 put-fields-loop-again t c =
-    let a = c .before .before .before .before .before .before .before .before .before .before .before .before .args in
-    let x = c .before .before .before .before .before .before .before .before .loop in
-    (search needs, (x .inv .1 .0, (c .before .before .before .before .before .put-field .kept .1 .1 .1 .1 .1 .0 ∙ x .inv .1 .1 .0, fields-turn Few15 (writing (pitsurv (a .version))) (writeObject (a .version) (a .deep)) (rowsOf (pitsurv (a .version))) (x .i) (c .before .before .before .before .before .before .before .before .before .start-of2 .result) (x .inv .1 .1 .1) (c .before .before .before .before .before .before .before .loop-test .taken) (x .inv .1 .0) (c .before .before .before .before .before .put-field .result) (c .before .before .before .before .before .put-field .last .1 .1 .1 .1 .1 .0) (c .before .before .before .before .before .put-field .ensures) _ _ (c .before .r2 .given .1))))
+    let at-r2 = c .before in
+    let at-put-field = at-r2 .before .before .before .before in
+    let at-loop-test = at-put-field .before .before in
+    let turn = at-loop-test .before in
+    let at-start-of2 = turn .before in
+    let start = at-start-of2 .before .before .before in
+    let a = start .args in
+    let x = turn .loop in (
+      search needs,
+      (
+        x .inv .1 .0,
+        (
+          at-put-field .put-field .kept .1 .1 .1 .1 .1 .0 ∙ x .inv .1 .1 .0,
+          fields-turn Few15 (writing (pitsurv (a .version))) (writeObject (a .version) (a .deep)) (rowsOf (pitsurv (a .version))) (x .i) (at-start-of2 .start-of2 .result) (x .inv .1 .1 .1) (at-loop-test .loop-test .taken) (x .inv .1 .0) (at-put-field .put-field .result) (at-put-field .put-field .last .1 .1 .1 .1 .1 .0) (at-put-field .put-field .ensures) _ _ (at-r2 .r2 .given .1),
+        ),
+      ),
+    )
 
 put-fields-same-length-2 : (t : ℕ) → put-fields-lts.Need-same-length-2 (put-fields-claims t) (put-fields-at t) put-fields.Post put-fields-Inv-loop put-fields-μ-loop
 put-fields-same-length-2 t c = search needs
 
 put-fields-returns-2 : (t : ℕ) → put-fields-lts.Need-returns-2 (put-fields-claims t) (put-fields-at t) put-fields.Post put-fields-Inv-loop put-fields-μ-loop
 put-fields-returns-2 t c =
-    let a = c .before .before .before .before .before .args in
-    let x = c .before .loop in
-    fields-done Few15 (writing (pitsurv (a .version))) (writeObject (a .version) (a .deep)) (rowsOf (pitsurv (a .version))) (x .i) (c .before .before .start-of2 .result) (x .inv .1 .1 .1) (c .loop-test .left) (x .inv .0)
+    let turn = c .before in
+    let at-start-of2 = turn .before in
+    let start = at-start-of2 .before .before .before in
+    let a = start .args in
+    let x = turn .loop in
+    fields-done Few15 (writing (pitsurv (a .version))) (writeObject (a .version) (a .deep)) (rowsOf (pitsurv (a .version))) (x .i) (at-start-of2 .start-of2 .result) (x .inv .1 .1 .1) (c .loop-test .left) (x .inv .0)
 
 put-item-put-object-requires : (t : ℕ) → put-item-lts.Need-put-object-requires (put-item-claims t) (put-item-at t) put-item.Post
 put-item-put-object-requires t c κs = search needs
@@ -253,22 +303,30 @@ put-item-same-length t c = search needs
 
 put-item-returns : (t : ℕ) → put-item-lts.Need-returns (put-item-claims t) (put-item-at t) put-item.Post
 put-item-returns t c =
-    let a = c .before .before .before .before .before .before .args in
-    same-run Few15 (a .list .now) (a .out .now) (a .to) (c .before .before .put-object .result) (c .before .before .put-object .last .1 .1 .1 .1 .1 .0) (item-object (writing (pitsurv (a .version))) (writeObject (a .version) (a .deep)) (a .f) (drop (a .at) (a .list .now)) (c .before .before .before .before .if1 .taken)) (c .before .before .put-object .ensures)
+    let at-put-object = c .before .before in
+    let at-if1 = at-put-object .before .before in
+    let start = at-if1 .before .before in
+    let a = start .args in
+    same-run Few15 (a .list .now) (a .out .now) (a .to) (at-put-object .put-object .result) (at-put-object .put-object .last .1 .1 .1 .1 .1 .0) (item-object (writing (pitsurv (a .version))) (writeObject (a .version) (a .deep)) (a .f) (drop (a .at) (a .list .now)) (at-if1 .if1 .taken)) (at-put-object .put-object .ensures)
 
 put-item-put-value-requires : (t : ℕ) → put-item-lts.Need-put-value-requires (put-item-claims t) (put-item-at t) put-item.Post
 put-item-put-value-requires t c κs =
-    let fits = c .before .before .before .pre .1 .1 in
-    let plain = c .before .if1 .left in
-    (c .before .before .before .pre .1 .0, ((fits .arg-least plain, fits .arg-signed plain), fits .arg-plain plain))
+    let at-if1 = c .before in
+    let start = at-if1 .before .before in
+    let fits = start .pre .1 .1 in
+    let plain = at-if1 .if1 .left in
+    (start .pre .1 .0, ((fits .arg-least plain, fits .arg-signed plain), fits .arg-plain plain))
 
 put-item-same-length-2 : (t : ℕ) → put-item-lts.Need-same-length-2 (put-item-claims t) (put-item-at t) put-item.Post
 put-item-same-length-2 t c = search needs
 
 put-item-returns-2 : (t : ℕ) → put-item-lts.Need-returns-2 (put-item-claims t) (put-item-at t) put-item.Post
 put-item-returns-2 t c =
-    let a = c .before .before .before .before .before .before .args in
-    same-run Few15 (a .list .now) (a .out .now) (a .to) (c .before .before .put-value .result) (c .before .before .put-value .last .1 .1 .1 .1 .0) (item-value (writing (pitsurv (a .version))) (writeObject (a .version) (a .deep)) (a .f) (drop (a .at) (a .list .now)) (c .before .before .before .before .if1 .left)) (c .before .before .put-value .ensures)
+    let at-put-value = c .before .before in
+    let at-if1 = at-put-value .before .before in
+    let start = at-if1 .before .before in
+    let a = start .args in
+    same-run Few15 (a .list .now) (a .out .now) (a .to) (at-put-value .put-value .result) (at-put-value .put-value .last .1 .1 .1 .1 .0) (item-value (writing (pitsurv (a .version))) (writeObject (a .version) (a .deep)) (a .f) (drop (a .at) (a .list .now)) (at-if1 .if1 .left)) (at-put-value .put-value .ensures)
 
 abbrev put-items-Inv-loop : put-items-lts.InvT-loop
 put-items-Inv-loop list at version deep f n out₀ to p₀ q₀ k₀ out p q k =
@@ -293,9 +351,14 @@ put-items-same-length t c = search needs
 
 put-items-returns : (t : ℕ) → put-items-lts.Need-returns (put-item-below t, put-item.Post) (put-items-at t) put-items.Post put-items-Inv-loop put-items-μ-loop
 put-items-returns t c =
-    let a = c .before .before .before .before .before .before .before .before .before .before .args in
-    let x = c .before .before .before .before .before .before .before .before .loop in
-    items-stop Few15 (writeItem (a .version) (a .deep) (a .f)) (a .n) (x .k) (x .inv .1 .1) (c .before .before .before .before .before .before .before .loop-test .taken) (c .before .before .before .before .before .put-item .result) (c .before .before .before .before .before .put-item .last .1 .1 .1 .1 .1 .0) (c .before .before .before .before .before .put-item .ensures) _ (c .before .r .given .1)
+    let at-r = c .before in
+    let at-put-item = at-r .before .before .before .before in
+    let at-loop-test = at-put-item .before .before in
+    let turn = at-loop-test .before in
+    let start = turn .before .before in
+    let a = start .args in
+    let x = turn .loop in
+    items-stop Few15 (writeItem (a .version) (a .deep) (a .f)) (a .n) (x .k) (x .inv .1 .1) (at-loop-test .loop-test .taken) (at-put-item .put-item .result) (at-put-item .put-item .last .1 .1 .1 .1 .1 .0) (at-put-item .put-item .ensures) _ (at-r .r .given .1)
 
 put-items-enum-known-r-2 : (t : ℕ) → put-items-lts.Need-enum-known-r-2 (put-items-claims t) (put-items-at t) put-items.Post put-items-Inv-loop put-items-μ-loop
 put-items-enum-known-r-2 t c = search needs
@@ -308,17 +371,24 @@ put-items-loop-less t c = search needs
 
 put-items-loop-again : (t : ℕ) → put-items-lts.Need-loop-again (put-item-below t, put-item.Post) (put-items-at t) put-items.Post put-items-Inv-loop put-items-μ-loop
 put-items-loop-again t c =
-    let a = c .before .before .before .before .before .before .before .before .before .before .args in
-    let x = c .before .before .before .before .before .before .before .before .loop in
-    (search needs, (c .before .before .before .before .before .put-item .kept .1 .1 .1 .1 .1 .0 ∙ x .inv .1 .0, items-turn Few15 (writeItem (a .version) (a .deep) (a .f)) (a .n) (x .k) (x .inv .1 .1) (c .before .before .before .before .before .before .before .loop-test .taken) (c .before .before .before .before .before .put-item .result) (c .before .before .before .before .before .put-item .last .1 .1 .1 .1 .1 .0) (c .before .before .before .before .before .put-item .ensures) _ _ (c .before .r2 .given .1)))
+    let at-r2 = c .before in
+    let at-put-item = at-r2 .before .before .before .before in
+    let at-loop-test = at-put-item .before .before in
+    let turn = at-loop-test .before in
+    let start = turn .before .before in
+    let a = start .args in
+    let x = turn .loop in
+    (search needs, (at-put-item .put-item .kept .1 .1 .1 .1 .1 .0 ∙ x .inv .1 .0, items-turn Few15 (writeItem (a .version) (a .deep) (a .f)) (a .n) (x .k) (x .inv .1 .1) (at-loop-test .loop-test .taken) (at-put-item .put-item .result) (at-put-item .put-item .last .1 .1 .1 .1 .1 .0) (at-put-item .put-item .ensures) _ _ (at-r2 .r2 .given .1)))
 
 put-items-same-length-2 : (t : ℕ) → put-items-lts.Need-same-length-2 (put-items-claims t) (put-items-at t) put-items.Post put-items-Inv-loop put-items-μ-loop
 put-items-same-length-2 t c = search needs
 
 put-items-returns-2 : (t : ℕ) → put-items-lts.Need-returns-2 (put-item-below t, put-item.Post) (put-items-at t) put-items.Post put-items-Inv-loop put-items-μ-loop
 put-items-returns-2 t c =
-    let a = c .before .before .before .args in
-    let x = c .before .loop in
+    let turn = c .before in
+    let start = turn .before .before in
+    let a = start .args in
+    let x = turn .loop in
     items-end Few15 (writeItem (a .version) (a .deep) (a .f)) (a .n) (x .k) (x .inv .1 .1) (c .loop-test .left)
 
 put-object-put-head-requires : (t : ℕ) → put-object-lts.Need-put-head-requires (put-object-claims t) (put-object-at t) put-object.Post
@@ -335,53 +405,72 @@ put-object-same-length t c = search needs
 
 put-object-returns : (t : ℕ) → put-object-lts.Need-returns (put-object-claims t) (put-object-at t) put-object.Post
 put-object-returns t c =
-    let a = c .before .before .before .before .before .before .before .before .before .args in
-    let h = mark-on Few15 (a .list .now) (a .out .now) (a .to) (c .before .before .before .before .before .before .put-head .result) (c .before .before .before .before .before .before .put-head .last .1 .1 .1 .1 .1 .0) (c .before .before .before .before .before .before .put-head .ensures) _ _ _ (c .before .before .h2 .given .1) in
-    let n = c .before .before .h2 .given .0 .0 in
-    let p = c .before .before .h2 .given .0 .1 .0 in
-    let q = c .before .before .h2 .given .0 .1 .1 .0 in
-    same-run Few15 (a .list .now) (a .out .now) (a .to) (To p q) (c .before .before .before .before .before .before .put-head .last .1 .1 .1 .1 .1 .0) (object-is (writing (pitsurv (a .version))) (pitsurv (a .version)) (a .deep) (a .declared) (drop (a .at) (a .list .now)))
+    let at-h2 = c .before .before in
+    let at-put-head = at-h2 .before .before .before .before in
+    let start = at-put-head .before .before .before in
+    let a = start .args in
+    let h = mark-on Few15 (a .list .now) (a .out .now) (a .to) (at-put-head .put-head .result) (at-put-head .put-head .last .1 .1 .1 .1 .1 .0) (at-put-head .put-head .ensures) _ _ _ (at-h2 .h2 .given .1) in
+    let n = at-h2 .h2 .given .0 .0 in
+    let p = at-h2 .h2 .given .0 .1 .0 in
+    let q = at-h2 .h2 .given .0 .1 .1 .0 in
+    same-run Few15 (a .list .now) (a .out .now) (a .to) (To p q) (at-put-head .put-head .last .1 .1 .1 .1 .1 .0) (object-is (writing (pitsurv (a .version))) (pitsurv (a .version)) (a .deep) (a .declared) (drop (a .at) (a .list .now)))
     (marked-end h (inside (writing (pitsurv (a .version))) (pitsurv (a .version)) (a .deep))
     (ap (λ (m : ℕ). inside (writing (pitsurv (a .version))) (pitsurv (a .version)) (a .deep) m (drop p (a .list .now))) (c .if1 .taken) ∙ inside-null (writing (pitsurv (a .version))) (pitsurv (a .version)) (a .deep) (drop p (a .list .now)) refl))
 
 put-object-sub-put-fields : (t : ℕ) → put-object-lts.Need-sub-put-fields (put-object-claims t) (put-object-at t) put-object.Post
 put-object-sub-put-fields t c =
-    let a = c .before .before .before .before .before .before .before .before .before .args in
-    let h = mark-on Few15 (a .list .now) (a .out .now) (a .to) (c .before .before .before .before .before .before .put-head .result) (c .before .before .before .before .before .before .put-head .last .1 .1 .1 .1 .1 .0) (c .before .before .before .before .before .before .put-head .ensures) _ _ _ (c .before .before .h2 .given .1) in
+    let at-h2 = c .before .before in
+    let at-put-head = at-h2 .before .before .before .before in
+    let start = at-put-head .before .before .before in
+    let a = start .args in
+    let h = mark-on Few15 (a .list .now) (a .out .now) (a .to) (at-put-head .put-head .result) (at-put-head .put-head .last .1 .1 .1 .1 .1 .0) (at-put-head .put-head .ensures) _ _ _ (at-h2 .h2 .given .1) in
     let y = write-some (pitsurv (a .version)) (a .deep) (a .declared) _ (c .if1 .left) (drop (a .at) (a .list .now)) (h .whole) in
     omega (arith, y .deep)
 
 put-object-put-fields-requires : (t : ℕ) → put-object-lts.Need-put-fields-requires (put-object-claims t) (put-object-at t) put-object.Post
 put-object-put-fields-requires t c κs =
-    let a = c .before .before .before .before .before .before .before .before .before .before .args in
-    let h = mark-on Few15 (a .list .now) (a .out .now) (a .to) (c .before .before .before .before .before .before .before .put-head .result) (c .before .before .before .before .before .before .before .put-head .last .1 .1 .1 .1 .1 .0) (c .before .before .before .before .before .before .before .put-head .ensures) _ _ _ (c .before .before .before .h2 .given .1) in
-    let y = write-some (pitsurv (a .version)) (a .deep) (a .declared) _ (c .before .if1 .left) (drop (a .at) (a .list .now)) (h .whole) in
-    (omega (arith, c .before .before .before .before .before .before .before .before .before .before .pre .0, y .deep), ((h .fewer, h .within), y .within))
+    let at-if1 = c .before in
+    let at-h2 = at-if1 .before .before in
+    let at-put-head = at-h2 .before .before .before .before in
+    let start = at-put-head .before .before .before in
+    let a = start .args in
+    let h = mark-on Few15 (a .list .now) (a .out .now) (a .to) (at-put-head .put-head .result) (at-put-head .put-head .last .1 .1 .1 .1 .1 .0) (at-put-head .put-head .ensures) _ _ _ (at-h2 .h2 .given .1) in
+    let y = write-some (pitsurv (a .version)) (a .deep) (a .declared) _ (at-if1 .if1 .left) (drop (a .at) (a .list .now)) (h .whole) in
+    (omega (arith, start .pre .0, y .deep), ((h .fewer, h .within), y .within))
 
 put-object-same-length-2 : (t : ℕ) → put-object-lts.Need-same-length-2 (put-object-claims t) (put-object-at t) put-object.Post
 put-object-same-length-2 t c = search needs
 
 put-object-returns-2 : (t : ℕ) → put-object-lts.Need-returns-2 (put-object-claims t) (put-object-at t) put-object.Post
 put-object-returns-2 t c =
-    let a = c .before .before .before .before .before .before .before .before .args in
-    object-is (writing (pitsurv (a .version))) (pitsurv (a .version)) (a .deep) (a .declared) (drop (a .at) (a .list .now)) ∙ marked-stops _ (inside (writing (pitsurv (a .version))) (pitsurv (a .version)) (a .deep)) (mark-stop Few15 (a .list .now) (a .out .now) (a .to) (c .before .before .before .before .before .put-head .result) (c .before .before .before .before .before .put-head .last .1 .1 .1 .1 .1 .0) (c .before .before .before .before .before .put-head .ensures) _ (c .before .h .given .1))
+    let at-h = c .before in
+    let at-put-head = at-h .before .before .before .before in
+    let start = at-put-head .before .before .before in
+    let a = start .args in
+    object-is (writing (pitsurv (a .version))) (pitsurv (a .version)) (a .deep) (a .declared) (drop (a .at) (a .list .now)) ∙
+    marked-stops _ (inside (writing (pitsurv (a .version))) (pitsurv (a .version)) (a .deep)) (mark-stop Few15 (a .list .now) (a .out .now) (a .to) (at-put-head .put-head .result) (at-put-head .put-head .last .1 .1 .1 .1 .1 .0) (at-put-head .put-head .ensures) _ (at-h .h .given .1))
 
 put-object-same-length-3 : (t : ℕ) → put-object-lts.Need-same-length-3 (put-object-claims t) (put-object-at t) put-object.Post
 put-object-same-length-3 t c = search needs
 
 put-object-returns-3 : (t : ℕ) → put-object-lts.Need-returns-3 (put-object-claims t) (put-object-at t) put-object.Post
 put-object-returns-3 t c =
-    let a = c .before .before .before .before .before .before .before .before .before .before .before .before .before .args in
-    let h = mark-on Few15 (a .list .now) (a .out .now) (a .to) (c .before .before .before .before .before .before .before .before .before .before .put-head .result) (c .before .before .before .before .before .before .before .before .before .before .put-head .last .1 .1 .1 .1 .1 .0) (c .before .before .before .before .before .before .before .before .before .before .put-head .ensures) _ _ _ (c .before .before .before .before .before .before .h2 .given .1) in
-    let n = c .before .before .before .before .before .before .h2 .given .0 .0 in
-    let p = c .before .before .before .before .before .before .h2 .given .0 .1 .0 in
-    let q = c .before .before .before .before .before .before .h2 .given .0 .1 .1 .0 in
-    let y = write-some (pitsurv (a .version)) (a .deep) (a .declared) _ (c .before .before .before .before .if1 .left) (drop (a .at) (a .list .now)) (h .whole) in
-    let r = c .before .before .put-fields .result in
-    let out' = c .before .before .put-fields .last .1 .1 .1 .1 .1 .0 in
+    let at-put-fields = c .before .before in
+    let at-if1 = at-put-fields .before .before in
+    let at-h2 = at-if1 .before .before in
+    let at-put-head = at-h2 .before .before .before .before in
+    let start = at-put-head .before .before .before in
+    let a = start .args in
+    let h = mark-on Few15 (a .list .now) (a .out .now) (a .to) (at-put-head .put-head .result) (at-put-head .put-head .last .1 .1 .1 .1 .1 .0) (at-put-head .put-head .ensures) _ _ _ (at-h2 .h2 .given .1) in
+    let n = at-h2 .h2 .given .0 .0 in
+    let p = at-h2 .h2 .given .0 .1 .0 in
+    let q = at-h2 .h2 .given .0 .1 .1 .0 in
+    let y = write-some (pitsurv (a .version)) (a .deep) (a .declared) _ (at-if1 .if1 .left) (drop (a .at) (a .list .now)) (h .whole) in
+    let r = at-put-fields .put-fields .result in
+    let out' = at-put-fields .put-fields .last .1 .1 .1 .1 .1 .0 in
     same-run Few15 (a .list .now) (a .out .now) (a .to) r out' (object-is (writing (pitsurv (a .version))) (pitsurv (a .version)) (a .deep) (a .declared) (drop (a .at) (a .list .now)))
     (marked-then h (inside (writing (pitsurv (a .version))) (pitsurv (a .version)) (a .deep)) r out'
-    (same-run Few15 (a .list .now) (c .before .before .before .before .before .before .before .before .before .before .put-head .last .1 .1 .1 .1 .1 .0) q r out' (inside-fields (writing (pitsurv (a .version))) (pitsurv (a .version)) (a .deep) n (drop p (a .list .now)) (y .deep)) (c .before .before .put-fields .ensures)))
+    (same-run Few15 (a .list .now) (at-put-head .put-head .last .1 .1 .1 .1 .1 .0) q r out' (inside-fields (writing (pitsurv (a .version))) (pitsurv (a .version)) (a .deep) n (drop p (a .list .now)) (y .deep)) (at-put-fields .put-fields .ensures)))
 
 pub +put-field+put-fields+put-item+put-items+put-object-spec : {M : Type 1} → statement M
 +put-field+put-fields+put-item+put-items+put-object-spec =

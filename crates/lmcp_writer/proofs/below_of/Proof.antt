@@ -9,13 +9,18 @@ use Rattle.lmcp_writer.proofs.below_of.Statement.{statement}
 use Rattle.lmcp_writer.proofs.below_of.Tie as tie
 
 returns : tie.Need-returns
-returns c = negative-below (c .before .args .n) (c .before .args .z) (subst (λ (y : ℤ). ltZ y (pos 0) ≡ true) (through (c .before .args .z) (c .before .fits .z)) (c .if1 .taken))
+returns c =
+    let start = c .before in
+    negative-below (start .args .n) (start .args .z) (subst (λ (y : ℤ). ltZ y (pos 0) ≡ true) (through (start .args .z) (start .fits .z)) (c .if1 .taken))
 
 size-of-requires : tie.Need-size-of-requires
 size-of-requires c κs = search needs
 
 returns-2 : tie.Need-returns-2
-returns-2 c = positive-below (c .before .before .args .n) (c .before .before .args .z) (c .size-of .result) (c .size-of .ensures ∙ ap mag (through (c .before .before .args .z) (c .before .before .fits .z))) (subst (λ (y : ℤ). ltZ y (pos 0) ≡ false) (through (c .before .before .args .z) (c .before .before .fits .z)) (c .before .if1 .left))
+returns-2 c =
+    let at-if1 = c .before in
+    let start = at-if1 .before in
+    positive-below (start .args .n) (start .args .z) (c .size-of .result) (c .size-of .ensures ∙ ap mag (through (start .args .z) (start .fits .z))) (subst (λ (y : ℤ). ltZ y (pos 0) ≡ false) (through (start .args .z) (start .fits .z)) (at-if1 .if1 .left))
 
 pub below-of-spec : {M : Type 1} → statement M
 below-of-spec = tie.close (tie.spec returns size-of-requires returns-2)

@@ -15,10 +15,16 @@ sub-result : tie.Need-sub-result
 sub-result c = search needs
 
 returns : tie.Need-returns
-returns c = negative-bits (c .before .before .args .z) (c .before .size-of .result) (c .before .size-of .ensures ∙ ap mag (through (c .before .before .args .z) (c .before .before .fits .z))) (subst (λ (y : ℤ). ltZ y (pos 0) ≡ true) (through (c .before .before .args .z) (c .before .before .fits .z)) (c .if1 .taken))
+returns c =
+    let at-size-of = c .before in
+    let start = at-size-of .before in
+    negative-bits (start .args .z) (at-size-of .size-of .result) (at-size-of .size-of .ensures ∙ ap mag (through (start .args .z) (start .fits .z))) (subst (λ (y : ℤ). ltZ y (pos 0) ≡ true) (through (start .args .z) (start .fits .z)) (c .if1 .taken))
 
 returns-2 : tie.Need-returns-2
-returns-2 c = positive-bits (c .before .before .args .z) (c .before .size-of .result) (c .before .size-of .ensures ∙ ap mag (through (c .before .before .args .z) (c .before .before .fits .z))) (subst (λ (y : ℤ). ltZ y (pos 0) ≡ false) (through (c .before .before .args .z) (c .before .before .fits .z)) (c .if1 .left))
+returns-2 c =
+    let at-size-of = c .before in
+    let start = at-size-of .before in
+    positive-bits (start .args .z) (at-size-of .size-of .result) (at-size-of .size-of .ensures ∙ ap mag (through (start .args .z) (start .fits .z))) (subst (λ (y : ℤ). ltZ y (pos 0) ≡ false) (through (start .args .z) (start .fits .z)) (c .if1 .left))
 
 pub bits-of-spec : {M : Type 1} → statement M
 bits-of-spec = tie.close (tie.spec size-of-requires sub-result returns returns-2)

@@ -22,11 +22,13 @@ same-length c = search needs
 
 returns : tie.Need-returns
 returns c =
-    let a = c .before .before .before .before .before .args in
-    let o : List ℕ = c .before .before .put-root .last .1 .1 .0 in
-    let nil : o ≡ [] = empty o (c .before .before .put-root .kept .1 .1 .0) in (
+    let at-put-root = c .before .before in
+    let start = at-put-root .before .before .before in
+    let a = start .args in
+    let o : List ℕ = at-put-root .put-root .last .1 .1 .0 in
+    let nil : o ≡ [] = empty o (at-put-root .put-root .kept .1 .1 .0) in (
       ap (λ (l : List ℕ). l ++ a .out .now) nil,
-      subst (λ (l : List ℕ). Ends (a .list .now) [] 8 (writeRoot (a .version) (a .list .now)) (c .before .before .put-root .result) l) nil (c .before .before .put-root .ensures),
+      subst (λ (l : List ℕ). Ends (a .list .now) [] 8 (writeRoot (a .version) (a .list .now)) (at-put-root .put-root .result) l) nil (at-put-root .put-root .ensures),
     )
 
 pub count-root-spec : {M : Type 1} → statement M

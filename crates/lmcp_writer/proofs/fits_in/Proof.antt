@@ -15,7 +15,11 @@ half-requires : tie.Need-half-requires
 half-requires c κs = search needs
 
 returns : tie.Need-returns
-returns c = fits-signed (c .before .before .before .args .kind) (c .before .before .before .args .w) (c .before .before .before .args .z) (c .before .size-of .result) (c .half .result) (c .before .before .if1 .taken) (c .before .before .before .pre .0 .1) (c .before .size-of .ensures ∙ ap mag (through (c .before .before .before .args .z) (c .before .before .before .fits .z))) (c .half .ensures)
+returns c =
+    let at-size-of = c .before in
+    let at-if1 = at-size-of .before in
+    let start = at-if1 .before in
+    fits-signed (start .args .kind) (start .args .w) (start .args .z) (at-size-of .size-of .result) (c .half .result) (at-if1 .if1 .taken) (start .pre .0 .1) (at-size-of .size-of .ensures ∙ ap mag (through (start .args .z) (start .fits .z))) (c .half .ensures)
 
 values-of-requires : tie.Need-values-of-requires
 values-of-requires c κs = (c .before .pre .0 .0, c .before .pre .1 (c .if1 .left))
@@ -24,7 +28,11 @@ below-of-requires : tie.Need-below-of-requires
 below-of-requires c κs = search needs
 
 returns-2 : tie.Need-returns-2
-returns-2 c = c .below-of .ensures ∙ ap (below (c .before .values-of .result)) (through (c .before .before .before .args .z) (c .before .before .before .fits .z)) ∙ fits-plain (c .before .before .before .args .kind) (c .before .before .before .args .w) (c .before .before .before .args .z) (c .before .values-of .result) (c .before .before .if1 .left) (c .before .values-of .ensures)
+returns-2 c =
+    let at-values-of = c .before in
+    let at-if1 = at-values-of .before in
+    let start = at-if1 .before in
+    c .below-of .ensures ∙ ap (below (at-values-of .values-of .result)) (through (start .args .z) (start .fits .z)) ∙ fits-plain (start .args .kind) (start .args .w) (start .args .z) (at-values-of .values-of .result) (at-if1 .if1 .left) (at-values-of .values-of .ensures)
 
 pub fits-in-spec : {M : Type 1} → statement M
 fits-in-spec =

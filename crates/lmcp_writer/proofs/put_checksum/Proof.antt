@@ -18,8 +18,9 @@ slice-reshare-prefix-checksum c = search needs
 
 slice-aggregate-checksum : tie.Need-slice-aggregate-checksum
 slice-aggregate-checksum c =
-    let a = c .before .before .before .args in
-    sym (length-take-le (a .end) (a .out .now) (c .before .before .before .pre))
+    let start = c .before .before .before in
+    let a = start .args in
+    sym (length-take-le (a .end) (a .out .now) (start .pre))
 
 checksum-requires : tie.Need-checksum-requires
 checksum-requires c κs = search needs
@@ -35,9 +36,13 @@ same-length c = search needs
 
 returns : tie.Need-returns
 returns c =
-    let a = c .before .before .before .before .before .before .before .before .args in
+    let at-put-number = c .before .before in
+    let at-checksum = at-put-number .before .before in
+    let at-if1 = at-checksum .before .before in
+    let start = at-if1 .before .before in
+    let a = start .args in
     let s = checksumOf (take (a .end) (a .out .now)) in
-    c .before .before .put-number .ensures ∙ ap (λ (n : ℕ). overlay (a .out .now) (a .end) (bytes 4 n)) (c .before .before .before .before .checksum .ensures ∙ sym (ap (λ (t : Bool). pick t s 0) (c .before .before .before .before .before .before .if1 .taken)))
+    at-put-number .put-number .ensures ∙ ap (λ (n : ℕ). overlay (a .out .now) (a .end) (bytes 4 n)) (at-checksum .checksum .ensures ∙ sym (ap (λ (t : Bool). pick t s 0) (at-if1 .if1 .taken)))
 
 put-number-requires-2 : tie.Need-put-number-requires-2
 put-number-requires-2 c κs = search needs
@@ -47,9 +52,12 @@ same-length-2 c = search needs
 
 returns-2 : tie.Need-returns-2
 returns-2 c =
-    let a = c .before .before .before .before .before .before .args in
+    let at-put-number2 = c .before .before in
+    let at-if1 = at-put-number2 .before .before in
+    let start = at-if1 .before .before in
+    let a = start .args in
     let s = checksumOf (take (a .end) (a .out .now)) in
-    c .before .before .put-number2 .ensures ∙ ap (λ (n : ℕ). overlay (a .out .now) (a .end) (bytes 4 n)) (sym (ap (λ (t : Bool). pick t s 0) (c .before .before .before .before .if1 .left)))
+    at-put-number2 .put-number2 .ensures ∙ ap (λ (n : ℕ). overlay (a .out .now) (a .end) (bytes 4 n)) (sym (ap (λ (t : Bool). pick t s 0) (at-if1 .if1 .left)))
 
 pub put-checksum-spec : {M : Type 1} → statement M
 put-checksum-spec =

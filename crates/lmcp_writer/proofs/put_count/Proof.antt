@@ -50,26 +50,39 @@ same-length c = search needs
 
 returns-2 : tie.Need-returns-2
 returns-2 c =
-    let a = c .before .before .before .before .before .before .before .before .before .before .before .args in
+    let at-put-number = c .before .before in
+    let at-size-of = at-put-number .before .before in
+    let at-if2 = at-size-of .before in
+    let at-below-of = at-if2 .before in
+    let at-values-of = at-below-of .before in
+    let at-z = at-values-of .before in
+    let at-if1 = at-z .before in
+    let start = at-if1 .before .before in
+    let a = start .args in
     let z : ℤ = getD (a .list .now) (a .at) (pos 0) in
-    let same = through z (record { sfits = c .before .before .before .before .before .before .before .before .z .given }) in
-    let e = here (a .list .now) (a .at) (omega (arith, c .before .before .before .before .before .before .before .before .before .if1 .left, c .before .before .before .before .before .before .before .before .before .before .before .pre .0 .1)) in
-    let n = c .before .before .before .before .size-of .result in
-    let f = sym (c .before .before .before .before .before .before .below-of .ensures ∙ ap (below (c .before .before .before .before .before .before .before .values-of .result)) same) ∙ c .before .before .before .before .before .if2 .taken in
-    let small : a .w ≤ 8 = omega (arith, c .before .before .before .before .before .before .before .before .before .before .before .pre .1 .1) in
+    let same = through z (record { sfits = at-z .z .given }) in
+    let e = here (a .list .now) (a .at) (omega (arith, at-if1 .if1 .left, start .pre .0 .1)) in
+    let n = at-size-of .size-of .result in
+    let f = sym (at-below-of .below-of .ensures ∙ ap (below (at-values-of .values-of .result)) same) ∙ at-if2 .if2 .taken in
+    let small : a .w ≤ 8 = omega (arith, start .pre .1 .1) in
     marked n (bytes (a .w) n) (a .at + 1) (a .to + a .w)
-    (count-good (a .w) (drop (a .at) (a .list .now)) (drop (a .at + 1) (a .list .now)) z e (c .before .before .before .before .before .before .before .values-of .result) (c .before .before .before .before .before .before .before .values-of .ensures) f n (c .before .before .before .before .size-of .ensures ∙ ap mag same))
-    (laid-number (a .out .now) (c .before .before .put-number .last .0) (a .to) (a .w) n n small (c .before .before .put-number .ensures) refl)
-    (ap (λ (n : ℕ). a .to + n) (sym (length-bytes (a .w) n))) (omega (arith, c .before .before .before .before .before .before .before .before .before .before .before .pre .0 .0, c .before .before .before .before .before .before .before .before .before .before .before .pre .1 .1)) (omega (arith, c .before .before .before .before .before .before .before .before .before .if1 .left, c .before .before .before .before .before .before .before .before .before .before .before .pre .0 .1))
+    (count-good (a .w) (drop (a .at) (a .list .now)) (drop (a .at + 1) (a .list .now)) z e (at-values-of .values-of .result) (at-values-of .values-of .ensures) f n (at-size-of .size-of .ensures ∙ ap mag same))
+    (laid-number (a .out .now) (at-put-number .put-number .last .0) (a .to) (a .w) n n small (at-put-number .put-number .ensures) refl)
+    (ap (λ (n : ℕ). a .to + n) (sym (length-bytes (a .w) n))) (omega (arith, start .pre .0 .0, start .pre .1 .1)) (omega (arith, at-if1 .if1 .left, start .pre .0 .1))
 
 returns-3 : tie.Need-returns-3
 returns-3 c =
-    let a = c .before .before .before .before .before .before .args in
+    let at-below-of = c .before in
+    let at-values-of = at-below-of .before in
+    let at-z = at-values-of .before in
+    let at-if1 = at-z .before in
+    let start = at-if1 .before .before in
+    let a = start .args in
     let z : ℤ = getD (a .list .now) (a .at) (pos 0) in
-    let same = through z (record { sfits = c .before .before .before .z .given }) in
-    let e = here (a .list .now) (a .at) (omega (arith, c .before .before .before .before .if1 .left, c .before .before .before .before .before .before .pre .0 .1)) in
-    let f = sym (c .before .below-of .ensures ∙ ap (below (c .before .before .values-of .result)) same) ∙ c .if2 .left in
-    count-bad (a .w) (drop (a .at) (a .list .now)) (drop (a .at + 1) (a .list .now)) z e (c .before .before .values-of .result) (c .before .before .values-of .ensures) f
+    let same = through z (record { sfits = at-z .z .given }) in
+    let e = here (a .list .now) (a .at) (omega (arith, at-if1 .if1 .left, start .pre .0 .1)) in
+    let f = sym (at-below-of .below-of .ensures ∙ ap (below (at-values-of .values-of .result)) same) ∙ c .if2 .left in
+    count-bad (a .w) (drop (a .at) (a .list .now)) (drop (a .at + 1) (a .list .now)) z e (at-values-of .values-of .result) (at-values-of .values-of .ensures) f
 
 pub put-count-spec : {M : Type 1} → statement M
 put-count-spec =

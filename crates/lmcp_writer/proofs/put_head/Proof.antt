@@ -48,22 +48,33 @@ same-length c = search needs
 returns-2 : tie.Need-returns-2
 unfolding bytes
 returns-2 c =
-    let a = c .before .before .before .before .before .before .before .before .before .args in
+    let at-put-number = c .before .before in
+    let at-if2 = at-put-number .before .before in
+    let at-below-of = at-if2 .before in
+    let at-z = at-below-of .before in
+    let at-if1 = at-z .before in
+    let start = at-if1 .before .before in
+    let a = start .args in
     let z : ℤ = getD (a .list .now) (a .at) (pos 0) in
-    let same = through z (record { sfits = c .before .before .before .before .before .before .z .given }) in
-    let e = here (a .list .now) (a .at) (omega (arith, c .before .before .before .before .before .before .before .if1 .left, c .before .before .before .before .before .before .before .before .before .pre .1)) in
-    let f : below 1 z ≡ true = sym (c .before .before .before .before .before .below-of .ensures ∙ ap (below 1) same) ∙ c .before .before .before .before .if2 .taken in
+    let same = through z (record { sfits = at-z .z .given }) in
+    let e = here (a .list .now) (a .at) (omega (arith, at-if1 .if1 .left, start .pre .1)) in
+    let f : below 1 z ≡ true = sym (at-below-of .below-of .ensures ∙ ap (below 1) same) ∙ at-if2 .if2 .taken in
     marked 0 (0 ∷ []) (a .at + 1) (a .to + 1) (head-null (pitsurv (a .version)) (a .deep) (a .declared) (drop (a .at) (a .list .now)) (drop (a .at + 1) (a .list .now)) z e f)
-    (laid-number (a .out .now) (c .before .before .put-number .last .0) (a .to) 1 0 0 (omega arith) (c .before .before .put-number .ensures) refl) refl
-    (omega (arith, c .before .before .before .before .before .before .before .before .before .pre .0)) (omega (arith, c .before .before .before .before .before .before .before .if1 .left, c .before .before .before .before .before .before .before .before .before .pre .1))
+    (laid-number (a .out .now) (at-put-number .put-number .last .0) (a .to) 1 0 0 (omega arith) (at-put-number .put-number .ensures) refl) refl
+    (omega (arith, start .pre .0)) (omega (arith, at-if1 .if1 .left, start .pre .1))
 
 returns-3 : tie.Need-returns-3
 returns-3 c =
-    let a = c .before .before .before .before .before .before .args in
+    let at-if2 = c .before in
+    let at-below-of = at-if2 .before in
+    let at-z = at-below-of .before in
+    let at-if1 = at-z .before in
+    let start = at-if1 .before .before in
+    let a = start .args in
     let z : ℤ = getD (a .list .now) (a .at) (pos 0) in
-    let same = through z (record { sfits = c .before .before .before .z .given }) in
-    let e = here (a .list .now) (a .at) (omega (arith, c .before .before .before .before .if1 .left, c .before .before .before .before .before .before .pre .1)) in
-    let f : below 1 z ≡ false = sym (c .before .before .below-of .ensures ∙ ap (below 1) same) ∙ c .before .if2 .left in
+    let same = through z (record { sfits = at-z .z .given }) in
+    let e = here (a .list .now) (a .at) (omega (arith, at-if1 .if1 .left, start .pre .1)) in
+    let f : below 1 z ≡ false = sym (at-below-of .below-of .ensures ∙ ap (below 1) same) ∙ at-if2 .if2 .left in
     head-deep (pitsurv (a .version)) (a .deep) (a .declared) (drop (a .at) (a .list .now)) (drop (a .at + 1) (a .list .now)) z e f (c .if3 .taken)
 
 typed-by-requires : tie.Need-typed-by-requires
@@ -86,28 +97,45 @@ same-length-2 c = search needs
 
 returns-4 : tie.Need-returns-4
 returns-4 c =
-    let a = c .before .before .before .before .before .before .before .before .before .before .before .before .before .args in
+    let at-put-header = c .before .before in
+    let at-size-of = at-put-header .before .before in
+    let at-if4 = at-size-of .before in
+    let at-typed-by = at-if4 .before in
+    let at-if3 = at-typed-by .before in
+    let at-if2 = at-if3 .before in
+    let at-below-of = at-if2 .before in
+    let at-z = at-below-of .before in
+    let at-if1 = at-z .before in
+    let start = at-if1 .before .before in
+    let a = start .args in
     let z : ℤ = getD (a .list .now) (a .at) (pos 0) in
-    let same = through z (record { sfits = c .before .before .before .before .before .before .before .before .before .before .z .given }) in
-    let e = here (a .list .now) (a .at) (omega (arith, c .before .before .before .before .before .before .before .before .before .before .before .if1 .left, c .before .before .before .before .before .before .before .before .before .before .before .before .before .pre .1)) in
-    let f : below 1 z ≡ false = sym (c .before .before .before .before .before .before .before .before .before .below-of .ensures ∙ ap (below 1) same) ∙ c .before .before .before .before .before .before .before .before .if2 .left in
+    let same = through z (record { sfits = at-z .z .given }) in
+    let e = here (a .list .now) (a .at) (omega (arith, at-if1 .if1 .left, start .pre .1)) in
+    let f : below 1 z ≡ false = sym (at-below-of .below-of .ensures ∙ ap (below 1) same) ∙ at-if2 .if2 .left in
     let T = pitsurv (a .version) in
-    let n = c .before .before .before .before .size-of .result in
-    let k : typedBy T (a .declared) z ≡ true = sym (c .before .before .before .before .before .before .typed-by .ensures ∙ ap (typedBy T (a .declared)) same) ∙ c .before .before .before .before .before .if4 .taken in
-    marked n (header T n) (a .at + 1) (a .to + 15) (head-typed (pitsurv (a .version)) (a .deep) (a .declared) (drop (a .at) (a .list .now)) (drop (a .at + 1) (a .list .now)) z e f (c .before .before .before .before .before .before .before .if3 .left) k n (c .before .before .before .before .size-of .ensures ∙ ap mag same))
-    (c .before .before .put-header .ensures ∙ overlay-sets (a .out .now) (a .to) (header T n)) (ap (λ (m : ℕ). a .to + m) (sym (header-length T n)))
-    (omega (arith, c .before .before .before .before .before .before .before .before .before .before .before .before .before .pre .0)) (omega (arith, c .before .before .before .before .before .before .before .before .before .before .before .if1 .left, c .before .before .before .before .before .before .before .before .before .before .before .before .before .pre .1))
+    let n = at-size-of .size-of .result in
+    let k : typedBy T (a .declared) z ≡ true = sym (at-typed-by .typed-by .ensures ∙ ap (typedBy T (a .declared)) same) ∙ at-if4 .if4 .taken in
+    marked n (header T n) (a .at + 1) (a .to + 15) (head-typed (pitsurv (a .version)) (a .deep) (a .declared) (drop (a .at) (a .list .now)) (drop (a .at + 1) (a .list .now)) z e f (at-if3 .if3 .left) k n (at-size-of .size-of .ensures ∙ ap mag same))
+    (at-put-header .put-header .ensures ∙ overlay-sets (a .out .now) (a .to) (header T n)) (ap (λ (m : ℕ). a .to + m) (sym (header-length T n)))
+    (omega (arith, start .pre .0)) (omega (arith, at-if1 .if1 .left, start .pre .1))
 
 returns-5 : tie.Need-returns-5
 returns-5 c =
-    let a = c .before .before .before .before .before .before .before .before .args in
+    let at-typed-by = c .before in
+    let at-if3 = at-typed-by .before in
+    let at-if2 = at-if3 .before in
+    let at-below-of = at-if2 .before in
+    let at-z = at-below-of .before in
+    let at-if1 = at-z .before in
+    let start = at-if1 .before .before in
+    let a = start .args in
     let z : ℤ = getD (a .list .now) (a .at) (pos 0) in
-    let same = through z (record { sfits = c .before .before .before .before .before .z .given }) in
-    let e = here (a .list .now) (a .at) (omega (arith, c .before .before .before .before .before .before .if1 .left, c .before .before .before .before .before .before .before .before .pre .1)) in
-    let f : below 1 z ≡ false = sym (c .before .before .before .before .below-of .ensures ∙ ap (below 1) same) ∙ c .before .before .before .if2 .left in
+    let same = through z (record { sfits = at-z .z .given }) in
+    let e = here (a .list .now) (a .at) (omega (arith, at-if1 .if1 .left, start .pre .1)) in
+    let f : below 1 z ≡ false = sym (at-below-of .below-of .ensures ∙ ap (below 1) same) ∙ at-if2 .if2 .left in
     let T = pitsurv (a .version) in
-    let k : typedBy T (a .declared) z ≡ false = sym (c .before .typed-by .ensures ∙ ap (typedBy T (a .declared)) same) ∙ c .if4 .left in
-    head-untyped (pitsurv (a .version)) (a .deep) (a .declared) (drop (a .at) (a .list .now)) (drop (a .at + 1) (a .list .now)) z e f (c .before .before .if3 .left) k
+    let k : typedBy T (a .declared) z ≡ false = sym (at-typed-by .typed-by .ensures ∙ ap (typedBy T (a .declared)) same) ∙ c .if4 .left in
+    head-untyped (pitsurv (a .version)) (a .deep) (a .declared) (drop (a .at) (a .list .now)) (drop (a .at + 1) (a .list .now)) z e f (at-if3 .if3 .left) k
 
 pub put-head-spec : {M : Type 1} → statement M
 put-head-spec =

@@ -34,9 +34,14 @@ same-length c = search needs
 returns : tie.Need-returns
 unfolding be
 returns c =
-    let a = c .before .before .before .before .before .before .before .before .before .before .before .before .before .before .before .before .before .args in
-    laid-header (pitsurv (a .version)) (a .n) (a .out .now) (c .before .before .before .before .before .before .before .before .before .before .before .before .before .before .put-number .last .0) (c .before .before .before .before .before .before .before .before .before .before .put-number2 .last .0) (c .before .before .before .before .before .before .put-number3 .last .0) (c .before .before .put-number4 .last .0) (a .to)
-    (c .before .before .before .before .before .before .before .before .before .before .before .before .before .before .put-number .ensures) (c .before .before .before .before .before .before .before .before .before .before .put-number2 .ensures) (c .before .before .before .before .before .before .put-number3 .ensures) (c .before .before .put-number4 .ensures)
+    let at-put-number4 = c .before .before in
+    let at-put-number3 = at-put-number4 .before .before .before .before in
+    let at-put-number2 = at-put-number3 .before .before .before .before in
+    let at-put-number = at-put-number2 .before .before .before .before in
+    let start = at-put-number .before .before .before in
+    let a = start .args in
+    laid-header (pitsurv (a .version)) (a .n) (a .out .now) (at-put-number .put-number .last .0) (at-put-number2 .put-number2 .last .0) (at-put-number3 .put-number3 .last .0) (at-put-number4 .put-number4 .last .0) (a .to)
+    (at-put-number .put-number .ensures) (at-put-number2 .put-number2 .ensures) (at-put-number3 .put-number3 .ensures) (at-put-number4 .put-number4 .ensures)
 
 pub put-header-spec : {M : Type 1} → statement M
 put-header-spec =

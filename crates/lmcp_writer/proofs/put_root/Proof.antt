@@ -31,12 +31,16 @@ below-of-requires c κs = search needs
 
 returns-2 : tie.Need-returns-2
 returns-2 c =
-    let a = c .before .before .before .before .before .args in
+    let at-below-of = c .before in
+    let at-z = at-below-of .before in
+    let at-if1 = at-z .before in
+    let start = at-if1 .before .before in
+    let a = start .args in
     let T = pitsurv (a .version) in
     let z : ℤ = getD (a .list .now) 0 (pos 0) in
-    let same = through z (record { sfits = c .before .before .z .given }) in
-    let e = here (a .list .now) 0 (omega (arith, c .before .before .before .if1 .left)) in
-    let f : below 1 z ≡ true = sym (c .before .below-of .ensures ∙ ap (below 1) same) ∙ c .if2 .taken in
+    let same = through z (record { sfits = at-z .z .given }) in
+    let e = here (a .list .now) 0 (omega (arith, at-if1 .if1 .left)) in
+    let f : below 1 z ≡ true = sym (at-below-of .below-of .ensures ∙ ap (below 1) same) ∙ c .if2 .taken in
     root-null (writing T) T (a .list .now) (head-null T deepest 0 (a .list .now) (drop (0 + 1) (a .list .now)) z e f)
 
 put-object-requires : tie.Need-put-object-requires
@@ -47,14 +51,20 @@ same-length c = search needs
 
 returns-3 : tie.Need-returns-3
 returns-3 c =
-    let a = c .before .before .before .before .before .before .before .before .before .args in
+    let at-put-object = c .before .before in
+    let at-if2 = at-put-object .before .before in
+    let at-below-of = at-if2 .before in
+    let at-z = at-below-of .before in
+    let at-if1 = at-z .before in
+    let start = at-if1 .before .before in
+    let a = start .args in
     let T = pitsurv (a .version) in
     let z : ℤ = getD (a .list .now) 0 (pos 0) in
-    let same = through z (record { sfits = c .before .before .before .before .before .before .z .given }) in
-    let e = here (a .list .now) 0 (omega (arith, c .before .before .before .before .before .before .before .if1 .left)) in
-    let f : below 1 z ≡ false = sym (c .before .before .before .before .before .below-of .ensures ∙ ap (below 1) same) ∙ c .before .before .before .before .if2 .left in
-    same-run Few15 (a .list .now) (a .out .now) 8 (c .before .before .put-object .result) (c .before .before .put-object .last .1 .1 .1 .1 .1 .0)
-    (root-object (writing T) T (a .list .now) (root-some T deepest 0 (a .list .now) (drop (0 + 1) (a .list .now)) z e f)) (c .before .before .put-object .ensures)
+    let same = through z (record { sfits = at-z .z .given }) in
+    let e = here (a .list .now) 0 (omega (arith, at-if1 .if1 .left)) in
+    let f : below 1 z ≡ false = sym (at-below-of .below-of .ensures ∙ ap (below 1) same) ∙ at-if2 .if2 .left in
+    same-run Few15 (a .list .now) (a .out .now) 8 (at-put-object .put-object .result) (at-put-object .put-object .last .1 .1 .1 .1 .1 .0)
+    (root-object (writing T) T (a .list .now) (root-some T deepest 0 (a .list .now) (drop (0 + 1) (a .list .now)) z e f)) (at-put-object .put-object .ensures)
 
 pub put-root-spec : {M : Type 1} → statement M
 put-root-spec =

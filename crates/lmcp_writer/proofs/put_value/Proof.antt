@@ -47,28 +47,40 @@ same-length c = search needs
 
 returns-2 : tie.Need-returns-2
 returns-2 c =
-    let a = c .before .before .before .before .before .before .before .before .before .before .args in
+    let at-put-number = c .before .before in
+    let at-bits-of = at-put-number .before in
+    let at-if2 = at-bits-of .before .before in
+    let at-fits-in = at-if2 .before in
+    let at-z = at-fits-in .before in
+    let at-if1 = at-z .before in
+    let start = at-if1 .before .before in
+    let a = start .args in
     let z : ℤ = getD (a .list .now) (a .at) (pos 0) in
-    let same = through z (record { sfits = c .before .before .before .before .before .before .before .z .given }) in
-    let e = here (a .list .now) (a .at) (omega (arith, c .before .before .before .before .before .before .before .before .if1 .left, c .before .before .before .before .before .before .before .before .before .before .pre .0 .1)) in
-    let f : fits (a .kind) (a .w) z ≡ true = sym (c .before .before .before .before .before .before .fits-in .ensures ∙ ap (fits (a .kind) (a .w)) same) ∙ c .before .before .before .before .before .if2 .taken in
+    let same = through z (record { sfits = at-z .z .given }) in
+    let e = here (a .list .now) (a .at) (omega (arith, at-if1 .if1 .left, start .pre .0 .1)) in
+    let f : fits (a .kind) (a .w) z ≡ true = sym (at-fits-in .fits-in .ensures ∙ ap (fits (a .kind) (a .w)) same) ∙ at-if2 .if2 .taken in
     let v = unsigned (8 * a .w) z in
-    let u : bytes (a .w) (c .before .before .before .bits-of .result) ≡ bytes (a .w) v =
-    ap (bytes (a .w)) (c .before .before .before .bits-of .ensures ∙ ap (unsigned 64) same) ∙ low-bytes (a .kind) (a .w) z (c .before .before .before .before .before .before .before .before .before .before .pre .1 .0 .1) f in
+    let u : bytes (a .w) (at-bits-of .bits-of .result) ≡ bytes (a .w) v =
+    ap (bytes (a .w)) (at-bits-of .bits-of .ensures ∙ ap (unsigned 64) same) ∙ low-bytes (a .kind) (a .w) z (start .pre .1 .0 .1) f in
     made (bytes (a .w) v) (a .at + 1) (a .to + a .w) (value-good (a .kind) (a .w) (drop (a .at) (a .list .now)) (drop (a .at + 1) (a .list .now)) z e f)
-    (laid-number (a .out .now) (c .before .before .put-number .last .0) (a .to) (a .w) (c .before .before .before .bits-of .result) v (c .before .before .before .before .before .before .before .before .before .before .pre .1 .0 .1) (c .before .before .put-number .ensures) u)
-    (ap (λ (n : ℕ). a .to + n) (sym (length-bytes (a .w) v))) (omega (arith, c .before .before .before .before .before .before .before .before .before .before .pre .0 .0, c .before .before .before .before .before .before .before .before .before .before .pre .1 .0 .1)) (omega (arith, c .before .before .before .before .before .before .before .before .if1 .left, c .before .before .before .before .before .before .before .before .before .before .pre .0 .1))
+    (laid-number (a .out .now) (at-put-number .put-number .last .0) (a .to) (a .w) (at-bits-of .bits-of .result) v (start .pre .1 .0 .1) (at-put-number .put-number .ensures) u)
+    (ap (λ (n : ℕ). a .to + n) (sym (length-bytes (a .w) v))) (omega (arith, start .pre .0 .0, start .pre .1 .0 .1)) (omega (arith, at-if1 .if1 .left, start .pre .0 .1))
 
 denial-of-requires : tie.Need-denial-of-requires
 denial-of-requires c κs = search needs
 
 returns-3 : tie.Need-returns-3
 returns-3 c =
-    let a = c .before .before .before .before .before .before .args in
+    let at-if2 = c .before in
+    let at-fits-in = at-if2 .before in
+    let at-z = at-fits-in .before in
+    let at-if1 = at-z .before in
+    let start = at-if1 .before .before in
+    let a = start .args in
     let z : ℤ = getD (a .list .now) (a .at) (pos 0) in
-    let same = through z (record { sfits = c .before .before .before .z .given }) in
-    let e = here (a .list .now) (a .at) (omega (arith, c .before .before .before .before .if1 .left, c .before .before .before .before .before .before .pre .0 .1)) in
-    let f : fits (a .kind) (a .w) z ≡ false = sym (c .before .before .fits-in .ensures ∙ ap (fits (a .kind) (a .w)) same) ∙ c .before .if2 .left in
+    let same = through z (record { sfits = at-z .z .given }) in
+    let e = here (a .list .now) (a .at) (omega (arith, at-if1 .if1 .left, start .pre .0 .1)) in
+    let f : fits (a .kind) (a .w) z ≡ false = sym (at-fits-in .fits-in .ensures ∙ ap (fits (a .kind) (a .w)) same) ∙ at-if2 .if2 .left in
     value-bad (a .kind) (a .w) (drop (a .at) (a .list .now)) (drop (a .at + 1) (a .list .now)) z e f (c .denial-of .result) (c .denial-of .ensures)
 
 pub put-value-spec : {M : Type 1} → statement M

@@ -15,27 +15,33 @@ use Rattle.lmcp_writer.proofs.size_of.Tie as tie
 
 sub-m : tie.Need-sub-m
 sub-m c =
-    let b = below w64 (c .before .args .z) (c .before .fits .z) (subst (λ (y : ℤ). ltZ y (pos 0) ≡ true) (through (c .before .args .z) (c .before .fits .z)) (c .if1 .taken)) in
-    subst (λ (y : ℤ). SFits w64 (negsuc 0 -ℤ y)) (sym (through (c .before .args .z) (c .before .fits .z))) (b .sfits)
+    let start = c .before in
+    let b = below w64 (start .args .z) (start .fits .z) (subst (λ (y : ℤ). ltZ y (pos 0) ≡ true) (through (start .args .z) (start .fits .z)) (c .if1 .taken)) in
+    subst (λ (y : ℤ). SFits w64 (negsuc 0 -ℤ y)) (sym (through (start .args .z) (start .fits .z))) (b .sfits)
 
 cast-result : tie.Need-cast-result
 cast-result c =
-    let b = below w64 (c .before .args .z) (c .before .fits .z) (subst (λ (y : ℤ). ltZ y (pos 0) ≡ true) (through (c .before .args .z) (c .before .fits .z)) (c .if1 .taken)) in
-    let f : Fits w64 (natAbs (negsuc 0 -ℤ c .before .args .z)) = record { fits = omega (arith, b .small) } in
-    subst (λ (y : ℤ). T (nonNeg y) × Fits w64 (natAbs y)) (sym (ap (λ (y : ℤ). toZ w64 (ofZ w64 (negsuc 0 -ℤ y))) (through (c .before .args .z) (c .before .fits .z)) ∙ through (negsuc 0 -ℤ c .before .args .z) (b .sfits))) (b .count, f)
+    let start = c .before in
+    let b = below w64 (start .args .z) (start .fits .z) (subst (λ (y : ℤ). ltZ y (pos 0) ≡ true) (through (start .args .z) (start .fits .z)) (c .if1 .taken)) in
+    let f : Fits w64 (natAbs (negsuc 0 -ℤ start .args .z)) = record { fits = omega (arith, b .small) } in
+    subst (λ (y : ℤ). T (nonNeg y) × Fits w64 (natAbs y)) (sym (ap (λ (y : ℤ). toZ w64 (ofZ w64 (negsuc 0 -ℤ y))) (through (start .args .z) (start .fits .z)) ∙ through (negsuc 0 -ℤ start .args .z) (b .sfits))) (b .count, f)
 
 returns : tie.Need-returns
 returns c =
-    let b = below w64 (c .before .args .z) (c .before .fits .z) (subst (λ (y : ℤ). ltZ y (pos 0) ≡ true) (through (c .before .args .z) (c .before .fits .z)) (c .if1 .taken)) in
-    ap natAbs (ap (λ (y : ℤ). toZ w64 (ofZ w64 (negsuc 0 -ℤ y))) (through (c .before .args .z) (c .before .fits .z)) ∙ through (negsuc 0 -ℤ c .before .args .z) (b .sfits)) ∙ negative-size (c .before .args .z) (c .before .fits .z) (subst (λ (y : ℤ). ltZ y (pos 0) ≡ true) (through (c .before .args .z) (c .before .fits .z)) (c .if1 .taken))
+    let start = c .before in
+    let b = below w64 (start .args .z) (start .fits .z) (subst (λ (y : ℤ). ltZ y (pos 0) ≡ true) (through (start .args .z) (start .fits .z)) (c .if1 .taken)) in
+    ap natAbs (ap (λ (y : ℤ). toZ w64 (ofZ w64 (negsuc 0 -ℤ y))) (through (start .args .z) (start .fits .z)) ∙ through (negsuc 0 -ℤ start .args .z) (b .sfits)) ∙ negative-size (start .args .z) (start .fits .z) (subst (λ (y : ℤ). ltZ y (pos 0) ≡ true) (through (start .args .z) (start .fits .z)) (c .if1 .taken))
 
 cast-result-2 : tie.Need-cast-result-2
 cast-result-2 c =
-    let b = above w64 (c .before .args .z) (c .before .fits .z) (subst (λ (y : ℤ). ltZ y (pos 0) ≡ false) (through (c .before .args .z) (c .before .fits .z)) (c .if1 .left)) in
-    subst (λ (y : ℤ). T (nonNeg y) × Fits w64 (natAbs y)) (sym (through (c .before .args .z) (c .before .fits .z))) (b .count, b .fits)
+    let start = c .before in
+    let b = above w64 (start .args .z) (start .fits .z) (subst (λ (y : ℤ). ltZ y (pos 0) ≡ false) (through (start .args .z) (start .fits .z)) (c .if1 .left)) in
+    subst (λ (y : ℤ). T (nonNeg y) × Fits w64 (natAbs y)) (sym (through (start .args .z) (start .fits .z))) (b .count, b .fits)
 
 returns-2 : tie.Need-returns-2
-returns-2 c = ap natAbs (through (c .before .args .z) (c .before .fits .z)) ∙ positive-size (c .before .args .z) (subst (λ (y : ℤ). ltZ y (pos 0) ≡ false) (through (c .before .args .z) (c .before .fits .z)) (c .if1 .left))
+returns-2 c =
+    let start = c .before in
+    ap natAbs (through (start .args .z) (start .fits .z)) ∙ positive-size (start .args .z) (subst (λ (y : ℤ). ltZ y (pos 0) ≡ false) (through (start .args .z) (start .fits .z)) (c .if1 .left))
 
 pub size-of-spec : {M : Type 1} → statement M
 size-of-spec = tie.close (tie.spec sub-m cast-result returns cast-result-2 returns-2)

@@ -10,7 +10,9 @@ use Rattle.lmcp_writer.proofs.typed_by.Statement.{statement}
 use Rattle.lmcp_writer.proofs.typed_by.Tie as tie
 
 returns : tie.Need-returns
-returns c = negative-typed (pitsurv (c .before .args .version)) (c .before .args .declared) (c .before .args .z) (subst (λ (y : ℤ). ltZ y (pos 0) ≡ true) (through (c .before .args .z) (c .before .fits .z)) (c .if1 .taken))
+returns c =
+    let start = c .before in
+    negative-typed (pitsurv (start .args .version)) (start .args .declared) (start .args .z) (subst (λ (y : ℤ). ltZ y (pos 0) ≡ true) (through (start .args .z) (start .fits .z)) (c .if1 .taken))
 
 size-of-requires : tie.Need-size-of-requires
 size-of-requires c κs = search needs
@@ -19,7 +21,11 @@ typed-in-requires : tie.Need-typed-in-requires
 typed-in-requires c κs = search needs
 
 returns-2 : tie.Need-returns-2
-returns-2 c = c .typed-in .ensures ∙ positive-typed (pitsurv (c .before .before .before .args .version)) (c .before .before .before .args .declared) (c .before .before .before .args .z) (c .before .size-of .result) (c .before .size-of .ensures ∙ ap mag (through (c .before .before .before .args .z) (c .before .before .before .fits .z))) (subst (λ (y : ℤ). ltZ y (pos 0) ≡ false) (through (c .before .before .before .args .z) (c .before .before .before .fits .z)) (c .before .before .if1 .left))
+returns-2 c =
+    let at-size-of = c .before in
+    let at-if1 = at-size-of .before in
+    let start = at-if1 .before in
+    c .typed-in .ensures ∙ positive-typed (pitsurv (start .args .version)) (start .args .declared) (start .args .z) (at-size-of .size-of .result) (at-size-of .size-of .ensures ∙ ap mag (through (start .args .z) (start .fits .z))) (subst (λ (y : ℤ). ltZ y (pos 0) ≡ false) (through (start .args .z) (start .fits .z)) (at-if1 .if1 .left))
 
 pub typed-by-spec : {M : Type 1} → statement M
 typed-by-spec = tie.close (tie.spec returns size-of-requires typed-in-requires returns-2)

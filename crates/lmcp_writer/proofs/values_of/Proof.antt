@@ -14,10 +14,16 @@ half-requires : tie.Need-half-requires
 half-requires c κs = search needs
 
 add-result : tie.Need-add-result
-add-result c = record { fits = half-small (c .before .before .before .args .kind) (c .before .before .before .args .w) (c .before .before .before .pre .0) (c .before .before .before .pre .1) (c .half .result) (c .half .ensures) }
+add-result c =
+    let start = c .before .before .before in
+    record { fits = half-small (start .args .kind) (start .args .w) (start .pre .0) (start .pre .1) (c .half .result) (c .half .ensures) }
 
 returns-3 : tie.Need-returns-3
-returns-3 c = values-plain (c .before .before .before .args .kind) (c .before .before .before .args .w) (c .before .before .before .pre .0) (c .before .before .before .pre .1) (c .half .result) (c .half .ensures) (c .before .before .if1 .left) (c .before .if2 .left)
+returns-3 c =
+    let at-if2 = c .before in
+    let at-if1 = at-if2 .before in
+    let start = at-if1 .before in
+    values-plain (start .args .kind) (start .args .w) (start .pre .0) (start .pre .1) (c .half .result) (c .half .ensures) (at-if1 .if1 .left) (at-if2 .if2 .left)
 
 pub values-of-spec : {M : Type 1} → statement M
 values-of-spec = tie.close (tie.spec returns returns-2 half-requires add-result returns-3)

@@ -24,7 +24,9 @@ abbrev start : tie.After-count-root → tie.Start
 start c = c .before .before .before
 
 abbrev counted : tie.After-first2 → tie.After-count-root
-counted c = c .before .before .before .before
+counted c =
+    let place = c .before .before .before .before in
+    place
 
 -- the list, and the output, which the walk left as it was
 abbrev L : tie.After-count-root → List ℤ
@@ -91,10 +93,12 @@ same-length-2 c = search needs
 
 returns-2 : tie.Need-returns-2
 returns-2 c =
-    let w = c .before .before .before in
+    let at-if1 = c .before in
+    let place2 = at-if1 .before .before in
+    let w = place2 in
     let d = counted w in
     let a = start d .args in
-    says d (Refused 21) (answer-long (a .version) (L d) (a .calculate) (O d) (place w) (end w) (walked w) (c .before .if1 .left) (c .if2 .taken))
+    says d (Refused 21) (answer-long (a .version) (L d) (a .calculate) (O d) (place w) (end w) (walked w) (at-if1 .if1 .left) (c .if2 .taken))
 
 same-length-3 : tie.Need-same-length-3
 same-length-3 c = search needs
@@ -110,8 +114,10 @@ returns-3 c =
 
 put-message-requires : tie.Need-put-message-requires
 put-message-requires c κs =
-    let w = c .before .before .before .before .before in
-    (omega (arith, walked w .place), omega (arith, c .before .if3 .left))
+    let at-if3 = c .before in
+    let place2 = at-if3 .before .before .before .before in
+    let w = place2 in
+    (omega (arith, walked w .place), omega (arith, at-if3 .if3 .left))
 
 same-length-4 : tie.Need-same-length-4
 same-length-4 c = search needs

@@ -27,8 +27,11 @@ number-requires c κs = search needs
 
 returns-2 : tie.Need-returns-2
 returns-2 c =
-    let a = c .before .before .before .before .args in
-    ap (looked (a .n)) (sym (packet-wrong (a .p .now) (c .before .before .if1 .left) (λ e. c .if2 .taken (c .before .number .ensures .value ∙ e))))
+    let at-number = c .before in
+    let at-if1 = at-number .before in
+    let start = at-if1 .before .before in
+    let a = start .args in
+    ap (looked (a .n)) (sym (packet-wrong (a .p .now) (at-if1 .if1 .left) (λ e. c .if2 .taken (at-number .number .ensures .value ∙ e))))
 
 returns-3 : tie.Need-returns-3
 returns-3 c =
@@ -44,11 +47,13 @@ is-known-requires c κs = search needs
 
 returns-4 : tie.Need-returns-4
 returns-4 c =
-    let f = c .before .before .before in
+    let at-is-known = c .before in
+    let place = at-is-known .before .before in
+    let f = place in
     let s = f .before in
     let a = s .before .before .before .before .args in
     ap (looked (a .n))
-    (sym (packet-type (a .p .now) (whole s) (true-length s) (f .if3 .left) (sym (c .before .is-known .ensures) ∙ not-true _ (c .if4 .taken))))
+    (sym (packet-type (a .p .now) (whole s) (true-length s) (f .if3 .left) (sym (at-is-known .is-known .ensures) ∙ not-true _ (c .if4 .taken))))
 
 look-inside-requires : tie.Need-look-inside-requires
 look-inside-requires c κs = search needs

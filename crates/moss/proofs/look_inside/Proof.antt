@@ -28,8 +28,10 @@ word-at-requires c κs = search needs
 
 returns-2 : tie.Need-returns-2
 returns-2 c =
-    let r = c .before .before .r in
-    let k = c .before .before .before .before in
+    let at-r = c .before .before in
+    let place = at-r .before .before in
+    let r = at-r .r in
+    let k = place in
     let s = k .before .before in
     let a = s .args in
     let t = r .given .0 .0 in

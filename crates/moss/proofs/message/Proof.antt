@@ -24,15 +24,19 @@ part-requires-2 c κs = search needs
 
 returns : tie.Need-returns
 returns c =
-    let l = c .before .before .l in
-    let k = c .before .before .before .before in
+    let at-l = c .before .before in
+    let place = at-l .before .before in
+    let l = at-l .l in
+    let k = place in
     let a = k .before .before .args in
     c .part .ensures ∙ message-part (a .p .now) (a .n) _ (sym (k .message-place .ensures) ∙ ap locates (l .given .1))
 
 returns-2 : tie.Need-returns-2
 returns-2 c =
-    let l = c .before .enum-told in
-    let k = c .before .before .before in
+    let at-enum-told = c .before in
+    let place = at-enum-told .before .before in
+    let l = at-enum-told .enum-told in
+    let k = place in
     let a = k .before .before .args in
     c .part2 .ensures ∙ sym (message-none (packetOf (a .p .now)) (a .n) _ (sym (k .message-place .ensures) ∙ ap locates (l .given .1)))
 

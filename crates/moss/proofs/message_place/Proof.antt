@@ -22,15 +22,19 @@ enum-known-l-2 c = search needs
 
 returns : tie.Need-returns
 returns c =
-    let l = c .before .before .l in
-    let k = c .before .before .before .before in
+    let at-l = c .before .before in
+    let place = at-l .before .before in
+    let l = at-l .l in
+    let k = place in
     let a = k .before .before .args in
     c .place-of .ensures ∙ looked-place (a .n) (packetOf (a .p .now)) _ _ (sym (l .given .1) ∙ k .look .ensures)
 
 returns-2 : tie.Need-returns-2
 returns-2 c =
-    let l = c .before .l2 in
-    let k = c .before .before .before in
+    let at-l2 = c .before in
+    let place = at-l2 .before .before in
+    let l = at-l2 .l2 in
+    let k = place in
     let a = k .before .before .args in
     sym (ap (λ (g : Given Packet). placeIn g (a .n)) (looked-refused (a .n) _ (packetOf (a .p .now)) (sym (l .given .1) ∙ k .look .ensures)))
 

@@ -18,14 +18,18 @@ enum-known-l-2 c = search needs
 
 returns : tie.Need-returns
 returns c =
-    let l = c .before .l in
-    let k = c .before .before .before in
+    let at-l = c .before in
+    let place = at-l .before .before in
+    let l = at-l .l in
+    let k = place in
     looked-head 0 (packetOf (k .before .before .args .p .now)) _ _ (sym (l .given .1) ∙ k .look .ensures)
 
 returns-2 : tie.Need-returns-2
 returns-2 c =
-    let l = c .before .l2 in
-    let k = c .before .before .before in
+    let at-l2 = c .before in
+    let place = at-l2 .before .before in
+    let l = at-l2 .l2 in
+    let k = place in
     sym (ap headersOf (looked-refused 0 _ (packetOf (k .before .before .args .p .now)) (sym (l .given .1) ∙ k .look .ensures)))
 
 pub read-packet-spec : {M : Type 1} → statement M

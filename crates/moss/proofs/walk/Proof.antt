@@ -32,9 +32,13 @@ add-if1 c = omega (arith, c .size-at .ensures .1)
 
 returns : tie.Need-returns Inv-loop μ-loop
 returns c =
-    let l = c .before .before .before .loop in
-    let a = c .before .before .before .before .before .args in
-    sym (l .inv .1 ∙ walk-broken (a .b .now) (l .t) (a .n) (l .at) (c .before .before .loop-test .taken) _ (c .before .size-at .ensures .0) (c .if1 .taken))
+    let at-size-at = c .before in
+    let at-loop-test = at-size-at .before in
+    let turn = at-loop-test .before in
+    let start = turn .before .before in
+    let l = turn .loop in
+    let a = start .args in
+    sym (l .inv .1 ∙ walk-broken (a .b .now) (l .t) (a .n) (l .at) (at-loop-test .loop-test .taken) _ (at-size-at .size-at .ensures .0) (c .if1 .taken))
 
 pass-requires : tie.Need-pass-requires Inv-loop μ-loop
 pass-requires c κs = (c .before .before .before .loop .inv .0, omega arith)
@@ -50,10 +54,15 @@ loop-less c = omega arith
 
 loop-again : tie.Need-loop-again Inv-loop μ-loop
 loop-again c =
-    let l = c .before .before .before .before .loop in
-    let a = c .before .before .before .before .before .before .args in
-    let k = c .before .before .size-at in
-    let next = walk-next (a .b .now) (l .t) (a .n) (l .at) (c .before .before .before .loop-test .taken) (k .result) (k .ensures .0) (c .before .if1 .left) in (
+    let at-if1 = c .before in
+    let at-size-at = at-if1 .before in
+    let at-loop-test = at-size-at .before in
+    let turn = at-loop-test .before in
+    let start = turn .before .before in
+    let l = turn .loop in
+    let a = start .args in
+    let k = at-size-at .size-at in
+    let next = walk-next (a .b .now) (l .t) (a .n) (l .at) (at-loop-test .loop-test .taken) (k .result) (k .ensures .0) (at-if1 .if1 .left) in (
       omega (arith, ap (λ (t : Trail). t .count) (c .pass .ensures) ∙ past-count (l .t) (a .n) (l .at) (k .result)),
       l .inv .1
           ∙ next
@@ -62,8 +71,10 @@ loop-again c =
 
 returns-2 : tie.Need-returns-2 Inv-loop μ-loop
 returns-2 c =
-    let l = c .before .loop in
-    let a = c .before .before .before .args in
+    let turn = c .before in
+    let start = turn .before .before in
+    let l = turn .loop in
+    let a = start .args in
     sym (l .inv .1 ∙ walk-end (a .b .now) (l .t) (a .n) (l .at) (c .loop-test .left))
 
 pub walk-spec : {M : Type 1} → statement M

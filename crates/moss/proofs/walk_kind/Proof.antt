@@ -17,14 +17,18 @@ returns c = rw (eq-eqb _ _ (c .before .if1 .taken)) (c .walk .ensures)
 
 returns-2 : tie.Need-returns-2
 returns-2 c =
-    let a = c .before .before .before .args in
-    rw (ne-eqb _ _ (c .before .if1 .left))
+    let at-if1 = c .before in
+    let start2 = at-if1 .before .before in
+    let a = start2 .args in
+    rw (ne-eqb _ _ (at-if1 .if1 .left))
     (sym (ap (walked start (a .n) (a .from)) (nothing-inside (drop (a .from) (a .b .now)) (omega (arith, length-drop (a .from) (a .b .now))))))
 
 returns-3 : tie.Need-returns-3
 returns-3 c =
-    let a = c .before .before .before .args in
-    rw (ne-eqb _ _ (c .before .if1 .left))
+    let at-if1 = c .before in
+    let start2 = at-if1 .before .before in
+    let a = start2 .args in
+    rw (ne-eqb _ _ (at-if1 .if1 .left))
     (sym (ap (walked start (a .n) (a .from)) (nothing-at-end (a .b .now) (a .from) (c .if2 .left))))
 
 pub walk-kind-spec : {M : Type 1} → statement M

@@ -11,8 +11,10 @@ room-requires c κs = search needs
 
 returns : tie.Need-returns
 returns c =
-    let a = c .before .before .before .args in
-    rw (le-leb (a .room) (length (a .out .now) - a .at) (rw (c .before .room .ensures) at (c .if1 .taken)))
+    let at-room = c .before in
+    let start = at-room .before .before in
+    let a = start .args in
+    rw (le-leb (a .room) (length (a .out .now) - a .at) (rw (at-room .room .ensures) at (c .if1 .taken)))
 
 write-out-requires : tie.Need-write-out-requires
 write-out-requires c κs = search needs

@@ -22,7 +22,8 @@ same-length c = search needs
 
 returns : tie.Need-returns
 returns c =
-    let p = c .before .before .before .before in
+    let place = c .before .before .before .before in
+    let p = place in
     let d = p .before .before in
     let a = d .before .before .before .args in
     p .put-last .ensures .wrote ∙ ap (λ (k : ℕ). overlay (a .out .now) k (lastLine (a .next) (a .n))) (d .drain .ensures)

@@ -36,7 +36,8 @@ same-length-2 c = search needs
 
 returns-2 : tie.Need-returns-2
 returns-2 c m h =
-    let a = c .before .before .before .before .before .before .args in
+    let start = c .before .before .before .before .before .before in
+    let a = start .args in
     sends-past (a .out .now) (a .bytes .now) (a .at)
 
 pub pour-spec : {M : Type 1} → statement M

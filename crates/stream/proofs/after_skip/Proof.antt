@@ -12,7 +12,10 @@ enum-told : tie.Need-enum-told
 enum-told c = search needs
 
 returns : tie.Need-returns
-returns c = let a = c .before .before .before .args in ap (afterSkip (a .at) (a .len)) (sym (c .before .skip .given .1))
+returns c =
+    let at-skip = c .before in
+    let start = at-skip .before .before in
+    let a = start .args in ap (afterSkip (a .at) (a .len)) (sym (at-skip .skip .given .1))
 
 returns-2 : tie.Need-returns-2
 returns-2 c = search needs

@@ -37,7 +37,9 @@ same-length : tie.Need-same-length Inv-loop μ-loop
 same-length c = search needs
 
 returns-2 : tie.Need-returns-2 Inv-loop μ-loop
-returns-2 c = passing-lacks (c .before .before .before .before .before .before .loop .inv)
+returns-2 c =
+    let turn = c .before .before .before .before .before .before in
+    passing-lacks (turn .loop .inv)
 
 sub-got : tie.Need-sub-got Inv-loop μ-loop
 sub-got c = search needs
@@ -50,7 +52,8 @@ same-length-2 c = search needs
 
 returns-3 : tie.Need-returns-3 Inv-loop μ-loop
 returns-3 c =
-    let r = c .before .before .before .before in
+    let place = c .before .before .before .before in
+    let r = place in
     passing-done (r .before .before .before .loop .inv) (r .read-from .ensures) (c .if3 .taken)
 
 sub-left-2 : tie.Need-sub-left-2 Inv-loop μ-loop
@@ -61,7 +64,8 @@ loop-less c = search needs
 
 loop-again : tie.Need-loop-again Inv-loop μ-loop
 loop-again c =
-    let r = c .before .before .before .before in
+    let place = c .before .before .before .before in
+    let r = place in
     passing-more (r .before .before .before .loop .inv) (r .read-from .ensures) (c .if3 .left)
 
 same-length-3 : tie.Need-same-length-3 Inv-loop μ-loop

@@ -53,11 +53,13 @@ same-length-2 c = search needs
 
 returns-3 : tie.Need-returns-3
 returns-3 c =
-    let r = c .before .before .before .before in
+    let at-if2 = c .before in
+    let place = at-if2 .before .before .before in
+    let r = place in
     let w = r .before .before in
     let h = w .before .before in
     let a = h .before .before .args in
-    lacks-a-head (a .kind) (w .within .ensures) (r .ready .ensures) (omega (arith, c .before .if2 .left, r .ready .ensures .order)) (rw (h .head-of .ensures) at (c .if3 .taken))
+    lacks-a-head (a .kind) (w .within .ensures) (r .ready .ensures) (omega (arith, at-if2 .if2 .left, r .ready .ensures .order)) (rw (h .head-of .ensures) at (c .if3 .taken))
 
 sub-body-length : tie.Need-sub-body-length
 sub-body-length c = search needs

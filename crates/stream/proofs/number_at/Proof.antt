@@ -14,11 +14,12 @@ number-requires c κs = search needs
 
 returns : tie.Need-returns
 returns c =
+    let start = c .before .before in
     let n = c .number .ensures in
-    let k = c .before .before .args .k in
+    let k = start .args .k in
     let e : min k 8 ≡ k = omega arith in
-    let m : 256 ^ k ≤ 256 ^ 4 = pow-le-pow-right (omega arith) (c .before .before .pre) in (
-      n .value ∙ ap (λ (j : ℕ). be j (drop (c .before .before .args .at) (c .before .before .args .b .now))) e,
+    let m : 256 ^ k ≤ 256 ^ 4 = pow-le-pow-right (omega arith) (start .pre) in (
+      n .value ∙ ap (λ (j : ℕ). be j (drop (start .args .at) (start .args .b .now))) e,
       lt-of-lt-of-le (subst (λ (j : ℕ). c .number .result < 256 ^ j) e (n .fits)) m,
     )
 

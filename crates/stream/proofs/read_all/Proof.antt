@@ -28,7 +28,9 @@ same-length-2 : tie.Need-same-length-2
 same-length-2 c = search needs
 
 returns-2 : tie.Need-returns-2
-returns-2 c = held-all (c .before .before .before .before .before .before .before .fill .ensures)
+returns-2 c =
+    let at-fill = c .before .before .before .before .before .before .before in
+    held-all (at-fill .fill .ensures)
 
 same-length-3 : tie.Need-same-length-3
 same-length-3 c = search needs

@@ -39,9 +39,11 @@ same-length c = search needs
 
 returns : tie.Need-returns
 returns c =
-    let r = c .before .before .before .before .before in
+    let at-buf = c .before .before .before .before in
+    let place = at-buf .before in
+    let r = place in
     let s = r .before .before .before in
-    let g = c .before .before .before .before .buf .given in
+    let g = at-buf .buf .given in
     let n = c .count .ensures .0 .0 in
     record {
       from = omega arith;

@@ -48,9 +48,11 @@ put-decimal-same-length t c = search needs
 
 put-decimal-returns : (t : ℕ) → put-decimal-lts.Need-returns (callees t) (put-decimal-at t) put-decimal.Post
 put-decimal-returns t c =
-    let l = c .before .before .before in
+    let at-put-one = c .before .before in
+    let place = at-put-one .before in
+    let l = place in
     let n = l .before .before .before .before .args .n in
-    put-is (c .before .before .put-one .ensures)
+    put-is (at-put-one .put-one .ensures)
     (ap (λ (b : ℕ). b ∷ []) (l .letter .ensures) ∙ sym (decimal-low n (l .before .before .if1 .taken)))
 
 put-decimal-put-decimal-requires : (t : ℕ) → put-decimal-lts.Need-put-decimal-requires (callees t) (put-decimal-at t) put-decimal.Post
@@ -67,10 +69,12 @@ put-decimal-same-length-2 t c = search needs
 
 put-decimal-returns-2 : (t : ℕ) → put-decimal-lts.Need-returns-2 (callees t) (put-decimal-at t) put-decimal.Post
 put-decimal-returns-2 t c =
-    let l = c .before .before .before in
+    let at-put-one2 = c .before .before in
+    let place = at-put-one2 .before in
+    let l = place in
     let d = l .before .before .before .before in
     let n = d .before .before .before .before .args .n in
-    put-is (put-then (d .put-decimal .ensures) (c .before .before .put-one2 .ensures))
+    put-is (put-then (d .put-decimal .ensures) (at-put-one2 .put-one2 .ensures))
     (ap (λ (b : ℕ). decimal (n / 10) ++ b ∷ []) (l .letter2 .ensures) ∙ sym (decimal-high n (d .before .before .if1 .left)))
 
 pub +put-decimal-spec : {M : Type 1} → statement M

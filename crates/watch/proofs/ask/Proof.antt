@@ -28,13 +28,16 @@ tell-requires c κs = search needs
 
 returns-2 : tie.Need-returns-2
 returns-2 c =
-    let f = c .before .before .before .before in
+    let at-sequence-difference = c .before in
+    let at-if2 = at-sequence-difference .before .before in
+    let place = at-if2 .before in
+    let f = place in
     let s = f .before .before .before .before in
     let a = s .before .args in
-    let d = c .before .sequence-difference in
+    let d = at-sequence-difference .sequence-difference in
     c .tell .ensures
     ∙ ap (told (a .number)) (toZ-ofZ w32 (d .result) (record { sfits = d .ok }) ∙ d .ensures)
-    ∙ sym (asked-known (a .t1) (a .sender) (a .number) (f .find .result) (s .if1 .left) (f .find .ensures) (c .before .before .before .if2 .taken))
+    ∙ sym (asked-known (a .t1) (a .sender) (a .number) (f .find .result) (s .if1 .left) (f .find .ensures) (at-if2 .if2 .taken))
 
 returns-3 : tie.Need-returns-3
 returns-3 c =

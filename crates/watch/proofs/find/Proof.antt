@@ -26,9 +26,12 @@ shared-slice-read-if1 c = omega arith
 
 returns : tie.Need-returns Inv-loop μ-loop
 returns c =
-    let a = c .before .before .before .before .args in
-    let l = c .before .before .before .loop in
-    passed-here (l .inv .1) (omega arith) (getD-take (a .count) (a .senders .now) (l .i) 0 (c .before .before .loop-test .taken) ∙ c .if1 .taken)
+    let at-loop-test = c .before .before in
+    let turn = at-loop-test .before in
+    let start = turn .before in
+    let a = start .args in
+    let l = turn .loop in
+    passed-here (l .inv .1) (omega arith) (getD-take (a .count) (a .senders .now) (l .i) 0 (at-loop-test .loop-test .taken) ∙ c .if1 .taken)
 
 add-i : tie.Need-add-i Inv-loop μ-loop
 add-i c = omega arith
@@ -38,10 +41,13 @@ loop-less c = omega arith
 
 loop-again : tie.Need-loop-again Inv-loop μ-loop
 loop-again c =
-    let a = c .before .before .before .before .args in
-    let l = c .before .before .before .loop in (
+    let at-loop-test = c .before .before in
+    let turn = at-loop-test .before in
+    let start = turn .before in
+    let a = start .args in
+    let l = turn .loop in (
       l .inv .0,
-      passed-more (l .inv .1) (omega arith) (λ e. c .if1 .left (sym (getD-take (a .count) (a .senders .now) (l .i) 0 (c .before .before .loop-test .taken)) ∙ e)),
+      passed-more (l .inv .1) (omega arith) (λ e. c .if1 .left (sym (getD-take (a .count) (a .senders .now) (l .i) 0 (at-loop-test .loop-test .taken)) ∙ e)),
     )
 
 returns-2 : tie.Need-returns-2 Inv-loop μ-loop

@@ -17,13 +17,16 @@ move-to-requires c κs = search needs
 
 returns : tie.Need-returns
 returns c =
-    let k = c .before .before .before in
+    let at-if1 = c .before in
+    let at-does-move = at-if1 .before in
+    let place = at-does-move .before in
+    let k = place in
     let a = k .before .args in
     record {
       answer = k .ask .ensures;
       watch =
           c .move-to .ensures
-          ∙ after-moves (a .w) (a .sender) (a .number) (notes (k .ask .result)) (k .ask .ensures) (sym (c .before .before .does-move .ensures) ∙ c .before .if1 .taken);
+          ∙ after-moves (a .w) (a .sender) (a .number) (notes (k .ask .result)) (k .ask .ensures) (sym (at-does-move .does-move .ensures) ∙ at-if1 .if1 .taken);
     }
 
 returns-2 : tie.Need-returns-2

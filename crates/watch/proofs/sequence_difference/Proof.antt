@@ -18,9 +18,10 @@ bits c = omega arith
 -- the bits that the subtraction gave, read as a signed number
 read : (c : tie.After-wrapping-sub-u32) → toZ w32 (c .wrapping-sub-u32 .result) ≡ difference (c .before .args .new) (c .before .args .last)
 read c =
+    let start = c .before in
     let u = c .wrapping-sub-u32 in
     toZ-signed w32 (u .result)
-    ∙ wraps-back (c .before .args .new) (c .before .args .last) (u .result) (c .before .fits .new .fits) (c .before .fits .last .fits) (bits c) (u .ensures)
+    ∙ wraps-back (start .args .new) (start .args .last) (u .result) (start .fits .new .fits) (start .fits .last .fits) (bits c) (u .ensures)
 
 wrapping-sub-u32-requires : tie.Need-wrapping-sub-u32-requires
 wrapping-sub-u32-requires c κs = search needs
@@ -42,10 +43,11 @@ sub-result c = let u = c .before .wrapping-sub-u32 in from-end-fits w32 (u .resu
 
 returns-2 : tie.Need-returns-2
 returns-2 c =
-    let u = c .before .wrapping-sub-u32 in
-    toZ-ofZ w32 _ (from-end-fits w32 (u .result) (bits (c .before)) (c .if1 .left))
-    ∙ from-end w32 (u .result) (bits (c .before)) (c .if1 .left)
-    ∙ read (c .before)
+    let at-wrapping-sub-u32 = c .before in
+    let u = at-wrapping-sub-u32 .wrapping-sub-u32 in
+    toZ-ofZ w32 _ (from-end-fits w32 (u .result) (bits (at-wrapping-sub-u32)) (c .if1 .left))
+    ∙ from-end w32 (u .result) (bits (at-wrapping-sub-u32)) (c .if1 .left)
+    ∙ read (at-wrapping-sub-u32)
 
 pub sequence-difference-spec : {M : Type 1} → statement M
 sequence-difference-spec =

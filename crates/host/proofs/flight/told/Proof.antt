@@ -13,13 +13,17 @@ enum-known-written c = search needs
 
 sub-result : tie.Need-sub-result
 sub-result c =
-    let s = c .before .before .before in
-    subst (λ (w : Written). Spans (s .args .at) (says w)) (c .before .written .given .1) (s .pre) .0
+    let at-written = c .before in
+    let place = at-written .before .before in
+    let s = place in
+    subst (λ (w : Written). Spans (s .args .at) (says w)) (at-written .written .given .1) (s .pre) .0
 
 mul-result : tie.Need-mul-result
 mul-result c =
-    let s = c .before .before .before in
-    omega (arith, subst (λ (w : Written). Spans (s .args .at) (says w)) (c .before .written .given .1) (s .pre) .1)
+    let at-written = c .before in
+    let place = at-written .before .before in
+    let s = place in
+    omega (arith, subst (λ (w : Written). Spans (s .args .at) (says w)) (at-written .written .given .1) (s .pre) .1)
 
 enum-known-written-2 : tie.Need-enum-known-written-2
 enum-known-written-2 c = search needs
@@ -29,8 +33,10 @@ wide-requires c κs = search needs
 
 returns : tie.Need-returns
 returns c =
-    let s = c .before .before .before in
-    sym (ap (λ (w : Written). lengthCode (s .args .at) (says w)) (c .before .written .given .1))
+    let at-written = c .before in
+    let place = at-written .before .before in
+    let s = place in
+    sym (ap (λ (w : Written). lengthCode (s .args .at) (says w)) (at-written .written .given .1))
 
 returns-2 : tie.Need-returns-2
 returns-2 c = search needs
