@@ -1,6 +1,7 @@
 pub mod Cases
 pub mod Walks
 pub mod Runs
+pub mod Lays
 pub mod Trips
 pub mod Once
 pub mod Longest

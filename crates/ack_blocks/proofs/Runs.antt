@@ -8,7 +8,7 @@ use native.Mathlib.Numerals.{add-one}
 use lib.Dec.{eqb, ltb}
 use lib.ListN.{length, getD, drop, length-append, drop-of-length-le}
 use lib.Seq.{drop-cons}
-use borrow.Author.Tests.{lt-ltb, le-ltb, ltb-false}
+use borrow.Author.Tests.{lt-ltb, le-ltb, ltb-false, eqb-true}
 use Rattle.wire.specs.Choice.{pick}
 use Rattle.wire.specs.Overlay.{overlay}
 use Rattle.wire.proofs.Overlays.{overlay-append}
@@ -23,23 +23,23 @@ list-at l i h = rw (add-one, drop-cons l i 0)
 
 -- ---- rising
 
-pub rising-start : (l : List ℕ) → (length l ≡ 0 → ⊥) → risingFrom (getD l 0 0) (drop 1 l) ≡ rising l
-rising-start [] h = absurd (h refl)
-rising-start (x ∷ l) h = refl
-
-pub rising-empty : (l : List ℕ) → length l ≡ 0 → true ≡ rising l
-rising-empty [] h = refl
-rising-empty (x ∷ l) h = absurd (let z : ⊥ = omega arith in z)
+pub rising-start : (l : List ℕ) (i : ℕ) → i < length l → rising (drop i l) ≡ risingFrom (getD l i 0) (drop (i + 1) l)
+rising-start l i h = ap rising (list-at l i h)
 
 module _ (l : List ℕ) (last i : ℕ) (inside : i < length l) where
-  pub rising-next : last < getD l i 0 → risingFrom last (drop i l) ≡ risingFrom (getD l i 0) (drop (i + 1) l)
-  rising-next h = ap (risingFrom last) (list-at l i inside) ∙ ap (λ (t : Bool). t && risingFrom (getD l i 0) (drop (i + 1) l)) (lt-ltb last (getD l i 0) h)
+  pub rising-on : eqb (getD l i 0) (last + 1) ≡ true → risingFrom last (drop i l) ≡ risingFrom (getD l i 0) (drop (i + 1) l)
+  rising-on e =
+      let h : getD l i 0 ≡ last + 1 = eqb-true (getD l i 0) (last + 1) e in
+      ap (risingFrom last) (list-at l i inside) ∙ ap (λ (t : Bool). t && risingFrom (getD l i 0) (drop (i + 1) l)) (lt-ltb last (getD l i 0) (omega arith))
 
-  pub rising-not : getD l i 0 ≤ last → risingFrom last (drop i l) ≡ false
-  rising-not h = ap (risingFrom last) (list-at l i inside) ∙ ap (λ (t : Bool). t && risingFrom (getD l i 0) (drop (i + 1) l)) (le-ltb last (getD l i 0) h)
+  pub rising-breaks : risingFrom last (drop i l) ≡ (ltb last (getD l i 0) && rising (drop i l))
+  rising-breaks =
+      ap (risingFrom last) (list-at l i inside) ∙ ap (λ (t : Bool). ltb last (getD l i 0) && t) (sym (rising-start l i inside))
 
-pub rising-end : (l : List ℕ) (last i : ℕ) → length l ≤ i → risingFrom last (drop i l) ≡ true
-rising-end l last i h = ap (risingFrom last) (drop-of-length-le l h)
+pub rising-end : (l : List ℕ) (last i : ℕ) → length l ≤ i → risingFrom last (drop i l) ≡ (true && rising (drop i l))
+rising-end l last i h =
+    let e : drop i l ≡ [] = drop-of-length-le l h in
+    ap (risingFrom last) e ∙ ap rising (sym e)
 
 -- ---- runs
 
@@ -65,7 +65,7 @@ module _ (l : List ℕ) (first last i : ℕ) where
 
 -- ---- bytes
 
-pub bytes-turn : (l : List ℕ) (i last next : ℕ) → RunFrom l i last next
+pub bytes-turn : (l : List ℕ) (i last next : ℕ) {rises : Bool} → RunFrom l i last next rises
     → bytesOf (drop i l) ≡ blockBytes (oneBlock (getD l i 0) last) ++ bytesOf (drop next l)
 unfolding bytesOf
 bytes-turn l i last next r = ap laid (r .blocks)
@@ -74,11 +74,11 @@ pub bytes-end : (l : List ℕ) (i : ℕ) → length l ≤ i → bytesOf (drop i 
 unfolding bytesOf
 bytes-end l i h = ap (λ (m : List ℕ). laid (blocksOf m)) (drop-of-length-le l h)
 
-pub length-turn : (l : List ℕ) (i last next : ℕ) → RunFrom l i last next
+pub length-turn : (l : List ℕ) (i last next : ℕ) {rises : Bool} → RunFrom l i last next rises
     → length (bytesOf (drop i l)) ≡ length (blockBytes (oneBlock (getD l i 0) last)) + length (bytesOf (drop next l))
 length-turn l i last next r = ap length (bytes-turn l i last next r) ∙ length-append (blockBytes (oneBlock (getD l i 0) last)) (bytesOf (drop next l))
 
-pub put-turn : (d l : List ℕ) (at i last next : ℕ) → RunFrom l i last next
+pub put-turn : (d l : List ℕ) (at i last next : ℕ) {rises : Bool} → RunFrom l i last next rises
     → overlay d at (bytesOf (drop i l))
     ≡ overlay (overlay d at (blockBytes (oneBlock (getD l i 0) last))) (at + length (blockBytes (oneBlock (getD l i 0) last))) (bytesOf (drop next l))
 put-turn d l at i last next r =

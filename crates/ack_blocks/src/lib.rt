@@ -10,8 +10,8 @@ ghost use Rattle.wire.specs.Overlay.{overlay};
 ghost use Rattle.ack_blocks.specs.Limits.{maxBlocks};
 ghost use Rattle.ack_blocks.specs.Blocks.{has, between, inMap, blockBytes};
 ghost use Rattle.ack_blocks.specs.Read.{kindIn, bitsIn, mapBytes, mapIn, sizeIn, blockIn, runFault, mapFault, faultIn, blocksIn, told, asked, answers};
-ghost use Rattle.ack_blocks.specs.Write.{rising, oneBlock, bytesOf, roomFor, writes, WritesBlocks};
-ghost use Rattle.ack_blocks.specs.Walk.{Inside, RunFrom};
+ghost use Rattle.ack_blocks.specs.Write.{oneBlock, roomFor, writes, WritesBlocks};
+ghost use Rattle.ack_blocks.specs.Walk.{Inside, RunFrom, PutNext, Lays};
 
 // The most bytes of a block list, and the largest number.
 pub const MAX_BLOCKS: usize = 65535;
@@ -63,10 +63,11 @@ pub enum Written {
     Refused(u32),
 }
 
-// An unbroken run of a list: its last number, and the place after it.
+// An unbroken run of a list: its last number, the place after it, and whether the number there, if any, is above.
 struct Run {
     last: u64,
     next: usize,
+    rises: bool,
 }
 
 // The number of w bytes, at most 8, at a place of the block that begins at another.
@@ -250,26 +251,6 @@ pub fn ask(b: &[u8], n: u64) -> Answer
     walk(b, n)
 }
 
-// Each number is above the one before.
-fn is_rising(list: &[u64]) -> bool
-    ensures { λ r. ⌜ r ≡ rising (now (list .entry)) ⌝ }
-{
-    if list.len() == 0 {
-        return true;
-    }
-    let mut last = list[0];
-    let mut i: usize = 1;
-    while i < list.len() {
-        let x = list[i];
-        if x <= last {
-            return false;
-        }
-        last = x;
-        i += 1;
-    }
-    true
-}
-
 // Whether x is one more than last; nothing follows the largest number.
 fn follows(last: u64, x: u64) -> bool
     ensures { λ r. ⌜ r ≡ eqb x (last + 1) ⌝ }
@@ -283,7 +264,7 @@ fn follows(last: u64, x: u64) -> bool
 // The unbroken run from a place of the list.
 fn run_from(list: &[u64], from: usize) -> Run
     requires { ⌜ from < length (now list) ⌝ }
-    ensures { λ r. ⌜ RunFrom (now (list .entry)) from (r .last) (r .next) ⌝ }
+    ensures { λ r. ⌜ RunFrom (now (list .entry)) from (r .last) (r .next) (r .rises) ⌝ }
 {
     let mut last = list[from];
     let mut i = from + 1;
@@ -293,6 +274,7 @@ fn run_from(list: &[u64], from: usize) -> Run
             return Run {
                 last: last,
                 next: i,
+                rises: last < x,
             };
         }
         last = x;
@@ -301,6 +283,7 @@ fn run_from(list: &[u64], from: usize) -> Run
     Run {
         last: last,
         next: i,
+        rises: true,
     }
 }
 
@@ -329,23 +312,18 @@ fn put_block(out: &mut [u8], at: usize, first: u64, last: u64)
     wire::put_number(&mut *out, at + 9, 8, last);
 }
 
-// How many bytes the blocks of a list take, or why they are not written.
-fn plan(list: &[u64], room: usize) -> Written
-    ensures { λ r. ⌜ writes r ≡ roomFor (length (bytesOf (now (list .entry)))) room ⌝ }
+// The block of a run at a place, and the place after it. No block is put past the most bytes: the place then stays.
+fn put_next(blocks: &mut [u8], at: usize, first: u64, last: u64) -> usize
+    ensures { λ r. ⌜ PutNext (now (blocks .entry)) at (blockBytes (oneBlock first last)) r (now (blocks .exit)) ⌝ }
 {
-    let mut n: usize = 0;
-    let mut i: usize = 0;
-    while i < list.len() {
-        if MAX_BLOCKS < n {
-            return Written::Refused(TOO_LONG);
-        }
-        let run = run_from(list, i);
-        n += block_length(list[i], run.last);
-        i = run.next;
+    if MAX_BLOCKS < at {
+        return at;
     }
-    room_for(n, room)
+    put_block(&mut *blocks, at, first, last);
+    at + block_length(first, last)
 }
 
+// So many bytes, or why they are not written.
 fn room_for(n: usize, room: usize) -> Written
     ensures { λ r. ⌜ writes r ≡ roomFor n room ⌝ }
 {
@@ -358,20 +336,22 @@ fn room_for(n: usize, room: usize) -> Written
     Written::Bytes(n)
 }
 
-// The blocks of a list at the start of the output.
-fn put_blocks(list: &[u64], out: &mut [u8])
-    requires { ⌜ length (bytesOf (now list)) ≤ maxBlocks ⌝ }
-    ensures { λ _. ⌜ now (out .exit) ≡ overlay (now (out .entry)) 0 (bytesOf (now (list .entry))) ⌝ }
+// Goes over the list once: its blocks at the start of the block space, and how many bytes they take, or why they are not written. That it
+// does not rise may be seen at its end, so nothing goes to the output here.
+fn lay(list: &[u64], room: usize, blocks: &mut [u8]) -> Written
+    ensures { λ r. ⌜ Lays (now (list .entry)) room (now (blocks .entry)) r (now (blocks .exit)) ⌝ }
 {
     let mut at: usize = 0;
     let mut i: usize = 0;
     while i < list.len() {
-        let first = list[i];
         let run = run_from(list, i);
-        put_block(&mut *out, at, first, run.last);
-        at += block_length(first, run.last);
+        if !run.rises {
+            return Written::Refused(NOT_RISING);
+        }
+        at = put_next(&mut *blocks, at, list[i], run.last);
         i = run.next;
     }
+    room_for(at, room)
 }
 
 // Writes the blocks of a list of numbers, sorted and distinct, at the start of the output: a lone number as a single, each longer unbroken
@@ -379,13 +359,11 @@ fn put_blocks(list: &[u64], out: &mut [u8])
 pub fn write_blocks(list: &[u64], out: &mut [u8]) -> Written
     ensures { λ r. ⌜ WritesBlocks (now (list .entry)) (now (out .entry)) r (now (out .exit)) ⌝ }
 {
-    if !is_rising(list) {
-        return Written::Refused(NOT_RISING);
-    }
-    let r = plan(list, out.len());
-    let Written::Bytes(_) = r else {
+    let mut blocks = [0u8; MAX_BLOCKS];
+    let r = lay(list, out.len(), &mut blocks);
+    let Written::Bytes(n) = r else {
         return r;
     };
-    put_blocks(list, &mut *out);
+    wire::put_bytes(&mut *out, 0, &blocks[..n]);
     r
 }

@@ -4,14 +4,17 @@ use Prim.Native.Nat.{_-_, _≤_, _<_}
 use native.Mathlib.Omega.{arith}
 use lib.ListN.{length, getD, drop}
 use borrow.Author.Tests.{not-true, not-false}
-use Rattle.ack_blocks.specs.Write.{blocksFrom, blocksOf}
-use Rattle.ack_blocks.proofs.Runs.{blocks-start, run-on, run-breaks, run-ends}
+use Rattle.ack_blocks.specs.Write.{rising, risingFrom, blocksFrom, blocksOf}
+use Rattle.ack_blocks.proofs.Runs.{rising-start, rising-on, rising-breaks, rising-end, blocks-start, run-on, run-breaks, run-ends}
 use borrow.Author.Needs.{needs}
 use Rattle.ack_blocks.proofs.run_from.Statement.{statement}
 use Rattle.ack_blocks.proofs.run_from.Tie as tie
 
 abbrev Inv-loop : tie.InvT-loop
-Inv-loop list from last₀ i₀ last i = (from < i) × ((i ≤ length list) × (blocksOf (drop from list) ≡ blocksFrom (getD list from 0) last (drop i list)))
+Inv-loop list from last₀ i₀ last i =
+    (from < i)
+    × ((i ≤ length list)
+    × ((rising (drop from list) ≡ risingFrom last (drop i list)) × (blocksOf (drop from list) ≡ blocksFrom (getD list from 0) last (drop i list))))
 
 abbrev μ-loop : tie.MeasureT-loop
 μ-loop list from last₀ i₀ last i = length list - i
@@ -28,7 +31,7 @@ add-i c = search needs
 loop-holds : tie.Need-loop-holds Inv-loop μ-loop
 loop-holds c =
     let a = c .before .before .args in
-    (omega arith, (omega arith, blocks-start (a .list .now) (a .from) (omega arith)))
+    (omega arith, (omega arith, (rising-start (a .list .now) (a .from) (omega arith), blocks-start (a .list .now) (a .from) (omega arith))))
 
 mul-x : tie.Need-mul-x Inv-loop μ-loop
 mul-x c = search needs
@@ -46,7 +49,8 @@ returns c =
     record {
       after = l .inv .0;
       inside = l .inv .1 .0;
-      blocks = l .inv .1 .1 ∙ run-breaks (a .list .now) _ (l .last) (l .i) (c .before .before .before .loop-test .taken) (sym (c .before .follows .ensures) ∙ not-true _ (c .if1 .taken));
+      rise = l .inv .1 .1 .0 ∙ rising-breaks (a .list .now) (l .last) (l .i) (c .before .before .before .loop-test .taken);
+      blocks = l .inv .1 .1 .1 ∙ run-breaks (a .list .now) _ (l .last) (l .i) (c .before .before .before .loop-test .taken) (sym (c .before .follows .ensures) ∙ not-true _ (c .if1 .taken));
     }
 
 add-i-2 : tie.Need-add-i-2 Inv-loop μ-loop
@@ -59,13 +63,22 @@ loop-again : tie.Need-loop-again Inv-loop μ-loop
 loop-again c =
     let a = c .before .before .before .before .before .before .before .args in
     let l = c .before .before .before .before .loop in
-    (omega arith, (omega arith, l .inv .1 .1 ∙ run-on (a .list .now) _ (l .last) (l .i) (c .before .before .before .loop-test .taken) (sym (c .before .follows .ensures) ∙ not-false _ (c .if1 .left))))
+    let h = c .before .before .before .loop-test .taken in
+    let f = sym (c .before .follows .ensures) ∙ not-false _ (c .if1 .left) in (
+      omega arith,
+      (omega arith, (l .inv .1 .1 .0 ∙ rising-on (a .list .now) (l .last) (l .i) h f, l .inv .1 .1 .1 ∙ run-on (a .list .now) _ (l .last) (l .i) h f)),
+    )
 
 returns-2 : tie.Need-returns-2 Inv-loop μ-loop
 returns-2 c =
     let a = c .before .before .before .before .args in
     let l = c .before .loop in
-    record { after = l .inv .0; inside = l .inv .1 .0; blocks = l .inv .1 .1 ∙ run-ends (a .list .now) _ (l .last) (l .i) (c .loop-test .left) }
+    record {
+      after = l .inv .0;
+      inside = l .inv .1 .0;
+      rise = l .inv .1 .1 .0 ∙ rising-end (a .list .now) (l .last) (l .i) (c .loop-test .left);
+      blocks = l .inv .1 .1 .1 ∙ run-ends (a .list .now) _ (l .last) (l .i) (c .loop-test .left);
+    }
 
 pub run-from-spec : {M : Type 1} → statement M
 run-from-spec =

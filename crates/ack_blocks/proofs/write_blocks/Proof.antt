@@ -1,74 +1,62 @@
 -- The blocks at the start of the output, or a refusal, which writes nothing. Assumes nothing.
-use mathlib.Core.Path.{ap, sym, _∙_}
+use mathlib.Core.Path.{sym, ap}
 use Prim.Native.Nat.{ℕ}
-use lib.ListN.{length}
-use borrow.Author.Tests.{not-true, not-false}
-use Rattle.ack_blocks.specs.Read.{Given}
-use Rattle.ack_blocks.specs.Write.{bytesOf, writes, outputOf}
-use Rattle.ack_blocks.proofs.Runs.{written-not, written-rising, room-makes}
+use lib.ListN.{length-replicate}
+use Rattle.ack_blocks.specs.Limits.{maxBlocks}
+use Rattle.ack_blocks.specs.Write.{writes}
+use Rattle.ack_blocks.proofs.Lays.{front-of, front-size, leaves, puts}
 use borrow.Author.Needs.{needs}
 use Rattle.ack_blocks.proofs.write_blocks.Statement.{statement}
 use Rattle.ack_blocks.proofs.write_blocks.Tie as tie
 
-is-rising-requires : tie.Need-is-rising-requires
-is-rising-requires c κs = search needs
+slice-aggregate-lay : tie.Need-slice-aggregate-lay
+slice-aggregate-lay c = sym (length-replicate {A = ℕ} maxBlocks 0)
 
-returns : tie.Need-returns
-returns c =
-    let a = c .before .before .before .before .args in
-    let e = written-not (a .list .now) (length (a .out .now)) (sym (c .before .is-rising .ensures) ∙ not-true _ (c .if1 .taken)) in
-    record { answer = sym e; output = ap (λ (g : Given ℕ). outputOf g (bytesOf (a .list .now)) (a .out .now)) (sym e) }
+lay-requires : tie.Need-lay-requires
+lay-requires c κs = search needs
 
-plan-requires : tie.Need-plan-requires
-plan-requires c κs = search needs
+enum-known-r : tie.Need-enum-known-r
+enum-known-r c = search needs
 
 enum-told : tie.Need-enum-told
 enum-told c = search needs
 
-enum-told-2 : tie.Need-enum-told-2
-enum-told-2 c = search needs
-
-returns-2 : tie.Need-returns-2
-returns-2 c =
+returns : tie.Need-returns
+returns c =
     let a = c .before .before .before .before .before .before .before .args in
-    let k = c .before .before in
-    let e = written-rising (a .list .now) (length (a .out .now)) (sym (k .before .before .is-rising .ensures) ∙ not-false _ (k .before .if1 .left)) in
-    record {
-      answer = k .plan .ensures ∙ sym e;
-      output = ap (λ (g : Given ℕ). outputOf g (bytesOf (a .list .now)) (a .out .now)) (sym (ap writes (c .enum-told2 .given .1)) ∙ k .plan .ensures ∙ sym e);
-    }
+    leaves (a .list .now) _ _ (a .out .now) _ _ (c .before .before .before .lay .ensures) (c .enum-told .given .1)
 
-put-blocks-requires : tie.Need-put-blocks-requires
-put-blocks-requires c κs =
-    let a = c .before .before .before .before .before .before .before .before .args in
-    let k = c .before .before .before in
-    room-makes (length (bytesOf (a .list .now))) (length (a .out .now)) _ (sym (k .plan .ensures) ∙ ap writes (c .before .enum-told .given .1)) .fits
+array-share-prefix-blocks : tie.Need-array-share-prefix-blocks
+array-share-prefix-blocks c =
+    let a = c .before .before .before .before .before .before .before .before .before .args in
+    front-of (a .list .now) _ _ _ _ _ (c .before .before .before .before .before .lay .ensures) (ap writes (c .before .before .r .given .1)) (length-replicate {A = ℕ} maxBlocks 0) .0
+
+slice-aggregate-put-bytes : tie.Need-slice-aggregate-put-bytes
+slice-aggregate-put-bytes c = front-size _ _ (array-share-prefix-blocks (c .before))
+
+put-bytes-requires : tie.Need-put-bytes-requires
+put-bytes-requires c κs = search needs
 
 same-length : tie.Need-same-length
 same-length c = search needs
 
-returns-3 : tie.Need-returns-3
-returns-3 c =
-    let a = c .before .before .before .before .before .before .before .before .before .before .before .args in
-    let p = c .before .before in
-    let t = p .before .before in
-    let k = t .before .before in
-    let e = written-rising (a .list .now) (length (a .out .now)) (sym (k .before .before .is-rising .ensures) ∙ not-false _ (k .before .if1 .left)) in
-    record {
-      answer = k .plan .ensures ∙ sym e;
-      output = p .put-blocks .ensures ∙ ap (λ (g : Given ℕ). outputOf g (bytesOf (a .list .now)) (a .out .now)) (sym (ap writes (t .enum-told .given .1)) ∙ k .plan .ensures ∙ sym e);
-    }
+returns-2 : tie.Need-returns-2
+returns-2 c =
+    let a = c .before .before .before .before .before .before .before .before .before .before .before .before .before .args in
+    let r = c .before .before .before .before .before .before in
+    puts (a .list .now) _ _ (a .out .now) _ _ _ (r .before .before .before .lay .ensures) (r .r .given .1) (length-replicate {A = ℕ} maxBlocks 0) (c .before .before .put-bytes .ensures)
 
 pub write-blocks-spec : {M : Type 1} → statement M
 write-blocks-spec =
     tie.close
     (tie.spec
-    is-rising-requires
-    returns
-    plan-requires
+    slice-aggregate-lay
+    lay-requires
+    enum-known-r
     enum-told
-    enum-told-2
-    returns-2
-    put-blocks-requires
+    returns
+    array-share-prefix-blocks
+    slice-aggregate-put-bytes
+    put-bytes-requires
     same-length
-    returns-3)
+    returns-2)
