@@ -2,13 +2,13 @@
 // Every public function is total over any slice.
 use words::Ranked;
 ghost use mathlib.Core.Path.{_≡_};
-ghost use Prim.Native.Nat.{_≤_, _<_, _-_};
+ghost use Prim.Native.Nat.{_+_, _≤_, _<_, _-_};
 ghost use lib.ListN.{length, getD};
 ghost use Rattle.steps.specs.Limits.{sendersMost, keysEach};
 ghost use Rattle.steps.specs.Search.{first};
 ghost use Rattle.steps.specs.Memory.{keyOf, isOf, vacant, remembered, has, orElse, placeFor, countOf, isRemembered, forgetKeys, memoryOk};
 ghost use Rattle.steps.specs.Memory as steps;
-ghost use Rattle.memory.specs.Words.{sequencesAt, memoryWords, placeIn, memoryIn, Left};
+ghost use Rattle.memory.specs.Words.{memoryWords, placeIn, memoryIn, Left};
 ghost use Rattle.memory.specs.Parts.{turnRanks, settledIn, shiftedIn, addedIn, freedAt, freedIn};
 
 // For how many senders keys are remembered, and how many for each.
@@ -164,20 +164,19 @@ fn count_of(memory: &[u64], i: usize, sender: u64) -> u64
 
 // Each of the 32 numbers from a on but the last takes the next one's place.
 fn shift(memory: &mut [u64], a: usize)
-    requires { ⌜ a ≤ sequencesAt (sendersMost - 1) ⌝ }
+    requires { ⌜ a + keysEach ≤ length (now memory) ⌝ }
     ensures { λ _. ⌜ now (memory .exit) ≡ shiftedIn (now (memory .entry)) a (keysEach - 1) ⌝ }
 {
     let mut i: usize = 0;
     while i < KEYS_EACH - 1 {
-        let x = words::word(&*memory, a + i + 1);
-        words::put_word(&mut *memory, a + i, x);
+        memory[a + i] = memory[a + i + 1];
         i += 1;
     }
 }
 
 // Place i has n sequences and one more; of 32 the oldest is dropped.
 fn add(memory: &mut [u64], i: usize, n: u64, sequence: u64)
-    requires { ⌜ i < sendersMost ⌝ }
+    requires { ⌜ (i < sendersMost) × (length (now memory) ≡ memoryWords) ⌝ }
     ensures { λ _. ⌜ now (memory .exit) ≡ addedIn (now (memory .entry)) i n sequence ⌝ }
 {
     let a = SEQUENCES + KEYS_EACH * i;
