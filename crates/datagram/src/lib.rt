@@ -1,6 +1,6 @@
 // What a datagram says: its header as numbers, with the places of its name and its data; and these two as parts of the datagram.
 ghost use mathlib.Core.Path.{_≡_};
-ghost use Prim.Native.Nat.{_+_, _≤_, min};
+ghost use Prim.Native.Nat.{_+_, _≤_, _<_, min};
 ghost use lib.ListN.{length, drop};
 ghost use lib.Dec.{eqb};
 ghost use Rattle.wire.specs.Bytes.{be};
@@ -218,12 +218,25 @@ fn wide(x: u32) -> usize
     x as usize
 }
 
-// The big-endian number of k bytes, at most 4, at a place.
-fn word(d: &[u8], at: usize, k: usize) -> u32
-    requires { ⌜ k ≤ 4 ⌝ }
-    ensures { λ r. ⌜ r ≡ be k (drop at (now (d .entry))) ⌝ }
+fn byte(x: u8) -> u32
+    ensures { λ r. ⌜ (r ≡ x) × (r < 256) ⌝ }
 {
-    wire::number(d, at, k) as u32
+    x as u32
+}
+
+// The big-endian numbers of two and of four bytes at a place. They are read by plain indexes: the callers have asked the length, once.
+fn two(d: &[u8], at: usize) -> u32
+    requires { ⌜ at + 2 ≤ length (now d) ⌝ }
+    ensures { λ r. ⌜ (r ≡ be 2 (drop at (now (d .entry)))) × (r < 65536) ⌝ }
+{
+    byte(d[at]) * 256 + byte(d[at + 1])
+}
+
+fn four(d: &[u8], at: usize) -> u32
+    requires { ⌜ at + 4 ≤ length (now d) ⌝ }
+    ensures { λ r. ⌜ r ≡ be 4 (drop at (now (d .entry))) ⌝ }
+{
+    two(d, at) * 65536 + two(d, at + 2)
 }
 
 fn read_small(d: &[u8]) -> Read
@@ -237,7 +250,7 @@ fn read_small(d: &[u8]) -> Read
     let n = wire::room(d.len(), at);
     Read::Good(Header {
         small: true,
-        sequence: word(d, 4, 4),
+        sequence: four(d, 4),
         size: n as u32,
         offset: 0,
         number: 0,
@@ -279,17 +292,17 @@ fn good_form(h: Header) -> bool
 
 // The fragment whose name stands there, and whose data begins at a place.
 fn formed_of(d: &[u8], name: Place, at: usize) -> Read
-    requires { ⌜ length (now d) ≤ maxDatagram ⌝ }
+    requires { ⌜ (20 ≤ length (now d)) × (length (now d) ≤ maxDatagram) ⌝ }
     ensures { λ r. ⌜ r ≡ formed (now (d .entry)) name at ⌝ }
 {
     let n = wire::room(d.len(), at);
     let h = Header {
         small: false,
-        sequence: word(d, 4, 4),
-        size: word(d, 8, 4),
-        offset: word(d, 12, 4),
-        number: word(d, 16, 2),
-        count: word(d, 18, 2),
+        sequence: four(d, 4),
+        size: four(d, 8),
+        offset: four(d, 12),
+        number: two(d, 16),
+        count: two(d, 18),
         name: name,
         payload: Place { at: at, len: n },
     };
@@ -303,18 +316,18 @@ fn read_fragment(d: &[u8], max_size: usize, max_count: u32) -> Read
     requires { ⌜ (20 ≤ length (now d)) × (length (now d) ≤ maxDatagram) ⌝ }
     ensures { λ r. ⌜ r ≡ readFragment «max_size» «max_count» (now (d .entry)) ⌝ }
 {
-    let count = word(d, 18, 2);
+    let count = two(d, 18);
     if count == 0 {
         return Read::Refused(5);
     }
     if max_count < count {
         return Read::Refused(5);
     }
-    let number = word(d, 16, 2);
+    let number = two(d, 16);
     if count <= number {
         return Read::Refused(5);
     }
-    if max_size < wide(word(d, 8, 4)) {
+    if max_size < wide(four(d, 8)) {
         return Read::Refused(6);
     }
     if number != 0 {
@@ -336,7 +349,7 @@ pub fn read_datagram(d: &[u8], max_size: usize, max_count: u32) -> Read
     if d.len() < 8 {
         return Read::Refused(1);
     }
-    let magic = word(d, 0, 4);
+    let magic = four(d, 0);
     if magic == SMALL_MAGIC {
         return read_small(d);
     }

@@ -9,12 +9,12 @@ use native.Mathlib.Decide.{ℕ-discrete, decLe}
 use native.Mathlib.Omega.{arith}
 use borrow.Author.Tests.{eq-eqb, ne-eqb}
 use lib.Dec.{eqb, leb}
-use lib.ListN.{length, getD, set, take, length-set, length-take}
-use lib.Seq.{take-suc, take-all}
+use lib.ListN.{length, getD, set, take, drop, length-set, length-take, length-drop}
+use lib.Seq.{take-suc, take-all, take-take, getD-take, getD-drop, length-take-le}
 use Rattle.wire.specs.Choice.{pick}
 use Rattle.wire.proofs.Choices.{and-false, pick-all}
 use Rattle.words.specs.Builds.{build}
-use Rattle.words.proofs.Builds.{length-build, getD-build}
+use Rattle.words.proofs.Builds.{length-build, getD-build, build-is}
 use Rattle.steps.specs.Limits.{sendersMost, keysEach}
 use Rattle.steps.specs.Search.{allBelow, first}
 use Rattle.steps.proofs.Tables.{all-cong}
@@ -55,12 +55,12 @@ of-by w i s e = rw (eq-eqb _ _ e) (go (not (eqb (getD w (usedAt i) 0) 0)))
 
 -- ---- a sequence is looked for among the first of a list
 
+or-false : (b : Bool) → (b || false) ≡ b
+or-false true = refl
+or-false false = refl
+
 has-snoc : (l : List ℕ) (x q : ℕ) → has (l ++ (x ∷ [])) q ≡ (has l q || eqb x q)
-has-snoc [] x q = go (eqb x q)
-  where
-    go : (b : Bool) → (b || false) ≡ b
-    go true = refl
-    go false = refl
+has-snoc [] x q = or-false (eqb x q)
 has-snoc (y ∷ l) x q = rw (has-snoc l x q) (go (eqb y q) (has l q) (eqb x q))
   where
     go : (b c d : Bool) → (b || (c || d)) ≡ ((b || c) || d)
@@ -81,6 +81,13 @@ module _ (l : List ℕ) (q : ℕ) where
     | yes z ↦ rw (take-suc l n 0 (omega arith), has-snoc (take n l) (getD l n 0) q, sym (ap (λ (i : ℕ). eqb (getD l i 0) q) z) ∙ e) (or-true (has (take n l) q))
     | no z ↦ rw (take-suc l n 0 (omega arith), has-snoc (take n l) (getD l n 0) q, has-hit j n (omega arith) (omega arith) e)
   ]
+
+  -- a turn of a loop that counts: n of the first j are the one, and then m of one more
+  pub among-hit : (j n m : ℕ) → j < length l → getD l j 0 ≡ q → m ≡ n + 1 → not (eqb m 0) ≡ has (take (j + 1) l) q
+  among-hit j n m h e f = rw (add-one, take-suc l j 0 h, has-snoc (take j l) (getD l j 0) q, eq-eqb _ _ e, or-true (has (take j l) q)) (ap not (ne-eqb m 0 (omega arith)))
+
+  pub among-more : (j n m : ℕ) → j < length l → not (eqb n 0) ≡ has (take j l) q → (getD l j 0 ≡ q → ⊥) → m ≡ n → not (eqb m 0) ≡ has (take (j + 1) l) q
+  among-more j n m h a e f = rw (add-one, take-suc l j 0 h, has-snoc (take j l) (getD l j 0) q, ne-eqb _ _ e, or-false (has (take j l) q), f) a
 
   -- more count than there are
   pub take-min : (n m : ℕ) → length l ≡ m → take n l ≡ take (min n m) l
@@ -103,6 +110,16 @@ module _ (w : List ℕ) (i q n : ℕ) (e : n ≡ min (getD w (usedAt i) 0) keysE
 
   pub key-missed : has (take n (sequencesIn w i)) q ≡ false → has (remembered (placeIn w i)) q ≡ false
   key-missed a = rw kept-are a
+
+  -- in a memory they stand side by side
+  pub row-is : sequencesAt i + keysEach ≤ length w → has (take n (drop (sequencesAt i) w)) q ≡ has (remembered (placeIn w i)) q
+  row-is h =
+      let f : ℕ → ℕ = λ j. getD w (sequencesAt i + j) 0 in
+      let row = take keysEach (drop (sequencesAt i) w) in
+      let long : length row ≡ keysEach = length-take-le keysEach (drop (sequencesAt i) w) (rw length-drop (omega arith)) in
+      let same : (j : ℕ) → j < keysEach → f j ≡ getD row j 0 = λ j l. sym (getD-take keysEach (drop (sequencesAt i) w) j 0 l ∙ getD-drop (sequencesAt i) w j 0) in
+      let built : sequencesIn w i ≡ row = build-is keysEach f row 0 long same in
+      sym (rw kept-are (ap (λ (l : List ℕ). has l q) (ap (take n) built ∙ take-take n keysEach (drop (sequencesAt i) w) (omega arith))))
 
 -- ---- refusal 9
 

@@ -2,13 +2,13 @@
 // Every public function is total over any slice.
 use words::Ranked;
 ghost use mathlib.Core.Path.{_≡_};
-ghost use Prim.Native.Nat.{_≤_, _<_, _-_};
+ghost use Prim.Native.Nat.{_+_, _≤_, _<_, _-_};
 ghost use lib.ListN.{length, getD};
 ghost use Rattle.steps.specs.Limits.{sendersMost, keysEach};
 ghost use Rattle.steps.specs.Search.{first};
 ghost use Rattle.steps.specs.Memory.{keyOf, isOf, vacant, remembered, has, orElse, placeFor, countOf, isRemembered, forgetKeys, memoryOk};
 ghost use Rattle.steps.specs.Memory as steps;
-ghost use Rattle.memory.specs.Words.{sequencesAt, placeIn, memoryIn, Left};
+ghost use Rattle.memory.specs.Words.{memoryWords, placeIn, memoryIn, Left};
 ghost use Rattle.memory.specs.Parts.{turnRanks, settledIn, shiftedIn, addedIn, freedAt, freedIn};
 
 // For how many senders keys are remembered, and how many for each.
@@ -77,7 +77,33 @@ fn free_place(memory: &[u64]) -> usize
     SENDERS_MOST
 }
 
-// The sequence counts at place i.
+// The number is among them. It is counted to the end, so that the compiler can compare several at once.
+fn is_among(numbers: &[u64], x: u64) -> bool
+    ensures { λ r. ⌜ r ≡ has (now (numbers .entry)) x ⌝ }
+{
+    let mut n: u64 = 0;
+    let mut i: usize = 0;
+    while i < numbers.len() {
+        if numbers[i] == x {
+            n += 1;
+        }
+        i += 1;
+    }
+    n != 0
+}
+
+// The sequence counts at place i of a memory.
+fn row_has(memory: &[u64], i: usize, sequence: u64) -> bool
+    requires { ⌜ (i < sendersMost) × (length (now memory) ≡ memoryWords) ⌝ }
+    ensures { λ r. ⌜ r ≡ has (remembered (placeIn (now (memory .entry)) i)) sequence ⌝ }
+{
+    let n = wire::least(memory[USED + i] as usize, KEYS_EACH);
+    let a = SEQUENCES + KEYS_EACH * i;
+    let e = a + n;
+    is_among(&memory[a..e], sequence)
+}
+
+// The same over a slice of any length, one by one.
 fn has_key(memory: &[u64], i: usize, sequence: u64) -> bool
     requires { ⌜ i < sendersMost ⌝ }
     ensures { λ r. ⌜ r ≡ has (remembered (placeIn (now (memory .entry)) i)) sequence ⌝ }
@@ -100,6 +126,9 @@ pub fn is_remembered(memory: &[u64], sender: u64, sequence: u64) -> bool
 {
     let i = own_place(memory, sender);
     if i < SENDERS_MOST {
+        if memory.len() == WORDS {
+            return row_has(memory, i, sequence);
+        }
         return has_key(memory, i, sequence);
     }
     false
@@ -135,20 +164,19 @@ fn count_of(memory: &[u64], i: usize, sender: u64) -> u64
 
 // Each of the 32 numbers from a on but the last takes the next one's place.
 fn shift(memory: &mut [u64], a: usize)
-    requires { ⌜ a ≤ sequencesAt (sendersMost - 1) ⌝ }
+    requires { ⌜ a + keysEach ≤ length (now memory) ⌝ }
     ensures { λ _. ⌜ now (memory .exit) ≡ shiftedIn (now (memory .entry)) a (keysEach - 1) ⌝ }
 {
     let mut i: usize = 0;
     while i < KEYS_EACH - 1 {
-        let x = words::word(&*memory, a + i + 1);
-        words::put_word(&mut *memory, a + i, x);
+        memory[a + i] = memory[a + i + 1];
         i += 1;
     }
 }
 
 // Place i has n sequences and one more; of 32 the oldest is dropped.
 fn add(memory: &mut [u64], i: usize, n: u64, sequence: u64)
-    requires { ⌜ i < sendersMost ⌝ }
+    requires { ⌜ (i < sendersMost) × (length (now memory) ≡ memoryWords) ⌝ }
     ensures { λ _. ⌜ now (memory .exit) ≡ addedIn (now (memory .entry)) i n sequence ⌝ }
 {
     let a = SEQUENCES + KEYS_EACH * i;

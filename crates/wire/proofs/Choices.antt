@@ -29,6 +29,10 @@ pub and-false : (b : Bool) → (b && false) ≡ false
 and-false true = refl
 and-false false = refl
 
+pub and-true : (b : Bool) → (b && true) ≡ b
+and-true true = refl
+and-true false = refl
+
 pub or-l : (a b : Bool) → (a || b) ≡ false → a ≡ false
 or-l true b e = e
 or-l false b e = refl

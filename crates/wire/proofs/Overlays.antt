@@ -130,6 +130,13 @@ overlay-least d at s n e = elim (decLe (length s) n) [
   | no h ↦ overlay-cut d at s n (omega arith)
 ]
 
+-- what was written at the front stands there
+pub overlay-front : (d s : List ℕ) (n : ℕ) → n ≤ length d → n ≤ length s → take n (overlay d 0 (take n s)) ≡ take n s
+overlay-front d s n h g =
+    let l : length (take n s) ≡ n = length-take-le n s g in
+    let f : 0 + length (take n s) ≤ length d = rw l (omega arith) in
+    rw l at (overlay-at d 0 (take n s) f)
+
 -- the lowest byte of a number after those above it
 pub overlay-number : (d : List ℕ) (at k v : ℕ) → 0 < k
     → set (overlay d at (bytes (k - 1) (v / 256))) (at + (k - 1)) (v % 256) ≡ overlay d at (bytes k v)

@@ -12,26 +12,26 @@ use borrow.Author.Needs.{needs}
 use Rattle.datagram.proofs.read_fragment.Statement.{statement}
 use Rattle.datagram.proofs.read_fragment.Tie as tie
 
-word-requires : tie.Need-word-requires
-word-requires c κs = search needs
+two-requires : tie.Need-two-requires
+two-requires c κs = search needs
 
 returns : tie.Need-returns
 unfolding readFragment
-returns c = rw (eq-eqb _ _ (sym (c .before .word .ensures) ∙ c .if1 .taken))
+returns c = rw (eq-eqb _ _ (sym (c .before .two .ensures .0) ∙ c .if1 .taken))
 
 returns-2 : tie.Need-returns-2
 unfolding readFragment
-returns-2 c = rw (ne-eqb _ _ (rw (c .before .before .word .ensures) at (c .before .if1 .left)), lt-ltb _ _ (rw (c .before .before .word .ensures) at (c .if2 .taken)))
+returns-2 c = rw (ne-eqb _ _ (rw (c .before .before .two .ensures .0) at (c .before .if1 .left)), lt-ltb _ _ (rw (c .before .before .two .ensures .0) at (c .if2 .taken)))
 
-word-requires-2 : tie.Need-word-requires-2
-word-requires-2 c κs = search needs
+two-requires-2 : tie.Need-two-requires-2
+two-requires-2 c κs = search needs
 
 returns-3 : tie.Need-returns-3
 unfolding readFragment
-returns-3 c = rw (ne-eqb _ _ (rw (c .before .before .before .before .word .ensures) at (c .before .before .before .if1 .left)), le-ltb _ _ (rw (c .before .before .before .before .word .ensures) at (c .before .before .if2 .left)), le-leb _ _ (rw (c .before .before .before .before .word .ensures, c .before .word2 .ensures) at (c .if3 .taken)))
+returns-3 c = rw (ne-eqb _ _ (rw (c .before .before .before .before .two .ensures .0) at (c .before .before .before .if1 .left)), le-ltb _ _ (rw (c .before .before .before .before .two .ensures .0) at (c .before .before .if2 .left)), le-leb _ _ (rw (c .before .before .before .before .two .ensures .0, c .before .two2 .ensures .0) at (c .if3 .taken)))
 
-word-requires-3 : tie.Need-word-requires-3
-word-requires-3 c κs = search needs
+four-requires : tie.Need-four-requires
+four-requires c κs = search needs
 
 wide-requires : tie.Need-wide-requires
 wide-requires c κs = search needs
@@ -40,10 +40,10 @@ returns-4 : tie.Need-returns-4
 unfolding readFragment
 returns-4 c =
     rw (
-      ne-eqb _ _ (rw (c .before .before .before .before .before .before .before .word .ensures) at (c .before .before .before .before .before .before .if1 .left)),
-      le-ltb _ _ (rw (c .before .before .before .before .before .before .before .word .ensures) at (c .before .before .before .before .before .if2 .left)),
-      lt-leb _ _ (rw (c .before .before .before .before .before .before .before .word .ensures, c .before .before .before .before .word2 .ensures) at (c .before .before .before .if3 .left)),
-      lt-ltb _ _ (rw (c .before .wide .ensures, c .before .before .word3 .ensures) at (c .if4 .taken)),
+      ne-eqb _ _ (rw (c .before .before .before .before .before .before .before .two .ensures .0) at (c .before .before .before .before .before .before .if1 .left)),
+      le-ltb _ _ (rw (c .before .before .before .before .before .before .before .two .ensures .0) at (c .before .before .before .before .before .if2 .left)),
+      lt-leb _ _ (rw (c .before .before .before .before .before .before .before .two .ensures .0, c .before .before .before .before .two2 .ensures .0) at (c .before .before .before .if3 .left)),
+      lt-ltb _ _ (rw (c .before .wide .ensures, c .before .before .four .ensures) at (c .if4 .taken)),
     )
 
 -- past refusals 5 and 6: the number decides
@@ -53,10 +53,10 @@ passed : (c : tie.Else4)
 unfolding readFragment
 passed c =
     rw (
-      ne-eqb _ _ (rw (c .before .before .before .before .before .before .before .word .ensures) at (c .before .before .before .before .before .before .if1 .left)),
-      le-ltb _ _ (rw (c .before .before .before .before .before .before .before .word .ensures) at (c .before .before .before .before .before .if2 .left)),
-      lt-leb _ _ (rw (c .before .before .before .before .before .before .before .word .ensures, c .before .before .before .before .word2 .ensures) at (c .before .before .before .if3 .left)),
-      le-ltb _ _ (rw (c .before .wide .ensures, c .before .before .word3 .ensures) at (c .if4 .left)),
+      ne-eqb _ _ (rw (c .before .before .before .before .before .before .before .two .ensures .0) at (c .before .before .before .before .before .before .if1 .left)),
+      le-ltb _ _ (rw (c .before .before .before .before .before .before .before .two .ensures .0) at (c .before .before .before .before .before .if2 .left)),
+      lt-leb _ _ (rw (c .before .before .before .before .before .before .before .two .ensures .0, c .before .before .before .before .two2 .ensures .0) at (c .before .before .before .if3 .left)),
+      le-ltb _ _ (rw (c .before .wide .ensures, c .before .before .four .ensures) at (c .if4 .left)),
     )
 
 formed-of-requires : tie.Need-formed-of-requires
@@ -64,7 +64,7 @@ formed-of-requires c κs = search needs
 
 returns-5 : tie.Need-returns-5
 returns-5 c =
-    c .formed-of .ensures ∙ sym (passed (c .before .before) ∙ rw (ne-eqb _ _ (rw (c .before .before .before .before .before .before .word2 .ensures) at (c .before .if5 .taken))))
+    c .formed-of .ensures ∙ sym (passed (c .before .before) ∙ rw (ne-eqb _ _ (rw (c .before .before .before .before .before .before .two2 .ensures .0) at (c .before .if5 .taken))))
 
 sub-name-length : tie.Need-sub-name-length
 sub-name-length c = search needs
@@ -87,7 +87,7 @@ enum-told c = search needs
 returns-6 : tie.Need-returns-6
 returns-6 c =
     let name = named-rest (c .before .before .before .before .before .before .before .before .before .before .before .before .before .before .args .d .now) 20 _ (c .before .before .name-length .ensures) ∙ c .enum-told .given .1 in
-    sym (passed (c .before .before .before .before .before) ∙ rw (eq-eqb _ _ (rw (c .before .before .before .before .before .before .before .before .before .word2 .ensures) at (c .before .before .before .before .if5 .left)), name))
+    sym (passed (c .before .before .before .before .before) ∙ rw (eq-eqb _ _ (rw (c .before .before .before .before .before .before .before .before .before .two2 .ensures .0) at (c .before .before .before .before .if5 .left)), name))
 
 add-formed-of : tie.Need-add-formed-of
 add-formed-of c = omega (arith, found-short _ _ (named-rest (c .before .before .before .before .before .before .before .before .before .before .before .before .before .before .before .args .d .now) 20 _ (c .before .before .before .name-length .ensures) ∙ c .before .c .given .1))
@@ -98,18 +98,18 @@ formed-of-requires-2 c κs = search needs
 returns-7 : tie.Need-returns-7
 returns-7 c =
     let name = named-rest (c .before .before .before .before .before .before .before .before .before .before .before .before .before .before .before .before .args .d .now) 20 _ (c .before .before .before .before .name-length .ensures) ∙ c .before .before .c .given .1 in
-    c .formed-of2 .ensures ∙ sym (passed (c .before .before .before .before .before .before .before) ∙ rw (eq-eqb _ _ (rw (c .before .before .before .before .before .before .before .before .before .before .before .word2 .ensures) at (c .before .before .before .before .before .before .if5 .left)), name))
+    c .formed-of2 .ensures ∙ sym (passed (c .before .before .before .before .before .before .before) ∙ rw (eq-eqb _ _ (rw (c .before .before .before .before .before .before .before .before .before .before .before .two2 .ensures .0) at (c .before .before .before .before .before .before .if5 .left)), name))
 
 pub read-fragment-spec : {M : Type 1} → statement M
 read-fragment-spec =
     tie.close
     (tie.spec
-    word-requires
+    two-requires
     returns
     returns-2
-    word-requires-2
+    two-requires-2
     returns-3
-    word-requires-3
+    four-requires
     wide-requires
     returns-4
     formed-of-requires

@@ -35,8 +35,8 @@ add-at c = omega (arith, found-short _ _ (named-rest (c .before .before .before 
 room-requires : tie.Need-room-requires
 room-requires c κs = search needs
 
-word-requires : tie.Need-word-requires
-word-requires c κs = search needs
+four-requires : tie.Need-four-requires
+four-requires c κs = search needs
 
 cast-t11 : tie.Need-cast-t11
 cast-t11 c = search needs
@@ -45,7 +45,7 @@ returns-2 : tie.Need-returns-2
 unfolding readSmall
 returns-2 c =
     let name = named-rest (c .before .before .before .before .before .before .before .before .args .d .now) 8 _ (c .before .before .before .before .before .name-length .ensures) ∙ c .before .before .before .c .given .1 in
-    rw (name, c .word .ensures, c .before .room .ensures)
+    rw (name, c .four .ensures, c .before .room .ensures)
 
 pub read-small-spec : {M : Type 1} → statement M
 read-small-spec =
@@ -60,6 +60,6 @@ read-small-spec =
     returns
     add-at
     room-requires
-    word-requires
+    four-requires
     cast-t11
     returns-2)

@@ -5,7 +5,7 @@ use borrow.Author.Needs.{needs}
 use lib.ListN.{length}
 use Rattle.memory.specs.Words.{memoryWords, memoryIn}
 use Rattle.memory.specs.Parts.{settledIn, addedIn}
-use Rattle.memory.proofs.Views.{stays, left, for-inside, remembered-memory, remembered-length}
+use Rattle.memory.proofs.Views.{stays, left, for-inside, settled-length, remembered-memory, remembered-length}
 use Rattle.memory.proofs.remember.Statement.{statement}
 use Rattle.memory.proofs.remember.Tie as tie
 
@@ -22,7 +22,11 @@ settle-requires : tie.Need-settle-requires
 settle-requires c κs = for-inside (c .before .before .before .before .before .before .before .args .memory .now) (c .before .before .before .before .before .before .before .args .sender) _ (c .before .before .before .place-for .ensures)
 
 add-requires : tie.Need-add-requires
-add-requires c κs = for-inside (c .before .before .before .before .before .before .before .before .before .before .before .args .memory .now) (c .before .before .before .before .before .before .before .before .before .before .before .args .sender) _ (c .before .before .before .before .before .before .before .place-for .ensures)
+add-requires c κs =
+    let found = c .before .before .before .before .before .before .before in
+    let a = found .before .before .before .before .args in
+    let inside = for-inside (a .memory .now) (a .sender) _ (found .place-for .ensures) in
+    (inside, ap length (c .before .before .before .settle .ensures) ∙ settled-length (a .memory .now) (found .before .before .if1 .left) _ (a .sender) inside)
 
 same-length : tie.Need-same-length
 same-length c = search needs

@@ -1,42 +1,49 @@
 -- `memory::shift` meets its contract. The loop's invariant: the first i numbers have taken the next one's place. Assumes nothing.
-use mathlib.Core.Path.{_≡_, _∙_, ap}
+use mathlib.Core.Path.{_≡_, refl}
 use Prim.Native.Nat.{_-_, _≤_}
 use native.Mathlib.Omega.{arith}
-use lib.ListN.{length}
+use lib.ListN.{length, length-set}
 use borrow.Author.Needs.{needs}
-use Rattle.steps.specs.Limits.{sendersMost, keysEach}
-use Rattle.memory.specs.Words.{sequencesAt}
+use Rattle.steps.specs.Limits.{keysEach}
 use Rattle.memory.specs.Parts.{shiftedIn}
-use Rattle.memory.proofs.Loops.{shifted-none, shifted-more, shifted-length}
+use Rattle.memory.proofs.Loops.{shifted-none, shifted-more}
 use Rattle.memory.proofs.shift.Statement.{statement}
 use Rattle.memory.proofs.shift.Tie as tie
 
 abbrev Inv-loop : tie.InvT-loop
-Inv-loop memory₀ a i₀ memory i = (i ≤ keysEach - 1) × (a ≤ sequencesAt (sendersMost - 1)) × (memory ≡ shiftedIn memory₀ a i)
+Inv-loop memory₀ a i₀ memory i = (i ≤ keysEach - 1) × (length memory ≡ length memory₀) × (memory ≡ shiftedIn memory₀ a i)
 
 abbrev μ-loop : tie.MeasureT-loop
 μ-loop memory₀ a i₀ memory i = keysEach - 1 - i
 
 loop-holds : tie.Need-loop-holds Inv-loop μ-loop
-loop-holds c = (omega arith, c .before .pre, shifted-none (c .before .args .memory .now) (c .before .args .a))
+loop-holds c =
+    let a = c .args in
+    (omega arith, refl, shifted-none (a .memory .now) (a .a))
 
 sub-loop : tie.Need-sub-loop Inv-loop μ-loop
 sub-loop c = search needs
 
-add-word : tie.Need-add-word Inv-loop μ-loop
-add-word c = search needs
+add-memory : tie.Need-add-memory Inv-loop μ-loop
+add-memory c = search needs
 
-add-word-2 : tie.Need-add-word-2 Inv-loop μ-loop
-add-word-2 c = search needs
+add-memory-2 : tie.Need-add-memory-2 Inv-loop μ-loop
+add-memory-2 c = search needs
 
-word-requires : tie.Need-word-requires Inv-loop μ-loop
-word-requires c κs = search needs
+mul-memory : tie.Need-mul-memory Inv-loop μ-loop
+mul-memory c = search needs
 
-add-put-word : tie.Need-add-put-word Inv-loop μ-loop
-add-put-word c = search needs
+slice-read-memory : tie.Need-slice-read-memory Inv-loop μ-loop
+slice-read-memory c = search needs
 
-put-word-requires : tie.Need-put-word-requires Inv-loop μ-loop
-put-word-requires c κs = search needs
+add-memory-3 : tie.Need-add-memory-3 Inv-loop μ-loop
+add-memory-3 c = search needs
+
+mul-memory-2 : tie.Need-mul-memory-2 Inv-loop μ-loop
+mul-memory-2 c = search needs
+
+slice-write-memory : tie.Need-slice-write-memory Inv-loop μ-loop
+slice-write-memory c = search needs
 
 add-i : tie.Need-add-i Inv-loop μ-loop
 add-i c = search needs
@@ -46,10 +53,12 @@ loop-less c = search needs
 
 loop-again : tie.Need-loop-again Inv-loop μ-loop
 loop-again c =
-    (omega arith, c .before .before .before .before .before .before .before .loop .inv .1, shifted-more (c .before .before .before .before .before .before .before .before .before .args .memory .now) (c .before .before .before .before .before .before .before .loop .memory) _ (c .before .before .before .before .before .before .before .before .before .args .a) (c .before .before .before .before .before .before .before .loop .i) _ (c .before .before .before .before .before .before .before .loop .inv .2) (c .before .before .before .before .word .ensures) (c .before .before .put-word .ensures))
+    let l = c .before .before .loop in
+    let a = c .before .before .before .args in
+    (omega arith, simp length-set (l .inv .1), shifted-more (a .memory .now) (l .memory) _ (a .a) (l .i) _ (l .inv .2) refl refl)
 
 same-length : tie.Need-same-length Inv-loop μ-loop
-same-length c = ap length (c .before .loop .inv .2) ∙ shifted-length (c .before .before .before .args .memory .now) (c .before .before .before .args .a) (c .before .loop .i)
+same-length c = c .before .loop .inv .1
 
 returns : tie.Need-returns Inv-loop μ-loop
 returns c =
@@ -64,11 +73,13 @@ shift-spec =
     μ-loop
     loop-holds
     sub-loop
-    add-word
-    add-word-2
-    word-requires
-    add-put-word
-    put-word-requires
+    add-memory
+    add-memory-2
+    mul-memory
+    slice-read-memory
+    add-memory-3
+    mul-memory-2
+    slice-write-memory
     add-i
     loop-less
     loop-again
