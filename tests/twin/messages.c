@@ -488,6 +488,12 @@ void bytes_stream(struct stream *s, int which) {
         marks(between(9000, 13000));
         expect_bytes(s);
     }
+    /* one over the longest message in each, or a few bytes around it */
+    for (int turn = 0; turn < 2; turn++) {
+        begin();
+        sized(turn == 0 ? MAX_MESSAGE + 1 : between(MAX_MESSAGE - 1, MAX_MESSAGE + 60));
+        expect_bytes(s);
+    }
     for (int i = 0; i < 15000; i++) one_list(s);
     end_stream(s, 5, which % 4);
 }
