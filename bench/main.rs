@@ -184,7 +184,7 @@ fn put32(d: &mut [u8], at: usize, x: usize) {
     d[at..at + 4].copy_from_slice(&(x as u32).to_be_bytes());
 }
 
-// Fragment k of n, as the cutter cuts at M: all are full where the payload is as long as n fragments hold, at most 262,144.
+// Fragment k of n, as the cutter cuts at M: all are full where the payload is as long as n fragments hold, at most MAX_SIZE.
 fn cut(k: usize, n: usize, m: usize, random: &mut Random) -> Vec<u8> {
     let size = (n * (m - 20) - 5).min(MAX_SIZE);
     let offset = if k == 0 { 0 } else { k * (m - 20) - 5 };

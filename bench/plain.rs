@@ -5,8 +5,8 @@ pub const SLOTS: usize = 8;
 pub const SENDERS: usize = 16;
 pub const KEYS: usize = 32;
 pub const MAX_NAME: usize = 63;
-pub const MAX_COUNT: usize = 256;
-pub const MAX_SIZE: usize = 262_144;
+pub const MAX_COUNT: usize = 1024;
+pub const MAX_SIZE: usize = 1_048_576;
 pub const MAX_DATAGRAM: usize = 65_535;
 pub const LEDGER: usize = 2 * MAX_COUNT * SLOTS;
 

@@ -38,7 +38,7 @@ static const struct {
 };
 enum { ALL = sizeof all / sizeof *all };
 
-static u8 bytes[262144 + 64];
+static u8 bytes[1048576 + 64];
 
 static double now(void) {
     struct timespec t;
