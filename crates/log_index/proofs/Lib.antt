@@ -1,3 +1,6 @@
 pub mod Halves
 pub mod Moves
 pub mod Finds
+pub mod Order
+pub mod Sorts
+pub mod Wordings
