@@ -4,3 +4,4 @@ pub mod Finds
 pub mod Order
 pub mod Sorts
 pub mod Wordings
+pub mod Looks

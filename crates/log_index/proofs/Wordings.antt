@@ -61,7 +61,7 @@ module _ (l : List Row) (t : List ℕ) (r : Row) where
   abbrev w : List ℕ
   w = wordsOf l ++ t
 
-  words-all : length w ≡ 3 * length l + length t
+  pub words-all : length w ≡ 3 * length l + length t
   words-all = length-append (wordsOf l) t ∙ ap (λ (k : ℕ). k + length t) (words-length l)
 
   moved : (k : ℕ) → k ≤ length l → take (3 * length l - 3 * k) (drop (3 * k) w) ≡ wordsOf (drop k l)
@@ -92,13 +92,13 @@ module _ (l : List Row) (t : List ℕ) (r : Row) where
   same-test : (i : ℕ) → i < length l → test i ≡ earlierAt r l i
   same-test i h = ap (λ (x : Row). earlier x r) (row-words l t i h)
 
-  rank-turns : Ordered l → Turns (earlierAt r l) (length l) (rankIn w (length l) r)
+  pub rank-turns : Ordered l → Turns (earlierAt r l) (length l) (rankIn w (length l) r)
   unfolding rankIn
   rank-turns o =
       let fall : (i j : ℕ) → i ≤ j → j < length l → test j ≡ true → test i ≡ true =
-          λ i j h b u. same-test i (omega arith) ∙ falls r l o i j h b (sym (same-test j b) ∙ u) in
+      λ i j h b u. same-test i (omega arith) ∙ falls r l o i j h b (sym (same-test j b) ∙ u) in
       let t : Turns test (length l) (halve (length l) test 0 (length l)) =
-          halve-turns test (length l) fall (length l) 0 (length l) (omega arith) (omega arith) (omega arith) (λ i h. absurd (omega (arith, h))) (λ h. absurd (omega (arith, h))) in
+      halve-turns test (length l) fall (length l) 0 (length l) (omega arith) (omega arith) (omega arith) (λ i h. absurd (omega (arith, h))) (λ h. absurd (omega (arith, h))) in
       record {
         most = t .most;
         left = λ i h. sym (same-test i (omega (arith, h, t .most))) ∙ t .left i h;
