@@ -5,3 +5,4 @@ pub mod Order
 pub mod Sorts
 pub mod Wordings
 pub mod Looks
+pub mod Gathers

@@ -7,25 +7,15 @@ use lib.Dec.{ltb}
 use lib.ListN.{length, drop}
 use Rattle.wire.specs.Choice.{pick}
 use Rattle.wire.specs.Taken.{Taken, taken, refused}
-use Rattle.datagram.specs.Limits.{maxPayload, maxFragments}
 use Rattle.datagram.specs.Read.{readDatagram}
 use Rattle.datagram.specs.declared.Read.{Read}
 use Rattle.datagram.specs.declared.Read.the-variants.{Good, Refused}
+use Rattle.log.specs.Editions.{Edition, headIn, limitsOf}
 use Rattle.log.specs.Entries.{Entry, entryBytes}
-use Rattle.log.specs.Listed.{headIn, Listed, whole, broken, listBy}
+use Rattle.log.specs.Listed.{Listed, whole, broken, listBy}
+use Rattle.log.specs.declared.reader.Limits.{Limits}
 use Rattle.log_index.specs.Limits.{maxIndex, full}
 use Rattle.log_index.specs.Rows.{Row, rowOf, sorted}
-
--- the limits that a log sets its fragments
-pub record Bounds : Type 0 where
-  pub payload : ℕ
-  pub fragments : ℕ
-
-abbrev pub boundsOf : ℕ → ℕ → Bounds
-boundsOf p f = record { payload = p; fragments = f }
-
-abbrev pub boundsIn : List ℕ → Bounds
-boundsIn log = boundsOf maxPayload maxFragments
 
 -- ---- rows in the log's order
 
@@ -35,11 +25,11 @@ rowFor sender at (Good h) = rowOf sender (h .sequence) at ∷ []
 rowFor sender at (Refused n) = []
 
 -- of the entry at a place
-unfoldable pub entryRow : Bounds → ℕ → Entry → List Row
+unfoldable pub entryRow : Limits → ℕ → Entry → List Row
 entryRow m at e = rowFor (e .sender) at (readDatagram (m .payload) (m .fragments) (e .datagram))
 
 -- of entries of which the first is at a place: each begins where the one before ends
-unfoldable pub rowsOf : Bounds → ℕ → List Entry → List Row
+unfoldable pub rowsOf : Limits → ℕ → List Entry → List Row
 rowsOf m at [] = []
 rowsOf m at (e ∷ es) = entryRow m at e ++ rowsOf m (at + length (entryBytes e)) es
 
@@ -48,17 +38,17 @@ pub data Gathered : Type 0 where
   gathered : List Row → Gathered
   stopped : ℕ → Gathered
 
-abbrev pub rowsTo : Bounds → ℕ → Listed → Gathered
+abbrev pub rowsTo : Limits → ℕ → Listed → Gathered
 rowsTo m at (whole es) = gathered (rowsOf m at es)
 rowsTo m at (broken es n) = stopped n
 
 -- of the entries from a place of the log on
-unfoldable pub rowsFrom : Bounds → List ℕ → ℕ → Gathered
+unfoldable pub rowsFrom : Limits → List ℕ → ℕ → Gathered
 rowsFrom m log at = rowsTo m at (listBy (length (drop at log)) (drop at log))
 
 -- behind the head
-abbrev pub rowsBehind : List ℕ → Taken ℕ → Gathered
-rowsBehind log (taken x b) = rowsFrom (boundsIn log) log (length log - length b)
+abbrev pub rowsBehind : List ℕ → Taken Edition → Gathered
+rowsBehind log (taken v b) = rowsFrom (limitsOf v) log (length log - length b)
 rowsBehind log (refused n) = stopped n
 
 -- of the whole log
@@ -66,8 +56,8 @@ unfoldable pub rowsIn : List ℕ → Gathered
 rowsIn log = rowsBehind log (headIn log)
 
 -- where the head is refused, nothing from a place on is read
-abbrev pub rowsAfter : List ℕ → ℕ → Taken ℕ → Gathered
-rowsAfter log at (taken x b) = rowsFrom (boundsIn log) log at
+abbrev pub rowsAfter : List ℕ → ℕ → Taken Edition → Gathered
+rowsAfter log at (taken v b) = rowsFrom (limitsOf v) log at
 rowsAfter log at (refused n) = stopped n
 
 unfoldable pub rowsAdded : List ℕ → ℕ → Gathered
