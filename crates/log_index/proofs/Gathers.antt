@@ -35,7 +35,7 @@ rows-after m at e (broken es n) = refl
 
 -- ---- as many turns as there are bytes are enough
 
-list-enough : (j k : ℕ) (b : List ℕ) → Bytes b → length b ≤ j → length b ≤ k → listBy j b ≡ listBy k b
+pub list-enough : (j k : ℕ) (b : List ℕ) → Bytes b → length b ≤ j → length b ≤ k → listBy j b ≡ listBy k b
 unfolding listBy
 list-enough zero zero [] h l m = refl
 list-enough zero (suc k) [] h l m = refl

@@ -6,3 +6,5 @@ pub mod Sorts
 pub mod Wordings
 pub mod Looks
 pub mod Gathers
+pub mod Fresh
+pub mod Added
