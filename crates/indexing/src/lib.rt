@@ -22,7 +22,14 @@ pub enum Indexed {
 }
 
 // The row of a datagram enters, where the reader accepts it within the log's limits: how many rows there are then.
-fn enter_datagram(datagram: &[u8], limits: Limits, index: &mut [u64], n: usize, sender: u64, place: usize) -> usize
+fn enter_datagram(
+    datagram: &[u8],
+    limits: Limits,
+    index: &mut [u64],
+    n: usize,
+    sender: u64,
+    place: usize,
+) -> usize
     requires { ⌜ n + 1 < 2 ^ 64 ⌝ }
     ensures { λ r. ⌜ Takes (rowFor sender place (readDatagram (limits .payload) (limits .fragments) (now (datagram .entry)))) (now (index .entry)) n r (now (index .exit)) ⌝ }
 {
@@ -45,7 +52,14 @@ fn walk(log: &[u8], from: usize, limits: Limits, index: &mut [u64], n: usize) ->
         let step = log::next_entry(log, at);
         match step {
             Step::Found(entry) => {
-                m = enter_datagram(wire::part(log, entry.at, entry.len), limits, &mut *index, m, entry.sender, at);
+                m = enter_datagram(
+                    wire::part(log, entry.at, entry.len),
+                    limits,
+                    &mut *index,
+                    m,
+                    entry.sender,
+                    at,
+                );
                 at = entry.next;
             }
             Step::End => return Indexed::Entries(m),

@@ -132,7 +132,7 @@ indexable log h rs e = by-head (headIn log) refl e
         let n : length log - length b ≡ length (headBytes v) = omega arith in
         let d : drop (length (headBytes v)) log ≡ b = ap (drop (length (headBytes v))) (sym (k .wrote)) ∙ drop-append-seam (headBytes v) b in
         let r = ap (λ (c : List ℕ). rowsTo (limitsOf v) (length (headBytes v)) (listBy (length c) c)) (sym d)
-            ∙ ap (λ (i : ℕ). rowsTo (limitsOf v) i (listBy (length (drop i log)) (drop i log))) (sym n) ∙ q in
+        ∙ ap (λ (i : ℕ). rowsTo (limitsOf v) i (listBy (length (drop i log)) (drop i log))) (sym n) ∙ q in
         by-list v b k (listBy (length b) b) refl r
 
 -- the rows of a log with others added: those of its front, and then those from there on

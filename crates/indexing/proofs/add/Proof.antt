@@ -1,50 +1,52 @@
+-- The rows counted, then judged, then entered. Assumes nothing.
+use mathlib.Core.Path.{sym, _∙_}
+use lib.ListN.{length}
+use Rattle.indexing.proofs.Answers.{adds-refused, adds-full, adds-all, room-before}
 use borrow.Author.Needs.{needs}
 use Rattle.indexing.proofs.add.Statement.{statement}
 use Rattle.indexing.proofs.add.Tie as tie
-use Rattle.indexing.proofs.add.Reads as reads
-use Rattle.indexing.proofs.add.Lts as lts
-use Rattle.indexing.proofs.no_room.Reads as no-room-reads
-use Rattle.indexing.proofs.walk.Reads as walk-reads
 
--- src/lib.rt:76:43
+-- The rows counted, then judged, then entered. Assumes nothing.
+
 slice-aggregate-walk : tie.Need-slice-aggregate-walk
 slice-aggregate-walk c = search needs
 
--- src/lib.rt:76:9
 walk-requires : tie.Need-walk-requires
 walk-requires c κs = search needs
 
--- src/lib.rt:77:26
 enum-known-counted : tie.Need-enum-known-counted
 enum-known-counted c = search needs
 
--- src/lib.rt:78:9
 enum-told : tie.Need-enum-told
 enum-told c = search needs
 
--- src/lib.rt:78:9
 returns : tie.Need-returns
-returns c = ?
+returns c =
+    let a = c .before .before .before .before .before .before .before .args in
+    adds-refused _ _ _ _ (a .index .now) (a .n) _ (c .before .before .before .walk .ensures) (c .enum-told .given .1)
 
--- src/lib.rt:80:8
 no-room-requires : tie.Need-no-room-requires
 no-room-requires c κs = search needs
 
--- src/lib.rt:81:9
 returns-2 : tie.Need-returns-2
-returns-2 c = ?
+returns-2 c =
+    let a = c .before .before .before .before .before .before .before .before .before .before .args in
+    let k = c .before .before .before in
+    adds-full _ _ _ _ (a .index .now) (a .n) _ (k .before .before .before .walk .ensures) (k .counted .given .1) (sym (c .before .no-room .ensures) ∙ c .if1 .taken)
 
--- src/lib.rt:83:5
 walk-requires-2 : tie.Need-walk-requires-2
-walk-requires-2 c κs = ?
+walk-requires-2 c κs =
+    let a = c .before .before .before .before .before .before .before .before .before .before .before .args in
+    room-before (length (a .index .now)) (a .n) _ (sym (c .before .before .no-room .ensures) ∙ c .before .if1 .left)
 
--- src/lib.rt:72:1
 same-length : tie.Need-same-length
 same-length c = search needs
 
--- src/lib.rt:72:1
 returns-3 : tie.Need-returns-3
-returns-3 c = ?
+returns-3 c =
+    let a = c .before .before .before .before .before .before .before .before .before .before .before .before .before .before .args in
+    let k = c .before .before .before .before .before .before .before in
+    adds-all _ _ _ _ (a .index .now) (a .n) _ (k .before .before .before .walk .ensures) (k .counted .given .1) (sym (c .before .before .before .before .before .no-room .ensures) ∙ c .before .before .before .before .if1 .left) _ _ (c .before .before .walk2 .ensures)
 
 pub add-spec : {M : Type 1} → statement M
 add-spec =

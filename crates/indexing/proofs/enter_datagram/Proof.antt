@@ -9,6 +9,10 @@ use Rattle.indexing.proofs.enter_datagram.Tie as tie
 
 -- A row where the reader accepts the datagram, or none. Assumes nothing.
 
+-- A row where the reader accepts the datagram, or none. Assumes nothing.
+
+-- A row where the reader accepts the datagram, or none. Assumes nothing.
+
 read-datagram-requires : tie.Need-read-datagram-requires
 read-datagram-requires c κs = search needs
 

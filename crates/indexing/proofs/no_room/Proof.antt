@@ -8,6 +8,10 @@ use Rattle.indexing.proofs.no_room.Tie as tie
 
 -- Over the most rows, or over the words. Assumes nothing.
 
+-- Over the most rows, or over the words. Assumes nothing.
+
+-- Over the most rows, or over the words. Assumes nothing.
+
 returns : tie.Need-returns
 returns c =
     let a = c .before .args in

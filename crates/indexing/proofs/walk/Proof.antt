@@ -17,6 +17,10 @@ use Rattle.indexing.proofs.walk.Tie as tie
 
 -- The loop: the rows entered and those to come are all. Assumes nothing.
 
+-- The loop: the rows entered and those to come are all. Assumes nothing.
+
+-- The loop: the rows entered and those to come are all. Assumes nothing.
+
 abbrev Inv-loop : tie.InvT-loop
 Inv-loop log from limits index₀ n at₀ m₀ index at m = (m ≤ n + at) × Going index₀ n (rowsFrom limits log from) index m (rowsFrom limits log at)
 
@@ -65,7 +69,7 @@ loop-again c =
     let w = s .step .given .0 .0 in
     let d : List ℕ → Read = λ b. readDatagram (a .limits .payload) (a .limits .fragments) b in
     let h = g .rows ∙ ap (λ (b : List ℕ). ahead (rowFor (w .sender) (l .at) (d b)) (rowsFrom (a .limits) (a .log .now) (w .next))) (sym p) in
-    (omega (arith, e .next, row-most (w .sender) (l .at) (d _), l .inv .0, g .on), going-next _ _ _ _ _ _ (l .inv .1) _ _ _ _ h e)
+    (omega (arith, e .next, row-most (w .sender) (l .at) (d (c .before .before .before .before .part .result .now)), l .inv .0, g .on), going-next _ _ _ _ _ _ (l .inv .1) _ _ _ _ h e)
 
 enum-told : tie.Need-enum-told Inv-loop μ-loop
 enum-told c = search needs
