@@ -2,10 +2,10 @@
 -- Definitions only.
 use mathlib.Core.Path.{_≡_}
 use mathlib.Core.List.{List}
-use Prim.Native.Nat.{ℕ}
-use lib.ListN.{length}
+use Prim.Native.Nat.{ℕ, _*_}
+use lib.ListN.{length, take}
 use Rattle.wire.specs.Overlay.{overlay}
-use Rattle.log_index.specs.Rows.{sorted}
+use Rattle.log_index.specs.Rows.{Row, sorted}
 use Rattle.log_index.specs.Index.{Gathered, gathered, stopped, rowsIn, rowsAdded, Answer, holds, refuses, answerOf}
 use Rattle.log_index.specs.Words.{wordsOf, enteredAll}
 use Rattle.indexing.specs.declared.Indexed.{Indexed}
@@ -26,6 +26,13 @@ indexWords (refuses k) g w = w
 pub record Indexes (log w : List ℕ) (r : Indexed) (w′ : List ℕ) : Type 0 where
   pub answer : says r ≡ answerOf (length w) 0 (rowsIn log)
   pub index : w′ ≡ indexWords (answerOf (length w) 0 (rowsIn log)) (rowsIn log) w
+
+-- the first n rows of some words are the index of a log
+pub record IndexOf (log w : List ℕ) (n : ℕ) : Type 0 where
+  pub rows : List Row
+  pub told : rowsIn log ≡ gathered rows
+  pub count : n ≡ length rows
+  pub words : take (3 * n) w ≡ wordsOf (sorted rows)
 
 -- ---- extended: to the first n rows of the lent words, whatever they are, those of the entries from a place on
 

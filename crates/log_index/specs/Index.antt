@@ -1,6 +1,7 @@
 -- The index of a log, worked out afresh: document 02, L11. "For each entry the datagram reader accepts within the log's limits", a row; sorted.
 -- Definitions only.
 use mathlib.Core.Bool.{Bool, _||_}
+use mathlib.Core.Option.{Option, none}
 use mathlib.Core.List.{List, [], _∷_, _++_}
 use Prim.Native.Nat.{ℕ, _+_, _-_, _*_}
 use lib.Dec.{ltb}
@@ -15,7 +16,7 @@ use Rattle.log.specs.Entries.{Entry, entryBytes}
 use Rattle.log.specs.Listed.{Listed, whole, broken, listBy}
 use Rattle.log.specs.declared.reader.Limits.{Limits}
 use Rattle.log_index.specs.Limits.{maxIndex, full}
-use Rattle.log_index.specs.Rows.{Row, rowOf, sorted}
+use Rattle.log_index.specs.Rows.{Row, rowOf, firstOf}
 
 -- ---- rows in the log's order
 
@@ -62,6 +63,15 @@ rowsAfter log at (refused n) = stopped n
 
 unfoldable pub rowsAdded : List ℕ → ℕ → Gathered
 rowsAdded log at = rowsAfter log at (headIn log)
+
+-- ---- the first entry of a key: its place, or none where no accepted entry has it
+
+abbrev pub firstTo : ℕ → ℕ → Gathered → Option ℕ
+firstTo s q (gathered rs) = firstOf s q rs
+firstTo s q (stopped n) = none
+
+abbrev pub firstEntry : List ℕ → ℕ → ℕ → Option ℕ
+firstEntry log s q = firstTo s q (rowsIn log)
 
 -- ---- how many rows there are then, or the refusal
 
