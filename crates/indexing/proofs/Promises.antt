@@ -6,7 +6,7 @@ use mathlib.Core.Option.{Option}
 use mathlib.Core.List.{List, [], _∷_, _++_}
 use Prim.Native.Nat.{ℕ, _+_, _*_, _≤_}
 use native.Mathlib.Omega.{arith}
-use lib.ListN.{length, take, drop, length-append, take-append-drop}
+use lib.ListN.{length, take, drop, length-append, length-take, take-append-drop}
 use Rattle.wire.specs.Bytes.{Bytes}
 use Rattle.wire.specs.Choice.{pick}
 use Rattle.wire.specs.Overlay.{overlay}
@@ -101,8 +101,19 @@ index-words log w n w′ (gathered rs) e a i = elim (either (noRoom (length w) (
 ]
 
 -- what `index_log` leaves is the index of the log
+pub index-entries : (log w : List ℕ) (n : ℕ) (r : Indexed) (w′ : List ℕ) → Indexes log w r w′ → r ≡ Entries n → IndexOf log w′ n
+index-entries log w n r w′ i e = index-words log w n w′ (rowsIn log) refl (sym (ap says e) ∙ i .answer) (i .index)
+
 pub index-left : (log w : List ℕ) (n : ℕ) (w′ : List ℕ) → Indexes log w (Entries n) w′ → IndexOf log w′ n
 index-left log w n w′ i = index-words log w n w′ (rowsIn log) refl (i .answer) (i .index)
+
+-- in words for so many rows
+pub index-room : (log w : List ℕ) (n : ℕ) → IndexOf log w n → 3 * n ≤ length w
+index-room log w n i =
+    let l : length (wordsOf (sorted (i .rows))) ≡ 3 * length (i .rows) = words-length (sorted (i .rows)) ∙ ap (λ (k : ℕ). 3 * k) (sorted-length (i .rows)) in
+    let t = sym (length-take (3 * n) w) ∙ ap length (i .words) in
+    let c = i .count in
+    omega (arith, l, t, c)
 
 -- ---- a key is found
 
