@@ -87,11 +87,11 @@ module _ (w : List ℕ) (n : ℕ) (g : Gathered) (v : List ℕ) (m : ℕ) (h : G
 
 pub take-none : (sender at : ℕ) (w : List ℕ) (n k : ℕ) (r : Read) → r ≡ Refused k → Takes (rowFor sender at r) w n n w
 unfolding enteredAll
-take-none sender at w n k r e = rw e (record { next = omega arith; size = refl; words = refl })
+take-none sender at w n k r e = rw e (record { few = omega arith; next = omega arith; size = refl; words = refl })
 
 pub take-one : (sender at : ℕ) (w v : List ℕ) (n : ℕ) (h : Header) (r : Read) → r ≡ Good h → v ≡ entered w n (rowOf sender (h .sequence) at) → Takes (rowFor sender at r) w n (n + 1) v
 unfolding enteredAll
-take-one sender at w v n h r e d = rw e (record { next = refl; size = ap length d ∙ entered-length w n (rowOf sender (h .sequence) at); words = d })
+take-one sender at w v n h r e d = rw e (record { few = omega arith; next = refl; size = ap length d ∙ entered-length w n (rowOf sender (h .sequence) at); words = d })
 
 -- ---- room
 
@@ -104,9 +104,3 @@ module _ (words n k : ℕ) where
 
   pub room-words : n ≤ maxIndex → k ≤ maxIndex - n → ltb words (3 * (n + k)) ≡ noRoom words (n + k)
   room-words g h = rw (le-ltb maxIndex (n + k) (omega arith)) refl
-
--- ---- an entry takes in at most one row
-
-pub row-most : (sender at : ℕ) (r : Read) → length (rowFor sender at r) ≤ 1
-row-most sender at (Good h) = omega arith
-row-most sender at (Refused k) = omega arith

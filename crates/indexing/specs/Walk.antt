@@ -1,7 +1,7 @@
 -- What the walk hands on: for the contracts of private functions only. Definitions only.
 use mathlib.Core.Path.{_≡_}
 use mathlib.Core.List.{List}
-use Prim.Native.Nat.{ℕ, _+_}
+use Prim.Native.Nat.{ℕ, _+_, _≤_}
 use lib.ListN.{length}
 use Rattle.log_index.specs.Rows.{Row}
 use Rattle.log_index.specs.Index.{Gathered, gathered, stopped, Answer, holds, refuses}
@@ -21,6 +21,7 @@ pub record Walked (g : Gathered) (w : List ℕ) (n : ℕ) (r : Indexed) (w′ : 
 
 -- some rows, at most one, entered
 pub record Takes (rs : List Row) (w : List ℕ) (n : ℕ) (r : ℕ) (w′ : List ℕ) : Type 0 where
+  pub few : length rs ≤ 1
   pub next : r ≡ n + length rs
   pub size : length w′ ≡ length w
   pub words : w′ ≡ enteredAll w n rs

@@ -8,3 +8,4 @@ pub mod Looks
 pub mod Gathers
 pub mod Fresh
 pub mod Added
+pub mod Once

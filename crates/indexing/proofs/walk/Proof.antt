@@ -10,7 +10,7 @@ use Rattle.log_index.specs.Rows.{Row}
 use Rattle.log_index.specs.Index.{rowFor, rowsFrom}
 use mathlib.Core.List.{List}
 use Rattle.log_index.proofs.Gathers.{ahead, Goes, next-found, next-ended, next-refused, rows-past}
-use Rattle.indexing.proofs.Walks.{Going, going-start, going-next, going-ended, going-words, going-refused, going-none, row-most}
+use Rattle.indexing.proofs.Walks.{Going, going-start, going-next, going-ended, going-words, going-refused, going-none}
 use borrow.Author.Needs.{needs}
 use Rattle.indexing.proofs.walk.Statement.{statement}
 use Rattle.indexing.proofs.walk.Tie as tie
@@ -69,7 +69,7 @@ loop-again c =
     let w = s .step .given .0 .0 in
     let d : List ℕ → Read = λ b. readDatagram (a .limits .payload) (a .limits .fragments) b in
     let h = g .rows ∙ ap (λ (b : List ℕ). ahead (rowFor (w .sender) (l .at) (d b)) (rowsFrom (a .limits) (a .log .now) (w .next))) (sym p) in
-    (omega (arith, e .next, row-most (w .sender) (l .at) (d (c .before .before .before .before .part .result .now)), l .inv .0, g .on), going-next _ _ _ _ _ _ (l .inv .1) _ _ _ _ h e)
+    (omega (arith, e .next, e .few, l .inv .0, g .on), going-next _ _ _ _ _ _ (l .inv .1) _ _ _ _ h e)
 
 enum-told : tie.Need-enum-told Inv-loop μ-loop
 enum-told c = search needs
