@@ -59,8 +59,8 @@ module _ (out : List ℕ) (limit : ℕ) where
   unfolding beginAnswer
   begin-over h = record { answer = rw (lt-ltb maxPayload limit h) refl; left = refl }
 
-  pub begin-length : length (overlay (set out 0 secondByte) 1 (seven limit)) ≡ length out
-  begin-length = length-overlay (set out 0 secondByte) 1 (seven limit) ∙ length-set out 0 secondByte
+  pub begin-length : (x : ℕ) → length (overlay (set out 0 x) 1 (seven limit)) ≡ length out
+  begin-length x = length-overlay (set out 0 x) 1 (seven limit) ∙ length-set out 0 x
 
   pub begin-short : limit ≤ maxPayload → length out < 1 + length (seven limit) → Began out limit (Refused 13) out
   unfolding beginAnswer

@@ -35,7 +35,7 @@ same-length : tie.Need-same-length
 same-length c =
     let p = c .before .before in
     let a = p .before .before .before .before .before .before .args in
-    ap length (p .put-seven .ensures) ∙ begin-length (a .out .now) (a .limit)
+    ap length (p .put-seven .ensures) ∙ begin-length (a .out .now) (a .limit) _
 
 returns-3 : tie.Need-returns-3
 returns-3 c =
