@@ -98,6 +98,8 @@ FILES = {
     "crates/find/stdin": LISTED,
     "crates/find/stdout": find(LISTED, 7, 500).encode(),
 }
+with open(os.path.join(os.path.dirname(os.path.abspath(__file__)), "..", "..", "samples", "flight.log"), "rb") as f:
+    FILES["samples/flight-index.txt"] = index_list(f.read()).encode()
 assert FILES["crates/find/stdout"].startswith(b"place ")
 assert any(a[:2] == b[:2] for a, b in zip(index_of(LISTED), index_of(LISTED)[1:]))
 assert index_list(first_log_of([])) == "end 0\n"
