@@ -1,0 +1,4 @@
+pub mod Members
+pub mod Sums
+pub mod Rises
+pub mod Places
