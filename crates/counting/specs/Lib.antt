@@ -1,5 +1,6 @@
 pub mod Marks
 pub mod Report
+pub mod Meaning
 pub mod Run
 pub mod Count
 pub mod Walk

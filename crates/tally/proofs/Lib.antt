@@ -2,3 +2,4 @@ pub mod Members
 pub mod Sums
 pub mod Rises
 pub mod Places
+pub mod Parts
