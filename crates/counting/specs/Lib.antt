@@ -5,3 +5,4 @@ pub mod Run
 pub mod Count
 pub mod Walk
 pub mod Keys
+pub mod Promise
