@@ -1,6 +1,7 @@
 pub mod Under
 pub mod Means
 pub mod Keys
+pub mod Bounds
 pub mod Steps
 pub mod Which
 pub mod Sums
