@@ -3,7 +3,7 @@
 use mathlib.Core.Path.{_≡_}
 use mathlib.Core.Bool.{Bool, true}
 use mathlib.Core.List.{List, [], _∷_, _++_}
-use Prim.Native.Nat.{ℕ}
+use Prim.Native.Nat.{ℕ, _^_, _<_}
 use lib.IntN.{ℤ, pos}
 use lib.ListN.{length}
 use Rattle.wire.specs.Choice.{pick}
@@ -37,9 +37,21 @@ spellAll two (e ∷ es) = spellElement two e ++ spellAll two es
 abbrev pub spellList : ℕ → ℕ → List Element → List ℤ
 spellList v tile es = pos v ∷ pos 5 ∷ pos tile ∷ pos (length es) ∷ spellAll (second v) es
 
+-- tile, pits and count are no longer than their fields
+abbrev pub PitFits : Element → Type 0
+PitFits null = Unit
+PitFits (marked pit sure at depth) = pit < 2 ^ 32
+
+abbrev pub PitsFit : List Element → Type 0
+PitsFit [] = Unit
+PitsFit (e ∷ es) = PitFits e × PitsFit es
+
 pub record Spelled (l : List ℤ) : Type 0 where
   pub version : ℕ
   pub one-or-two : isVersion (pos version) ≡ true
   pub tile : ℕ
   pub elements : List Element
   pub numbers : l ≡ spellList version tile elements
+  pub tile-fits : tile < 2 ^ 32
+  pub count-fits : length elements < 2 ^ 32
+  pub pits-fit : PitsFit elements
