@@ -7,3 +7,5 @@ pub mod Which
 pub mod Sums
 pub mod Totals
 pub mod Walks
+pub mod Spells
+pub mod Answered

@@ -1,4 +1,5 @@
 pub mod Marks
+pub mod Spelled
 pub mod Report
 pub mod Meaning
 pub mod Run

@@ -9,11 +9,11 @@ use native.Mathlib.Decide.{ℕ-discrete}
 use lib.Dec.{eqb, ltb, eqb·suc-zero, lit≤}
 use lib.IntN.{ℤ, pos}
 use lib.ListN.{length, getD, drop}
-use borrow.Author.Tests.{eqb-true, ltb-false}
+use borrow.Author.Tests.{eqb-true, ltb-true, ltb-false}
 use Rattle.wire.specs.Choice.{pick}
 use Rattle.wire.specs.Bytes.{be, Bytes}
 use Rattle.wire.proofs.Numbers.{be-lt}
-use Rattle.wire.proofs.Choices.{pick-all, and-r}
+use Rattle.wire.proofs.Choices.{pick-all, and-l, and-r}
 use Rattle.lmcp.specs.declared.Row.{Row}
 use Rattle.lmcp.specs.Limits.{deepest}
 use Rattle.lmcp.specs.Run.{got, refused, Tag, tag, bad, prepend, andThen, after, repeat, whole}
@@ -24,7 +24,7 @@ use Rattle.lmcp.specs.Read.{Read, judged, readValue, readCount, typed, k
 use Rattle.lmcp.specs.Walk.{item, field, fields, isNull, object, root}
 use Rattle.lmcp.specs.Message.{frame, rootOf, readMessage}
 use Rattle.lmcp.specs.Lists.{versionOf, readAs, readList}
-use Rattle.lmcp.specs.Spelled.{Spot, nowhere, spot, Element, null, marked, spellSpot, spellElement, spellAll, spellList, PitFits, PitsFit, Spelled}
+use Rattle.lmcp.specs.Spelled.{Spot, nowhere, spot, Element, null, marked, spellSpot, spellElement, spellAll, spellList, PitFits, PitsFit, Spelled, Typed}
 use Rattle.lmcp.proofs.Undo.{prepended}
 use Rattle.lmcp.proofs.Values.{bytes-drop}
 use Rattle.lmcp.proofs.Heads.{known-type}
@@ -324,6 +324,12 @@ module _ (v : ℕ) (two : Bool) where
   abbrev IfList : List ℤ → Type 0
   IfList zs = getD zs 0 (pos 0) ≡ pos 5 → IsList zs
 
+  -- a type that may stand at a root
+  typed-few : (n : ℕ) → typed T 0 n ≡ true → n < length (typesOf false)
+  unfolding typed
+  typed-few n e =
+      ltb-true n (length (typesOf two)) (and-r (ltb 0 n) (ltb n (length (typesOf two))) (and-l (ltb 0 n && ltb n (length (typesOf two))) (eqb 0 0 || eqb n 0) e))
+
   lists : (d : ℕ) (l : List ℕ) → Bytes l → Gives IfList (object (reading T) T (suc (suc (suc d))) 0 l)
   unfolding object
   lists d l f =
@@ -361,13 +367,30 @@ module _ (v : ℕ) (two : Bool) where
                 (fields (reading T) (inner (suc (suc d))) (fieldsOf T n) r)
           ]
 
-  messages : (m : List ℕ) → Bytes m → Gives IfList (readMessage T m)
+  -- its type is one of the table
+  record IsTyped (zs : List ℤ) : Type 0 where
+    type : ℕ
+    is : getD zs 0 (pos 0) ≡ pos type
+    few : type < length (typesOf false)
+
+  types : (d : ℕ) (l : List ℕ) → Bytes l → Gives IsTyped (object (reading T) T (suc d) 0 l)
+  unfolding object
+  types d l f =
+      gives-after (Heads T 0) IsTyped (readHead T (suc d) 0 l) (λ n. fields (reading T) (inner d) (fieldsOf T n)) (heads T (suc d) 0 l f)
+      (λ n ys r b q. gives-all (λ zs. IsTyped (ys ++ zs))
+      (λ zs. record { type = n; is = ap (λ (m : List ℤ). getD (m ++ zs) 0 (pos 0)) (q .is); few = below n (q .may) }) (fields (reading T) (inner d) (fieldsOf T n) r))
+    where
+      below : (n : ℕ) → (n ≡ 0) ⊎ (typed T 0 n ≡ true) → n < length (typesOf false)
+      below n (inl e) = omega arith
+      below n (inr e) = typed-few n e
+
+  -- what holds of every root holds of every message
+  messages : (P : List ℤ → Type 0) → ((l : List ℕ) → Bytes l → Gives P (object (reading T) T deepest 0 l)) → (m : List ℕ) → Bytes m → Gives P (readMessage T m)
   unfolding readMessage root
-  messages m f =
-      pick-all (Gives IfList) (eqb (frame m) 0)
-      (λ e. gives-whole IfList (root (reading T) T (rootOf m))
-      (pick-all (Gives IfList) (isNull (readHead T deepest 0 (rootOf m))) (λ e. tt)
-      (λ e. lists (deepest - 3) (rootOf m) (bytes-take (length m - 12) (drop 8 m) (bytes-drop 8 m f)))))
+  messages P h m f =
+      pick-all (Gives P) (eqb (frame m) 0)
+      (λ e. gives-whole P (root (reading T) T (rootOf m))
+      (pick-all (Gives P) (isNull (readHead T deepest 0 (rootOf m))) (λ e. tt) (λ e. h (rootOf m) (bytes-take (length m - 12) (drop 8 m) (bytes-drop 8 m f)))))
       (λ e. tt)
 
 -- every accepted message of bytes whose root has type 5, in either version
@@ -377,7 +400,7 @@ pit-list-spelled m f l r e five =
     let v = versionOf (rootOf m) in
     let g = prepended (pos v ∷ []) (readMessage (pitsurv v) m) e in
     let five′ : getD (g .more) 0 (pos 0) ≡ pos 5 = sym (ap (λ (n : List ℤ). getD n 1 (pos 0)) (g .joined)) ∙ five in
-    let i : IsList v (second v) (g .more) = subst (Gives (IfList v (second v))) (g .inner) (messages v (second v) m f) five′ in
+    let i : IsList v (second v) (g .more) = subst (Gives (IfList v (second v))) (g .inner) (messages v (second v) (IfList v (second v)) (lists v (second v) (deepest - 3)) m f) five′ in
     record {
       version = v;
       one-or-two = version-is (rootOf m);
@@ -388,3 +411,12 @@ pit-list-spelled m f l r e five =
       count-fits = i .few;
       pits-fit = i .fit;
     }
+
+-- and of every accepted message the type of its root
+pub root-typed : (m : List ℕ) → Bytes m → (l : List ℤ) (r : List ℕ) → readList m ≡ got l r → Typed l
+unfolding readList readAs
+root-typed m f l r e =
+    let v = versionOf (rootOf m) in
+    let g = prepended (pos v ∷ []) (readMessage (pitsurv v) m) e in
+    let i : IsTyped v (second v) (g .more) = subst (Gives (IsTyped v (second v))) (g .inner) (messages v (second v) (IsTyped v (second v)) (types v (second v) (deepest - 1)) m f) in
+    record { type = i .type; number = ap (λ (n : List ℤ). getD n 1 (pos 0)) (g .joined) ∙ i .is; known = i .few }

@@ -1,13 +1,13 @@
--- How an accepted PitList stands in a number list, in either version: what whoever counts pits may rely on. Its proof is `pit-list-spelled`
--- of proofs/Spells. Definitions only.
+-- How an accepted PitList stands in a number list, in either version: what whoever counts pits may rely on. Its proofs are `pit-list-spelled`
+-- and `root-typed` of proofs/Spells. Definitions only.
 use mathlib.Core.Path.{_≡_}
-use mathlib.Core.Bool.{Bool, true}
+use mathlib.Core.Bool.{Bool, true, false}
 use mathlib.Core.List.{List, [], _∷_, _++_}
 use Prim.Native.Nat.{ℕ, _^_, _<_}
 use lib.IntN.{ℤ, pos}
-use lib.ListN.{length}
+use lib.ListN.{length, getD}
 use Rattle.wire.specs.Choice.{pick}
-use Rattle.lmcp.specs.Table.{second}
+use Rattle.lmcp.specs.Table.{second, typesOf}
 use Rattle.lmcp.specs.Lists.{isVersion}
 
 -- a mark's place: null, or lat, lon, height
@@ -55,3 +55,9 @@ pub record Spelled (l : List ℤ) : Type 0 where
   pub tile-fits : tile < 2 ^ 32
   pub count-fits : length elements < 2 ^ 32
   pub pits-fit : PitsFit elements
+
+-- the type of an accepted root, behind the version, is one of the table
+pub record Typed (l : List ℤ) : Type 0 where
+  pub type : ℕ
+  pub number : getD l 1 (pos 0) ≡ pos type
+  pub known : type < length (typesOf false)
