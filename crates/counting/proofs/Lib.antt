@@ -9,3 +9,5 @@ pub mod Totals
 pub mod Walks
 pub mod Spells
 pub mod Answered
+pub mod Logs
+pub mod Delivered
