@@ -11,3 +11,6 @@ pub mod Spells
 pub mod Answered
 pub mod Logs
 pub mod Delivered
+pub mod Counted
+pub mod Limits
+pub mod Shows
