@@ -14,3 +14,4 @@ pub mod Delivered
 pub mod Counted
 pub mod Limits
 pub mod Shows
+pub mod Computed

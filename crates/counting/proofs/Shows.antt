@@ -3,21 +3,24 @@ use mathlib.Core.Path.{_≡_, refl, sym, ap, _∙_, subst}
 use mathlib.Core.Bool.{Bool, true, false}
 use mathlib.Core.Option.{Option, none, some}
 use mathlib.Core.List.{List, []}
-use Prim.Native.Nat.{ℕ, _≤_}
+use Prim.Native.Nat.{ℕ, _+_, _≤_}
 use native.Mathlib.Omega.{arith}
 use lib.Dec.{eqb, ltb}
 use lib.ListN.{length}
-use borrow.Author.Tests.{le-ltb}
+use borrow.Author.Tests.{le-ltb, ltb-false}
 use Rattle.wire.specs.Choice.{pick}
+use Rattle.wire.specs.Sum.{sum}
+use Rattle.steps.specs.Runs.{fresh}
 use Rattle.arrival.specs.Demand.{Scene, Feed, Supposed}
 use Rattle.log.specs.Entries.{Entry}
+use Rattle.log.specs.Listed.{Listed, whole, broken, entriesIn}
 use Rattle.tally.specs.Lists.{SameMembers}
 use Rattle.tally.proofs.Members.{flipped, chained}
 use Rattle.counting.specs.Report.{report}
 use Rattle.counting.specs.Run.{payloads, listsRead}
 use Rattle.counting.specs.Count.{maxEntries, firstFault, Report, reportOf, reported, noReport, answersTo, countEntries, countListed, countLog}
-use Rattle.counting.specs.Promise.{Keeps, LogOf, payloadsOf, deliveredBy, Counted, Shown, shownOf, CountPromise, shown, ShownPromise}
-use Rattle.counting.proofs.Totals.{delivered-payloads}
+use Rattle.counting.specs.Promise.{Keeps, LogOf, payloadsOf, deliveredBy, Counted, Shown, shownOf, ReportSum, CountPromise, shown, ShownPromise}
+use Rattle.counting.proofs.Totals.{delivered-payloads, entries-sum}
 use Rattle.counting.proofs.Delivered.{delivered-members}
 use Rattle.counting.proofs.Limits.{same-faults}
 use Rattle.counting.proofs.Counted.{counted}
@@ -32,17 +35,32 @@ log-is : (σ : Scene) (f : Feed) (log : List ℕ) (l : LogOf σ f log) (room : �
 unfolding countLog
 log-is σ f log l room = ap (countListed room (σ .store) (σ .ledger)) (l .reads)
 
--- what is reported is that report
-reported-is : (room : ℕ) (store ledger : List ℕ) (es : List Entry) (r : Report) → countEntries room store ledger es ≡ reported r → r ≡ reportOf es (answersTo store ledger es)
+-- what is reported is the report of the entries, and they are not too many
+record Reports (store ledger : List ℕ) (es : List Entry) (r : Report) : Type 0 where
+  few : length es ≤ maxEntries
+  is : r ≡ reportOf es (answersTo store ledger es)
+
+reported-is : (room : ℕ) (store ledger : List ℕ) (es : List Entry) (r : Report) → countEntries room store ledger es ≡ reported r → Reports store ledger es r
 unfolding countEntries
 reported-is room store ledger es r e =
-    go (ltb maxEntries (length es)) (eqb (firstFault room [] (payloads (answersTo store ledger es))) 0) e
+    go (ltb maxEntries (length es)) refl (eqb (firstFault room [] (payloads (answersTo store ledger es))) 0) e
   where
-    go : (a b : Bool) → pick a (noReport 62) (pick b (reported (reportOf es (answersTo store ledger es))) (noReport (firstFault room [] (payloads (answersTo store ledger es))))) ≡ reported r
-        → r ≡ reportOf es (answersTo store ledger es)
-    go true b q = absurd (let z : _≡_ {A = ℕ} 0 1 = cc in let y : ⊥ = omega arith in y)
-    go false true q = cc
-    go false false q = absurd (let z : _≡_ {A = ℕ} 0 1 = cc in let y : ⊥ = omega arith in y)
+    go : (a : Bool) → ltb maxEntries (length es) ≡ a → (b : Bool) → pick a (noReport 62) (pick b (reported (reportOf es (answersTo store ledger es))) (noReport (firstFault room [] (payloads (answersTo store ledger es))))) ≡ reported r
+        → Reports store ledger es r
+    go true p b q = absurd (let z : _≡_ {A = ℕ} 0 1 = cc in let y : ⊥ = omega arith in y)
+    go false p true q = record { few = ltb-false maxEntries (length es) p; is = cc }
+    go false p false q = absurd (let z : _≡_ {A = ℕ} 0 1 = cc in let y : ⊥ = omega arith in y)
+
+-- ENTRIES EQUAL THE SUM OVER THE ANSWERS
+pub report-sum : ReportSum
+unfolding countLog reportOf
+report-sum room store ledger log r e = go (entriesIn log) e
+  where
+    go : (x : Listed) → countListed room store ledger x ≡ reported r → (r .entries ≡ r .kept + (r .repeated + (r .delivered + sum (r .refused)))) × (r .entries ≤ maxEntries)
+    go (whole es) q =
+        let s : Reports store ledger es r = reported-is room store ledger es r q in
+        rw (s .is) (entries-sum (fresh store ledger) es .entries, s .few)
+    go (broken es n) q = absurd (let z : _≡_ {A = ℕ} 0 1 = cc in let y : ⊥ = omega arith in y)
 
 -- of payloads, each once
 abbrev ofPayloads : List (List ℕ) → Shown
@@ -57,8 +75,8 @@ shown-is σ f s es k =
 
 pub count-promise : CountPromise
 count-promise σ f log τ g log′ s l t m e room room′ r r′ p q =
-    let a : r ≡ reportIn σ (l .entries) = reported-is room (σ .store) (σ .ledger) (l .entries) r (sym (log-is σ f log l room) ∙ p) in
-    let b : r′ ≡ reportIn τ (m .entries) = reported-is room′ (τ .store) (τ .ledger) (m .entries) r′ (sym (log-is τ g log′ m room′) ∙ q) in
+    let a : r ≡ reportIn σ (l .entries) = reported-is room (σ .store) (σ .ledger) (l .entries) r (sym (log-is σ f log l room) ∙ p) .is in
+    let b : r′ ≡ reportIn τ (m .entries) = reported-is room′ (τ .store) (τ .ledger) (m .entries) r′ (sym (log-is τ g log′ m room′) ∙ q) .is in
     ap shownOf a ∙ shown-is σ f s (l .entries) (l .keeps) ∙ ap ofPayloads e ∙ sym (ap shownOf b ∙ shown-is τ g t (m .entries) (m .keeps))
 
 -- what is shown, by whether something stands against it

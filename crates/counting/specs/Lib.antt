@@ -7,3 +7,4 @@ pub mod Count
 pub mod Walk
 pub mod Keys
 pub mod Promise
+pub mod Worked

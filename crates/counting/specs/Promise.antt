@@ -1,4 +1,4 @@
--- WHAT IS PROMISED OF THE COUNT. Its proofs are `entries-sum`, `same-report`, `counted`, `count-promise` and `shown-promise` of proofs/. Definitions only.
+-- WHAT IS PROMISED OF THE COUNT. Its proofs are `entries-sum`, `report-sum`, `same-report`, `counted`, `count-promise` and `shown-promise` of proofs/. Definitions only.
 use mathlib.Core.Path.{_≡_}
 use mathlib.Core.Option.{Option, none, some}
 use mathlib.Core.List.{List, map}
@@ -27,6 +27,11 @@ pub record AddsUp (w : World) (es : List Entry) : Type 0 where
 -- for all entries, from every state, with whatever is lent
 abbrev pub EntriesSum : Type 0
 EntriesSum = (w : World) (es : List Entry) → AddsUp w es
+
+-- so it is in every report that is given
+abbrev pub ReportSum : Type 0
+ReportSum = (room : ℕ) (store ledger log : List ℕ) (r : Report) → countLog room store ledger log ≡ reported r
+    → (r .entries ≡ r .kept + (r .repeated + (r .delivered + sum (r .refused)))) × (r .entries ≤ maxEntries)
 
 -- ==== which lists there are decides over the lines, not their order, nor how often each came
 
