@@ -16,7 +16,7 @@ use Rattle.lmcp.specs.Read.{Read}
 use Rattle.lmcp.specs.Lists.{readList}
 use Rattle.lmcp.specs.Message.{found, ReadTo}
 use Rattle.lmcp.proofs.Lent.{Listed, read}
-use Rattle.lmcp.proofs.Refuses.{read-refuses}
+use Rattle.lmcp.proofs.Answers.{read-refuses}
 use Rattle.counting.specs.Marks.{pitListOf, listRead, listIn}
 use Rattle.counting.specs.Count.{tooLong}
 

@@ -1,13 +1,13 @@
 pub mod Under
 pub mod Means
 pub mod Keys
-pub mod Bounds
 pub mod Steps
 pub mod Which
 pub mod Sums
 pub mod Totals
 pub mod Walks
 pub mod Spells
+pub mod Bounds
 pub mod Answered
 pub mod Logs
 pub mod Delivered

@@ -1,10 +1,11 @@
 -- An accepted PitList: its tile and its marks, from the numbers that the reader makes of a message, in either version. Definitions only.
 use mathlib.Core.Bool.{Bool, not}
 use mathlib.Core.List.{List, [], _∷_, _++_}
-use Prim.Native.Nat.{ℕ, zero, suc, _+_, _%_, _^_}
+use Prim.Native.Nat.{ℕ, zero, suc, _+_}
 use lib.Dec.{eqb}
-use lib.IntN.{ℤ, pos, negsuc}
+use lib.IntN.{ℤ, pos}
 use lib.ListN.{getD, drop}
+use lib.Signed.{mag}
 use Rattle.wire.specs.Choice.{pick}
 use Rattle.lmcp.specs.Run.{got, refused}
 use Rattle.lmcp.specs.Table.{second}
@@ -19,14 +20,9 @@ pub record PitList : Type 0 where
   pub tile : ℕ
   pub marks : List Mark
 
--- Number i of a list, 0 past its end, taken as a uint32: no version, type, count, tile, pit or bool of an accepted message is negative or longer,
--- so that nothing is lost (`read-as-spelled`).
-abbrev pub uint32 : ℤ → ℕ
-uint32 (pos n) = n % 2 ^ 32
-uint32 (negsuc n) = 0
-
+-- number i of a list, 0 past its end; versions, types, counts, tiles, pits and bools are never negative
 abbrev pub at : List ℤ → ℕ → ℕ
-at l i = uint32 (getD l i (pos 0))
+at l i = mag (getD l i (pos 0))
 
 -- A mark is 0 for null; else 4, pit, sure, its place, which is 0 for null and else 2, lat, lon, height, and in version 2 its depth.
 unfoldable pub markLength : Bool → List ℤ → ℕ

@@ -1,16 +1,15 @@
--- That a PitList is read as it is spelled (lmcp/specs/Spelled), in either version. Its proofs are `read-as-spelled` and `either-version` of
+-- That a PitList is read as it is spelled (lmcp/specs/Spelled), in either version. Its proofs are `read-as-spelled`, `no-other` and `either-version` of
 -- proofs/Spells. Definitions only.
 use mathlib.Core.Path.{_≡_}
 use mathlib.Core.List.{List, [], _∷_}
 use Prim.Native.Nat.{ℕ}
 use lib.IntN.{ℤ, pos}
 use lib.ListN.{getD}
-use Rattle.wire.specs.Bytes.{Bytes}
 use Rattle.lmcp.specs.Run.{got}
 use Rattle.lmcp.specs.Lists.{readList}
-use Rattle.lmcp.specs.Spelled.{Element, null, marked, spellList, Spelled}
+use Rattle.lmcp.specs.Spelled.{Element, null, marked, Spelled}
 use Rattle.tally.specs.Lists.{gather}
-use Rattle.counting.specs.Marks.{Mark, PitList, pitListOf, listIn}
+use Rattle.counting.specs.Marks.{Mark, PitList, listIn}
 
 -- null marks are skipped; place and depth play no part
 abbrev pub markOf : Element → List Mark
@@ -25,13 +24,13 @@ pub record ReadAs (payload : List ℕ) (l : List ℤ) : Type 0 where
   pub spelled : Spelled l
   pub list : listIn payload ≡ listWith (spelled .tile) (spelled .elements) ∷ []
 
--- every accepted message of bytes whose root has type 5
+-- every accepted message whose root has type 5
 abbrev pub ReadAsSpelled : Type 0
-ReadAsSpelled = (payload : List ℕ) → Bytes payload → (l : List ℤ) (r : List ℕ) → readList payload ≡ got l r → getD l 1 (pos 0) ≡ pos 5 → ReadAs payload l
+ReadAsSpelled = (payload : List ℕ) (l : List ℤ) (r : List ℕ) → readList payload ≡ got l r → getD l 1 (pos 0) ≡ pos 5 → ReadAs payload l
 
 -- any other is no list
 abbrev pub NoOther : Type 0
-NoOther = (payload : List ℕ) → Bytes payload → (l : List ℤ) (r : List ℕ) → readList payload ≡ got l r → (getD l 1 (pos 0) ≡ pos 5 → ⊥) → listIn payload ≡ []
+NoOther = (payload : List ℕ) (l : List ℤ) (r : List ℕ) → readList payload ≡ got l r → (getD l 1 (pos 0) ≡ pos 5 → ⊥) → listIn payload ≡ []
 
 -- two messages of one tile whose elements mark the same pits, surely or not, count the same, whatever their versions, places and depths
 abbrev pub EitherVersion : Type 0

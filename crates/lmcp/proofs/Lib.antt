@@ -1,3 +1,4 @@
+pub mod Answers
 pub mod Editions
 pub mod Few
 pub mod Goes
@@ -7,7 +8,6 @@ pub mod Makes
 pub mod Never
 pub mod Once
 pub mod Pitsurv
-pub mod Refuses
 pub mod Spells
 pub mod Tables
 pub mod Trips

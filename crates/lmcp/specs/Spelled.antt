@@ -1,13 +1,13 @@
--- How an accepted PitList stands in a number list, in either version: what whoever counts pits may rely on. Its proofs are `pit-list-spelled`
--- and `root-typed` of proofs/Spells. Definitions only.
+-- How an accepted PitList stands in a number list, in either version: what whoever counts pits may rely on. Its proof is `pit-list-spelled`
+-- of proofs/Spells. Definitions only.
 use mathlib.Core.Path.{_≡_}
-use mathlib.Core.Bool.{Bool, true, false}
+use mathlib.Core.Bool.{Bool, true}
 use mathlib.Core.List.{List, [], _∷_, _++_}
-use Prim.Native.Nat.{ℕ, _^_, _<_}
+use Prim.Native.Nat.{ℕ}
 use lib.IntN.{ℤ, pos}
-use lib.ListN.{length, getD}
+use lib.ListN.{length}
 use Rattle.wire.specs.Choice.{pick}
-use Rattle.lmcp.specs.Table.{second, typesOf}
+use Rattle.lmcp.specs.Table.{second}
 use Rattle.lmcp.specs.Lists.{isVersion}
 
 -- a mark's place: null, or lat, lon, height
@@ -37,27 +37,24 @@ spellAll two (e ∷ es) = spellElement two e ++ spellAll two es
 abbrev pub spellList : ℕ → ℕ → List Element → List ℤ
 spellList v tile es = pos v ∷ pos 5 ∷ pos tile ∷ pos (length es) ∷ spellAll (second v) es
 
--- tile, pits and count are no longer than their fields
-abbrev pub PitFits : Element → Type 0
-PitFits null = Unit
-PitFits (marked pit sure at depth) = pit < 2 ^ 32
-
-abbrev pub PitsFit : List Element → Type 0
-PitsFit [] = Unit
-PitsFit (e ∷ es) = PitFits e × PitsFit es
-
 pub record Spelled (l : List ℤ) : Type 0 where
   pub version : ℕ
   pub one-or-two : isVersion (pos version) ≡ true
   pub tile : ℕ
   pub elements : List Element
   pub numbers : l ≡ spellList version tile elements
-  pub tile-fits : tile < 2 ^ 32
-  pub count-fits : length elements < 2 ^ 32
-  pub pits-fit : PitsFit elements
 
--- the type of an accepted root, behind the version, is one of the table
-pub record Typed (l : List ℤ) : Type 0 where
-  pub type : ℕ
-  pub number : getD l 1 (pos 0) ≡ pos type
-  pub known : type < length (typesOf false)
+-- an element's pit keeps to S
+abbrev pub PitKeeps : (ℕ → Type 0) → Element → Type 0
+PitKeeps S null = Unit {0}
+PitKeeps S (marked pit sure at depth) = S pit
+
+abbrev pub PitsKeep : (ℕ → Type 0) → List Element → Type 0
+PitsKeep S [] = Unit {0}
+PitsKeep S (e ∷ es) = PitKeeps S e × PitsKeep S es
+
+-- so spelled, and its tile and its pits keep to S
+pub record SpelledBy (S : ℕ → Type 0) (l : List ℤ) : Type 0 where
+  pub spelled : Spelled l
+  pub tile : S (spelled .tile)
+  pub pits : PitsKeep S (spelled .elements)

@@ -1,24 +1,26 @@
--- The reader refuses by 20 to 28, and never by the 13 that a caller hears of a list too short. Assumes nothing.
-use mathlib.Core.Path.{_≡_, refl, subst}
+-- What the reader's answers tell: it refuses by 20 to 28, never by the 13 that a caller hears of a list too short; and an accepted message's
+-- numbers begin with its version and its root's type, which are not negative. Assumes nothing.
+use mathlib.Core.Path.{_≡_, refl, sym, ap, _∙_, subst}
 use mathlib.Core.Bool.{Bool, true, false, not, _&&_, _||_}
 use mathlib.Core.List.{List, [], _∷_}
 use Prim.Native.Nat.{ℕ, _+_, _≤_}
 use lib.Dec.{ltb, eqb, lit≤}
 use lib.IntN.{ℤ, pos}
-use lib.ListN.{length, take, drop}
+use lib.ListN.{length, getD, take, drop}
 use borrow.Author.Tests.{eqb-false}
 use Rattle.wire.specs.Choice.{pick}
 use Rattle.wire.specs.Bytes.{be}
 use Rattle.wire.specs.Same.{same}
 use Rattle.wire.proofs.Choices.{pick-all}
-use Rattle.lmcp.specs.Limits.{maxMessage, magic}
-use Rattle.lmcp.specs.Run.{got, refused, Tag, prepend, whole}
+use Rattle.lmcp.specs.Limits.{maxMessage, magic, deepest}
+use Rattle.lmcp.specs.Run.{got, refused, Tag, tag, bad, prepend, after, whole}
 use Rattle.lmcp.specs.Table.{Table, boolKind, charKind, pitsurv}
 use Rattle.lmcp.specs.Value.{fault, numberOf}
 use Rattle.lmcp.specs.Read.{Read, judged, readValue, readCount, known, readHeader, readHead, reading}
-use Rattle.lmcp.specs.Walk.{root}
+use Rattle.lmcp.specs.Walk.{isNull, object, root}
 use Rattle.lmcp.specs.Message.{checksumOf, before, stored, frame, rootOf, readMessage}
 use Rattle.lmcp.specs.Lists.{versionOf, readAs, readList}
+use Rattle.lmcp.proofs.Undo as undo
 use Rattle.lmcp.proofs.Makes.{Fine, FineTag, fine-root}
 
 abbrev Number : ℕ → Type 0
@@ -102,3 +104,62 @@ unfolding readList readAs
 read-refuses m n e =
     let v = versionOf (rootOf m) in
     subst Reads e (prepended (pos v ∷ []) (readMessage (pitsurv v) m) (messages (pitsurv v) m))
+
+-- ---- the type of a root
+
+-- a number that is not negative
+pub record Plain (z : ℤ) : Type 0 where
+  pub number : ℕ
+  pub is : z ≡ pos number
+
+-- what is got begins with one
+abbrev Begins : Read → Type 0
+Begins (got zs r) = Plain (getD zs 0 (pos 0))
+Begins (refused n) = Unit
+
+abbrev Tags : Tag ℕ ℤ → Type 0
+Tags (tag n ys r) = ys ≡ pos n ∷ []
+Tags (bad n) = Unit
+
+tags : (T : Table) (d t : ℕ) (b : List ℕ) → Tags (readHead T d t b)
+unfolding readHead readHeader
+tags T d t b =
+    pick-all Tags (ltb (length b) 1) (λ e. tt)
+    (λ e. pick-all Tags (ltb 1 (be 1 b)) (λ e. tt)
+    (λ e. pick-all Tags (eqb (be 1 b) 0) (λ e. refl)
+    (λ e. pick-all Tags (eqb d 0) (λ e. tt)
+    (λ e. pick-all Tags (ltb (length (drop 1 b)) 14) (λ e. tt)
+    (λ e. pick-all Tags (known T t (drop 1 b)) (λ e. refl) (λ e. tt))))))
+
+begins-prepend : (n : ℕ) (X : Read) → Begins (prepend (pos n ∷ []) X)
+unfolding prepend
+begins-prepend n (got zs r) = record { number = n; is = refl }
+begins-prepend n (refused k) = tt
+
+begins-after : (t : Tag ℕ ℤ) (k : ℕ → List ℕ → Read) → Tags t → Begins (after t k)
+unfolding after
+begins-after (tag n ys r) k e = subst (λ (l : List ℤ). Begins (prepend l (k n r))) (sym e) (begins-prepend n (k n r))
+begins-after (bad n) k e = tt
+
+begins-whole : (X : Read) → Begins X → Begins (whole X)
+unfolding whole
+begins-whole (got zs []) g = g
+begins-whole (got zs (x ∷ r)) g = tt
+begins-whole (refused n) g = tt
+
+begins-root : (T : Table) (b : List ℕ) → Begins (root (reading T) T b)
+unfolding root object
+begins-root T b = pick-all Begins (isNull (readHead T deepest 0 b)) (λ e. tt) (λ e. begins-after (readHead T deepest 0 b) _ (tags T deepest 0 b))
+
+begins-message : (T : Table) (m : List ℕ) → Begins (readMessage T m)
+unfolding readMessage
+begins-message T m = pick-all Begins (eqb (frame m) 0) (λ e. begins-whole (root (reading T) T (rootOf m)) (begins-root T (rootOf m))) (λ e. tt)
+
+-- A ROOT'S TYPE IS NOT NEGATIVE
+pub root-type : (m : List ℕ) (l : List ℤ) (r : List ℕ) → readList m ≡ got l r → Plain (getD l 1 (pos 0))
+unfolding readList readAs
+root-type m l r e =
+    let v = versionOf (rootOf m) in
+    let g = undo.prepended (pos v ∷ []) (readMessage (pitsurv v) m) e in
+    let b : Plain (getD (g .more) 0 (pos 0)) = subst Begins (g .inner) (begins-message (pitsurv v) m) in
+    record { number = b .number; is = ap (λ (n : List ℤ). getD n 1 (pos 0)) (g .joined) ∙ b .is }
