@@ -2,68 +2,61 @@
 use mathlib.Core.Path.{_≡_, refl, ap, _∙_}
 use mathlib.Core.List.{List, [], _∷_, map}
 use Prim.Native.Nat.{ℕ, _-_}
-use Rattle.wire.specs.Bytes.{be, bytes}
+use Rattle.wire.specs.Bytes.{be}
 use Rattle.wire.specs.Sum.{sum}
 use Rattle.wire.specs.Seven.{groups, groupsIn}
 use Rattle.wire.specs.Overlay.{overlay}
 use Rattle.datagram.specs.Name.{goodName, untilZero, nameLength}
 use Rattle.datagram.specs.Read.{readSmall, goodForm, formed, readFragment, readDatagram}
 use Rattle.datagram.specs.Said.{said}
-use Rattle.cutter.specs.Cut.{countOf, smallBytes, headBytes, pieceOf, fragmentBytes, datagramOf}
-use Rattle.cutter.specs.Trip.{joined}
 use Rattle.steps.specs.Held.{noneHeld, isHeld, hold}
-use Rattle.steps.specs.Memory.{among, emptyMemory, isRemembered, remember, placeFor, withKey, memoryOk, since}
+use Rattle.steps.specs.Memory.{among, emptyMemory, isRemembered, remember, placeFor, withKey, memoryOk}
 use Rattle.steps.specs.Slots.{oldest, openCount, lower, release, seat, opening, filled}
 use Rattle.steps.specs.Receive.{opened, stay, sameFragment, agrees, step3, decide, step5, act, receive, sound, step}
 use Rattle.steps.specs.Answers.{Reply}
-use Rattle.steps.specs.Runs.{Arrival}
 use Rattle.steps.specs.Worked.{A-of, B-of}
-use Rattle.arrival.specs.Demand.{arrivals, done, unfinished, completes, completed}
-use Rattle.arrival.proofs.Tests.{tests, allPass, tested}
 use Rattle.lmcp.specs.Run as run
 use Rattle.lmcp.specs.Value.{fault, numberOf}
 use Rattle.lmcp.specs.Read.{judged, readValue, readCount, typed, known, readHeader, readHead}
 use Rattle.lmcp.specs.Walk.{item, field, fields, object, root}
 use Rattle.lmcp.specs.Message.{frame, readMessage}
 use Rattle.lmcp.specs.Lists as lists
-use Rattle.log.specs.Entries.{entryOf, entryBytes, bodyOf, logOf}
+use Rattle.log.specs.Entries.{entryBytes, bodyOf, logOf}
 use Rattle.log.specs.Listed.{headIn, datagramIn, lengthIn, tickIn, entryIn, whole, listBy, entriesAfter, entriesIn}
 use Rattle.tally.specs.Lists.{enter, rising}
 use Rattle.counting.specs.Marks.{markLength, markAt, marksIn, pitListOf, listRead, listIn}
 use Rattle.counting.specs.Report.{report}
-use Rattle.counting.specs.Run.{arrivalOf, called, answers, howMany, payloads, listsRead}
+use Rattle.counting.specs.Run.{called, answers, howMany, payloads}
 use Rattle.counting.specs.Count as faults
 use Rattle.counting.specs.Count.{firstFault, reportOf, reported, noReport, answersTo, unless, countEntries, countListed, countLog}
-use Rattle.counting.specs.Promise.{payloadsOf, deliveredBy}
-use Rattle.counting.specs.Worked.{first, deep, second, third, ping, read, readAs, store, ledger, flight, flightLog, flightAnswers, flightReport, lines, longest, manyTiles, wholeScene, wholeFeed, mixedScene, mixedFeed, entriesOf}
-use Rattle.counting.proofs.Counted.{counted}
+use Rattle.counting.specs.Worked.{first, deep, second, third, fourth, ping, read, readAs, store, ledger, flight, flightLog, flightAnswers, flightReport, longest, manyTiles}
 
 pub read-computed : read ≡ readAs
-unfolding first deep second third ping markLength markAt marksIn pitListOf listRead listIn be sum run.prepend run.andThen run.after run.repeat run.whole fault numberOf judged readValue readCount typed known readHeader readHead item field fields object root frame readMessage lists.readAs lists.readList
+unfolding first deep second third fourth ping markLength markAt marksIn pitListOf listRead listIn be sum run.prepend run.andThen run.after run.repeat run.whole fault numberOf judged readValue readCount typed known readHeader readHead item field fields object root frame readMessage lists.readAs lists.readList
 read-computed = refl
 
 -- ---- the flight: its log is read, its entries are answered, its answers are reported
 
 flight-read : entriesIn flightLog ≡ whole flight
-unfolding flightLog logOf bodyOf entryBytes groups entriesIn entriesAfter headIn listBy entryIn groupsIn tickIn lengthIn datagramIn first deep second third A-of B-of
+unfolding flightLog logOf bodyOf entryBytes groups entriesIn entriesAfter headIn listBy entryIn groupsIn tickIn lengthIn datagramIn first deep second third fourth A-of B-of
 flight-read = refl
 
 flight-answered : answersTo store ledger flight ≡ flightAnswers
 unfolding answers called step sound receive decide act stay step3 step5 sameFragment agrees seat oldest release lower opening openCount filled opened emptyMemory
     isRemembered remember placeFor withKey memoryOk among isHeld hold noneHeld said readDatagram readSmall readFragment formed goodForm nameLength goodName untilZero
-    be overlay A-of B-of first deep second third
+    be overlay A-of B-of first deep second third fourth
 flight-answered = refl
 
 -- with as many numbers as its longest list has
 flight-fits : firstFault longest [] (payloads flightAnswers) ≡ 0
 unfolding firstFault faults.fault enter rising
-    first deep second third markLength markAt marksIn pitListOf listRead listIn be sum run.prepend run.andThen run.after run.repeat run.whole
+    first deep second third fourth markLength markAt marksIn pitListOf listRead listIn be sum run.prepend run.andThen run.after run.repeat run.whole
     fault numberOf judged readValue readCount typed known readHeader readHead item field fields object root frame readMessage lists.readAs lists.readList
 flight-fits = refl
 
 flight-reported : reportOf flight flightAnswers ≡ flightReport
 unfolding reportOf howMany report enter rising
-    first deep second third markLength markAt marksIn pitListOf listRead listIn be sum run.prepend run.andThen run.after run.repeat run.whole
+    first deep second third fourth markLength markAt marksIn pitListOf listRead listIn be sum run.prepend run.andThen run.after run.repeat run.whole
     fault numberOf judged readValue readCount typed known readHeader readHead item field fields object root frame readMessage lists.readAs lists.readList
 flight-reported = refl
 
@@ -79,7 +72,7 @@ flight-counted = flight-is longest ∙ (λ i. unless (flight-fits i) (flight-rep
 -- and with one number less not
 flight-short : firstFault (longest - 1) [] (payloads flightAnswers) ≡ 13
 unfolding firstFault faults.fault enter rising
-    first deep second third markLength markAt marksIn pitListOf listRead listIn be sum run.prepend run.andThen run.after run.repeat run.whole
+    first deep second third fourth markLength markAt marksIn pitListOf listRead listIn be sum run.prepend run.andThen run.after run.repeat run.whole
     fault numberOf judged readValue readCount typed known readHeader readHead item field fields object root frame readMessage lists.readAs lists.readList
 flight-short = refl
 
@@ -105,31 +98,3 @@ unfolding firstFault faults.fault enter rising
     deep third markLength markAt marksIn pitListOf listRead listIn be sum run.prepend run.andThen run.after run.repeat run.whole
     fault numberOf judged readValue readCount typed known readHeader readHead item field fields object root frame readMessage lists.readAs lists.readList
 tile-first = refl
-
--- ---- two logs of the same messages meet the suppositions, and count the same
-
-whole-meets : tests wholeScene wholeFeed ≡ allPass
-unfolding tests done unfinished completes completed since joined said readDatagram readSmall readFragment formed goodForm nameLength goodName untilZero be bytes
-    countOf smallBytes headBytes pieceOf fragmentBytes datagramOf first second third ping
-whole-meets = refl
-
-mixed-meets : tests mixedScene mixedFeed ≡ allPass
-unfolding tests done unfinished completes completed since joined said readDatagram readSmall readFragment formed goodForm nameLength goodName untilZero be bytes
-    countOf smallBytes headBytes pieceOf fragmentBytes datagramOf first second third ping
-mixed-meets = refl
-
-lines-computed : report (listsRead (payloadsOf wholeScene)) ≡ lines
-unfolding report enter rising
-    first second third ping markLength markAt marksIn pitListOf listRead listIn be sum run.prepend run.andThen run.after run.repeat run.whole
-    fault numberOf judged readValue readCount typed known readHeader readHead item field fields object root frame readMessage lists.readAs lists.readList
-lines-computed = refl
-
-keeps : (xs : List Arrival) → map arrivalOf (map (λ x. entryOf (x .sender) 0 (x .datagram)) xs) ≡ xs
-keeps [] = refl
-keeps (x ∷ xs) = ap (λ (ys : List Arrival). x ∷ ys) (keeps xs)
-
-pub whole-lines : report (listsRead (deliveredBy wholeScene (entriesOf wholeScene wholeFeed))) ≡ lines
-whole-lines = counted wholeScene wholeFeed (tested wholeScene wholeFeed whole-meets) (entriesOf wholeScene wholeFeed) (keeps (arrivals wholeScene wholeFeed)) .tile-lines ∙ lines-computed
-
-pub mixed-lines : report (listsRead (deliveredBy mixedScene (entriesOf mixedScene mixedFeed))) ≡ lines
-mixed-lines = counted mixedScene mixedFeed (tested mixedScene mixedFeed mixed-meets) (entriesOf mixedScene mixedFeed) (keeps (arrivals mixedScene mixedFeed)) .tile-lines ∙ lines-computed

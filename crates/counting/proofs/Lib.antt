@@ -1,3 +1,4 @@
+pub mod Computed
 pub mod Under
 pub mod Means
 pub mod Keys
@@ -14,4 +15,4 @@ pub mod Delivered
 pub mod Counted
 pub mod Limits
 pub mod Shows
-pub mod Computed
+pub mod Works

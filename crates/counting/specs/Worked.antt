@@ -1,4 +1,4 @@
--- Worked: payloads of both versions, a flight of nine entries and its report, and the limits. Definitions only.
+-- Worked: payloads of both versions, a flight and its report, the limits, and two logs of the same messages. Definitions only.
 use mathlib.Core.Bool.{true, false}
 use mathlib.Core.List.{List, [], _∷_, _++_, map}
 use Prim.Native.Nat.{ℕ, _+_}
@@ -6,7 +6,7 @@ use lib.ListN.{length, replicate}
 use Rattle.words.specs.Builds.{build}
 use Rattle.steps.specs.Limits.{ledgerLength}
 use Rattle.steps.specs.Answers.{Reply, refusedBy, kept, repeat, delivered}
-use Rattle.steps.specs.Worked.{A-of, B-of}
+use Rattle.steps.specs.Worked.{headOf, A-of, B-of}
 use Rattle.arrival.specs.Demand.{Message, Scene, part, noise, Feed, start, _▹_, arrivals}
 use Rattle.arrival.specs.Ours.{cutMessage}
 use Rattle.log.specs.Entries.{Entry, entryOf, logOf}
@@ -57,12 +57,16 @@ second = message (list2 9 2 (mark 2 2 1 (null ++ 0 ∷ 0 ∷ []) ++ mark 2 1 0 (
 unfoldable pub third : List ℕ
 third = message (list1 4 0 [])
 
+-- tile 5: pit 1, not sure
+unfoldable pub fourth : List ℕ
+fourth = message (list1 5 1 (mark 1 1 0 null))
+
 -- a Ping
 unfoldable pub ping : List ℕ
 ping = message (object 1 1 [])
 
 abbrev pub read : List (List PitList)
-read = map listIn (first ∷ deep ∷ second ∷ third ∷ ping ∷ [])
+read = map listIn (first ∷ deep ∷ second ∷ third ∷ fourth ∷ ping ∷ [])
 
 abbrev pub readAs : List (List PitList)
 readAs =
@@ -70,10 +74,11 @@ readAs =
     ∷ (record { tile = 9; marks = record { pit = 1; sure = true } ∷ record { pit = 2; sure = false } ∷ [] } ∷ [])
     ∷ (record { tile = 9; marks = record { pit = 2; sure = true } ∷ record { pit = 1; sure = false } ∷ [] } ∷ [])
     ∷ (record { tile = 4; marks = [] } ∷ [])
+    ∷ (record { tile = 5; marks = record { pit = 1; sure = false } ∷ [] } ∷ [])
     ∷ []
     ∷ []
 
--- ---- a flight of nine entries, kept as a log, of sender 3
+-- ---- a flight of eleven entries of sender 3, kept as a log, and a receiver with slots of 4 bytes
 
 abbrev small : ℕ → List ℕ → List ℕ
 small q payload = 0x4c ∷ 0x43 ∷ 0x30 ∷ 0x32 ∷ 0 ∷ 0 ∷ 0 ∷ q ∷ 0x54 ∷ 0 ∷ payload
@@ -81,20 +86,23 @@ small q payload = 0x4c ∷ 0x43 ∷ 0x30 ∷ 0x32 ∷ 0 ∷ 0 ∷ 0 ∷ q ∷ 0x
 abbrev pub flight : List Entry
 flight =
     entryOf 3 10 (small 1 first)
-    -- the second half of "ABC": kept
+    -- the second fragment of "ABC": kept
     ∷ entryOf 3 11 (B-of 7)
-    -- refused by 1
+    -- no bytes, and a payload of 5: refused by 1 and by 6
     ∷ entryOf 3 11 []
+    ∷ entryOf 3 11 (headOf 8 5 0 0 2 (0x50 ∷ 0 ∷ 0x41 ∷ []))
     ∷ entryOf 3 12 (small 2 third)
     -- again: a repeat
     ∷ entryOf 3 13 (B-of 7)
     ∷ entryOf 3 14 (small 3 second)
-    -- a late copy of the first: a repeat
+    -- a late copy of the first message: a repeat
     ∷ entryOf 3 15 (small 1 first)
-    -- its list in another message: read, and nothing in it is new
+    -- the same list in another message: read, and nothing in it is new
     ∷ entryOf 3 16 (small 4 deep)
     -- "ABC" is whole, and no list
     ∷ entryOf 3 17 (A-of 7)
+    -- pit 1 of another tile
+    ∷ entryOf 3 18 (small 5 fourth)
     ∷ []
 
 unfoldable pub flightLog : List ℕ
@@ -109,21 +117,18 @@ ledger = replicate ledgerLength 7
 -- what each entry is answered
 abbrev pub flightAnswers : List Reply
 flightAnswers =
-    delivered first ∷ kept ∷ refusedBy 1 ∷ delivered third ∷ repeat ∷ delivered second ∷ repeat ∷ delivered deep ∷ delivered (0x41 ∷ 0x42 ∷ 0x43 ∷ []) ∷ []
+    delivered first ∷ kept ∷ refusedBy 1 ∷ refusedBy 6 ∷ delivered third ∷ repeat ∷ delivered second ∷ repeat ∷ delivered deep ∷ delivered (0x41 ∷ 0x42 ∷ 0x43 ∷ []) ∷ delivered fourth ∷ []
 
--- "tile 4 pits 0 sure 0", "tile 9 pits 2 sure 2"
-abbrev pub lines : List Line
-lines = record { tile = 4; pits = 0; sure = 0 } ∷ record { tile = 9; pits = 2; sure = 2 } ∷ []
-
+-- "tile 4 pits 0 sure 0", "tile 5 pits 1 sure 0", "tile 9 pits 2 sure 2"
 abbrev pub flightReport : Report
 flightReport = record {
-  entries = 9;
+  entries = 11;
   kept = 1;
   repeated = 2;
-  delivered = 5;
-  refused = 0 ∷ 1 ∷ 0 ∷ 0 ∷ 0 ∷ 0 ∷ 0 ∷ 0 ∷ 0 ∷ 0 ∷ [];
-  lists = 4;
-  lines = lines;
+  delivered = 6;
+  refused = 0 ∷ 1 ∷ 0 ∷ 0 ∷ 0 ∷ 0 ∷ 1 ∷ 0 ∷ 0 ∷ 0 ∷ [];
+  lists = 5;
+  lines = record { tile = 4; pits = 0; sure = 0 } ∷ record { tile = 5; pits = 1; sure = 0 } ∷ record { tile = 9; pits = 2; sure = 2 } ∷ [];
 }
 
 -- the longest list of the flight, of `deep`, has so many numbers
@@ -156,6 +161,10 @@ mixedScene = record { store = replicate 4096 9; ledger = replicate ledgerLength 
 -- mixed, with late copies and an empty datagram
 abbrev pub mixedFeed : Feed
 mixedFeed = start ▹ part 1 1 ▹ part 0 1 ▹ noise 5 [] ▹ part 2 0 ▹ part 0 1 ▹ part 1 0 ▹ part 1 1 ▹ part 3 0 ▹ part 0 0 ▹ part 2 0
+
+-- "tile 4 pits 0 sure 0", "tile 9 pits 2 sure 2"
+abbrev pub lines : List Line
+lines = record { tile = 4; pits = 0; sure = 0 } ∷ record { tile = 9; pits = 2; sure = 2 } ∷ []
 
 -- the arrivals of a feed as entries, all at tick 0
 abbrev pub entriesOf : Scene → Feed → List Entry
