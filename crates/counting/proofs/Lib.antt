@@ -7,6 +7,7 @@ pub mod Which
 pub mod Sums
 pub mod Totals
 pub mod Walks
+pub mod Seen
 pub mod Spells
 pub mod Bounds
 pub mod Answered

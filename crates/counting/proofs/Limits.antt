@@ -1,6 +1,6 @@
 -- Whether a limit is passed depends only on which payloads are delivered, not on their order, nor on how often each is. Assumes nothing.
 use mathlib.Core.Path.{_≡_, refl, sym, _∙_, subst}
-use mathlib.Core.Logic.{_⊎_, inl, inr}
+use mathlib.Core.Logic.{inl, inr}
 use mathlib.Core.Bool.{Bool, true, false}
 use mathlib.Core.List.{List, [], _∷_, _++_}
 use Prim.Native.Nat.{ℕ, _≤_, zero-le}
@@ -12,12 +12,13 @@ use Rattle.wire.specs.Choice.{pick}
 use Rattle.wire.proofs.Choices.{never, either}
 use Rattle.lmcp.specs.Lists.{readList}
 use Rattle.tally.specs.Lists.{In, SameMembers, gather, rising}
-use Rattle.tally.proofs.Members.{flipped, in-left, in-right, in-either, gather-sub, gather-same}
+use Rattle.tally.proofs.Members.{flipped, gather-sub, gather-same}
 use Rattle.tally.proofs.Rises.{distinct-less, distinct-fewer}
 use Rattle.counting.specs.Marks.{PitList, listIn}
 use Rattle.counting.specs.Report.{under, pitOf, tiles, pits}
-use Rattle.counting.specs.Run.{listsRead}
 use Rattle.counting.specs.Count.{maxTiles, maxPits, pitsInAll, tooLong, fault, firstFault}
+use Rattle.counting.specs.Walk.{seenAfter}
+use Rattle.counting.proofs.Seen.{seen-more, seen-members}
 
 -- neither over 256 tiles nor over 8,192 pits in all
 record Limited (ls : List PitList) : Type 0 where
@@ -60,37 +61,13 @@ module _ (room : ℕ) where
       go false x false y true z e = absurd (let z : ⊥ = omega arith in z)
       go false x false y false z e = record { short = x; limited = record { few-tiles = ltb-false maxTiles _ y; few-pits = ltb-false maxPits _ z } }
 
-  -- ---- the lists seen in the end
-
-  abbrev seenAfter : List PitList → List (List ℕ) → List PitList
-  seenAfter seen [] = seen
-  seenAfter seen (p ∷ ps) = seenAfter (listIn p ++ seen) ps
-
-  seen-keeps : (seen : List PitList) (ps : List (List ℕ)) (l : PitList) → In l seen → In l (seenAfter seen ps)
-  seen-keeps seen [] l h = h
-  seen-keeps seen (p ∷ ps) l h = seen-keeps (listIn p ++ seen) ps l (in-right l (listIn p) seen h)
-
-  seen-has : (seen : List PitList) (ps : List (List ℕ)) (l : PitList) → In l (listsRead ps) → In l (seenAfter seen ps)
-  seen-has seen [] l h = absurd h
-  seen-has seen (p ∷ ps) l h = elim (in-either l (listIn p) (listsRead ps) h) [
-    | inl k ↦ seen-keeps (listIn p ++ seen) ps l (in-left l (listIn p) seen k)
-    | inr k ↦ seen-has (listIn p ++ seen) ps l k
-  ]
-
-  seen-from : (seen : List PitList) (ps : List (List ℕ)) (l : PitList) → In l (seenAfter seen ps) → In l (listsRead ps) ⊎ In l seen
-  seen-from seen [] l h = inr h
-  seen-from seen (p ∷ ps) l h = elim (seen-from (listIn p ++ seen) ps l h) [
-    | inl k ↦ inl (in-right l (listIn p) (listsRead ps) k)
-    | inr k ↦ elim (in-either l (listIn p) seen k) [ inl j ↦ inl (in-left l (listIn p) (listsRead ps) j) | inr j ↦ inr j ]
-  ]
-
   -- ---- nothing stands against any of them exactly when each fits and the lists are limited
 
   all-pass : (seen : List PitList) (ps : List (List ℕ)) → ((p : List ℕ) → In p ps → Short p) → Limited (seenAfter seen ps) → firstFault room seen ps ≡ 0
   unfolding firstFault
   all-pass seen [] s m = refl
   all-pass seen (p ∷ ps) s m =
-      let z : fault room seen p ≡ 0 = no-fault seen p (s p (inl refl)) (fewer (listIn p ++ seen) (seenAfter seen (p ∷ ps)) (seen-keeps (listIn p ++ seen) ps) m) in
+      let z : fault room seen p ≡ 0 = no-fault seen p (s p (inl refl)) (fewer (listIn p ++ seen) (seenAfter seen (p ∷ ps)) (seen-more seen p ps) m) in
       rw (eq-eqb (fault room seen p) 0 z) (all-pass (listIn p ++ seen) ps (λ x h. s x (inr h)) m)
 
   record AllPassed (seen : List PitList) (ps : List (List ℕ)) : Type 0 where
@@ -112,10 +89,8 @@ module _ (room : ℕ) where
   goes-over : (ps qs : List (List ℕ)) → SameMembers ps qs → firstFault room [] ps ≡ 0 → firstFault room [] qs ≡ 0
   goes-over ps qs c e =
       let a : AllPassed [] ps = all-passed [] ps none-limited e in
-      all-pass [] qs (λ p h. a .short p (c .back p h)) (fewer (seenAfter [] qs) (seenAfter [] ps) (λ l h. elim (seen-from [] qs l h) [
-        | inl k ↦ seen-has [] ps l (gather-same listIn ps qs c .back l k)
-        | inr k ↦ absurd k
-      ]) (a .limited))
+      all-pass [] qs (λ p h. a .short p (c .back p h)) (fewer (seenAfter [] qs) (seenAfter [] ps)
+      (λ l h. seen-members ps .back l (gather-same listIn ps qs c .back l (seen-members qs .there l h))) (a .limited))
 
   pub same-faults : (ps qs : List (List ℕ)) → SameMembers ps qs → eqb (firstFault room [] ps) 0 ≡ eqb (firstFault room [] qs) 0
   same-faults ps qs c = elim (either (eqb (firstFault room [] ps) 0)) [
