@@ -15,7 +15,7 @@ use Rattle.lmcp.proofs.Spells.{pit-list-within}
 use Rattle.lmcp.proofs.Answers.{Plain, root-type}
 use Rattle.tally.specs.Lists.{In, gather}
 use Rattle.tally.proofs.Members.{gather-from, Source}
-use Rattle.counting.specs.Marks.{Mark, PitList, pitListOf, listRead, listIn}
+use Rattle.counting.specs.Marks.{Mark, PitList, listRead, listIn}
 use Rattle.counting.specs.Spelled.{markOf, listWith}
 use Rattle.counting.specs.Run.{listsRead}
 use Rattle.counting.specs.Keys.{span, Within, AllWithin}

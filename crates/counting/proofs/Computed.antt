@@ -1,6 +1,6 @@
 -- The worked payloads are read as written, and the worked flight is counted as worked. Assumes nothing.
 use mathlib.Core.Path.{_≡_, refl, ap, _∙_}
-use mathlib.Core.List.{List, [], _∷_, map}
+use mathlib.Core.List.{List, [], _∷_}
 use Prim.Native.Nat.{ℕ, _-_}
 use Rattle.wire.specs.Bytes.{be}
 use Rattle.wire.specs.Sum.{sum}

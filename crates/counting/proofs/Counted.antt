@@ -3,7 +3,7 @@ use mathlib.Core.Path.{_≡_, sym, ap, _∙_}
 use mathlib.Core.List.{List}
 use Prim.Native.Nat.{ℕ}
 use lib.ListN.{length}
-use Rattle.arrival.specs.Demand.{Scene, Feed, Delivery, deliveries, inOrderOfCompletion, Supposed}
+use Rattle.arrival.specs.Demand.{Scene, Feed, Delivery, inOrderOfCompletion, Supposed}
 use Rattle.arrival.proofs.Demand3.{demand3}
 use Rattle.log.specs.Entries.{Entry}
 use Rattle.tally.specs.Lists.{total}

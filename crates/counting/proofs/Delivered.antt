@@ -8,7 +8,7 @@ use native.Mathlib.Decide.{ℕ-discrete}
 use borrow.Author.Tests.{ne-eqb}
 use Rattle.steps.specs.Search.{one}
 use Rattle.steps.proofs.Tables.{all-of}
-use Rattle.arrival.specs.Demand.{Scene, nobody, parts, size, Message, message, Feed, got, done, completed, own, deliveries, Supposed}
+use Rattle.arrival.specs.Demand.{Scene, nobody, parts, size, Message, message, Feed, got, done, completed, own, Supposed}
 use Rattle.arrival.proofs.Track.{Lawful, Fair, fair-of, times, done-once}
 use Rattle.arrival.proofs.Whole.{Apart, completed-apart}
 use Rattle.arrival.proofs.Demand3.{delivered-own}

@@ -1,23 +1,20 @@
 -- One rising list of keys holds the pits of all tiles: a tile's part of it is as long as the tile has pits, and the whole is as long as there are
 -- pits in all. Assumes nothing.
 use mathlib.Core.Path.{_≡_, refl, sym, ap, _∙_, subst}
-use mathlib.Core.Logic.{_⊎_, inl, inr}
-use mathlib.Core.Bool.{Bool, true, false}
-use mathlib.Core.List.{List, [], _∷_, _++_, map}
-use Prim.Native.Nat.{ℕ, suc, _+_, _*_, _^_, _≤_, _<_}
+use mathlib.Core.List.{List, [], _∷_, map}
+use Prim.Native.Nat.{ℕ, suc, _+_, _≤_, _<_}
 use native.Mathlib.Omega.{arith}
 use lib.ListN.{length, length-map}
-use Rattle.wire.specs.Choice.{pick}
-use Rattle.tally.specs.Lists.{In, SameMembers, gather, total, rising, Rising, below}
+use Rattle.tally.specs.Lists.{In, gather, total, rising, Rising, below}
 use Rattle.tally.proofs.Members.{gather-in, gather-from, Source, map-in, map-from, Origin}
 use Rattle.tally.proofs.Sums.{length-gather}
 use Rattle.tally.proofs.Rises.{rising-rises, rising-members, rising-unique}
 use Rattle.tally.proofs.Places.{below-all}
 use Rattle.tally.proofs.Parts.{gather-rises, map-rises, between, between-rises, between-from, between-in, between-long}
 use Rattle.counting.specs.Marks.{Mark, PitList}
-use Rattle.counting.specs.Report.{under, distinct, pitOf, pitIfSure, tiles, pits, surePits}
+use Rattle.counting.specs.Report.{distinct, pitOf, pitIfSure, tiles, pits, surePits}
 use Rattle.counting.specs.Count.{pitsInAll}
-use Rattle.counting.specs.Keys.{span, pitKey, keysBy, pitKeys, sureKeys, Within, AllWithin}
+use Rattle.counting.specs.Keys.{span, pitKey, keysBy, pitKeys, sureKeys, AllWithin}
 use Rattle.counting.proofs.Under.{only, name-in, Taken, taken-from, taken-in}
 use Rattle.counting.proofs.Means.{sure-is}
 

@@ -1,7 +1,6 @@
 -- The entries that keep a feed deliver what the feed delivers, the first first. Assumes nothing.
-use mathlib.Core.Path.{_≡_, refl, sym, ap, _∙_}
+use mathlib.Core.Path.{_≡_, refl, ap, _∙_}
 use mathlib.Core.Logic.{inl, inr}
-use mathlib.Core.Option.{Option}
 use mathlib.Core.List.{List, [], _∷_, _++_, map, append-nil}
 use Prim.Native.Nat.{ℕ}
 use native.Mathlib.Omega.{arith}
@@ -9,7 +8,7 @@ use Rattle.steps.specs.declared.Key.{Key}
 use Rattle.steps.specs.Answers.{Reply, refusedBy, kept, repeat, delivered, reply}
 use Rattle.steps.specs.Runs.{World, worldOf, fresh, Arrival, call, run, keyIn}
 use Rattle.steps.specs.Runs as runs
-use Rattle.arrival.specs.Demand.{Scene, slotBytes, Feed, start, _▹_, Event, bytesOf, arrival, arrivals, after, Delivery, nameIn, handedBy, delivery, deliveries, push}
+use Rattle.arrival.specs.Demand.{Scene, slotBytes, Feed, start, _▹_, arrival, arrivals, after, Delivery, nameIn, handedBy, delivery, deliveries, push}
 use Rattle.arrival.specs.Demand as demand
 use Rattle.log.specs.Entries.{Entry}
 use Rattle.tally.specs.Lists.{In, SameMembers, total}

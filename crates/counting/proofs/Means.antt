@@ -1,6 +1,6 @@
 -- The tile lines mean what the request says. Assumes nothing.
 use mathlib.Core.Path.{_≡_, refl, sym}
-use mathlib.Core.Logic.{inl, inr}
+use mathlib.Core.Logic.{inl}
 use mathlib.Core.Bool.{Bool, true, false}
 use mathlib.Core.List.{List, [], _∷_}
 use Prim.Native.Nat.{ℕ}
@@ -9,7 +9,7 @@ use Rattle.tally.specs.Lists.{In}
 use Rattle.tally.proofs.Rises.{rising-rises, rising-members, distinct-fewer}
 use Rattle.counting.specs.Marks.{Mark, PitList}
 use Rattle.counting.specs.Report.{pitOf, pitIfSure, pits, surePits}
-use Rattle.counting.specs.Meaning.{Names, Marks, MarksSure, Means}
+use Rattle.counting.specs.Meaning.{Marks, MarksSure, Means}
 use Rattle.counting.proofs.Under.{only, named, name-in, Taken, taken-from, taken-in}
 
 pub sure-is : (m : Mark) (p : ℕ) → In p (pitIfSure m) → (m .sure ≡ true) × (m .pit ≡ p)

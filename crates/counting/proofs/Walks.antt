@@ -1,5 +1,5 @@
 -- The walk entry by entry finds what the count says of the payloads, and with nothing found it has gone through all entries. Assumes nothing.
-use mathlib.Core.Path.{_≡_, refl, sym, ap, _∙_}
+use mathlib.Core.Path.{_≡_, refl, sym, _∙_}
 use mathlib.Core.Logic.{inl, inr}
 use mathlib.Core.Bool.{Bool, true, false}
 use mathlib.Core.List.{List, [], _∷_, _++_}
@@ -7,12 +7,12 @@ use Prim.Native.Nat.{ℕ}
 use lib.Dec.{eqb}
 use lib.IntN.{ℤ}
 use lib.ListN.{length}
-use borrow.Author.Tests.{eq-eqb, eqb-true}
+use borrow.Author.Tests.{eq-eqb}
 use Rattle.wire.specs.Choice.{pick}
 use Rattle.wire.proofs.Choices.{either, never}
 use Rattle.steps.specs.Answers.{Reply, refusedBy, kept, repeat, delivered}
 use Rattle.log.specs.Entries.{Entry}
-use Rattle.counting.specs.Marks.{PitList, listIn}
+use Rattle.counting.specs.Marks.{PitList}
 use Rattle.counting.specs.Run.{answerTo, leftBy, answers, payloadIn, payloads}
 use Rattle.counting.specs.Count.{fault, firstFault, Outcome}
 use Rattle.counting.specs.Walk.{faultAt, seenAt, Held, heldAfter, heldAll, walk, atFirst, walkEntries, CountsTo, NoSecond, Agrees}

@@ -1,6 +1,6 @@
 -- Tile and pit in one number, in the order of tiles and then of pits: so that one rising list holds the pits of all tiles. Definitions only.
 use mathlib.Core.List.{List, map}
-use Prim.Native.Nat.{ℕ, suc, _+_, _*_, _^_, _<_}
+use Prim.Native.Nat.{ℕ, _+_, _*_, _^_, _<_}
 use Rattle.tally.specs.Lists.{In, gather}
 use Rattle.counting.specs.Marks.{Mark, PitList}
 use Rattle.counting.specs.Report.{pitOf, pitIfSure}

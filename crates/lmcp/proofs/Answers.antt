@@ -15,7 +15,7 @@ use Rattle.wire.proofs.Choices.{pick-all}
 use Rattle.lmcp.specs.Limits.{maxMessage, magic, deepest}
 use Rattle.lmcp.specs.Run.{got, refused, Tag, tag, bad, prepend, after, whole}
 use Rattle.lmcp.specs.Table.{Table, boolKind, charKind, pitsurv}
-use Rattle.lmcp.specs.Value.{fault, numberOf}
+use Rattle.lmcp.specs.Value.{fault}
 use Rattle.lmcp.specs.Read.{Read, judged, readValue, readCount, known, readHeader, readHead, reading}
 use Rattle.lmcp.specs.Walk.{isNull, object, root}
 use Rattle.lmcp.specs.Message.{checksumOf, before, stored, frame, rootOf, readMessage}
