@@ -97,7 +97,7 @@ static void put32(u8 *p, u32 x) {
     for (int i = 3; i >= 0; i--, x >>= 8) p[i] = (u8)x;
 }
 
-// Fragment k of n, as the cutter cuts at M: all are full where the payload is as long as n fragments hold, at most 262,144.
+// Fragment k of n, as the cutter cuts at M: all are full where the payload is as long as n fragments hold, at most 1,048,576.
 static u32 cut(u8 *p, u32 k, u32 n, u32 m) {
     static const u8 name[5] = "TILE";
     u32 size = n * (m - 20) - 5;
@@ -120,7 +120,7 @@ static u32 cut(u8 *p, u32 k, u32 n, u32 m) {
 
 static void make_round(int kind, u32 n, u32 m) {
     u32 group = kind == MIXED ? SLOTS : 1, copies = kind == TWICE ? 2 : 1, buffer = 0;
-    if (n < 1 || n > MAX_COUNT || m > ROOM || m < 96) stop("n is 1 to 256 and M 96 to 1,500");
+    if (n < 1 || n > MAX_COUNT || m > ROOM || m < 96) stop("n is 1 to 1,024 and M 96 to 1,500");
     in_round = messages_in_round = 0;
     of_sixteen = kind == SIXTEEN;
     while (in_round < ROUND) {

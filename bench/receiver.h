@@ -12,7 +12,7 @@ void *memmove(void *to, const void *from, u64 n);
 void *memset(void *to, int byte, u64 n);
 int memcmp(const void *a, const void *b, u64 n);
 
-enum { SLOTS = 8, SENDERS = 16, KEYS = 32, MAX_NAME = 63, MAX_COUNT = 256, MAX_SIZE = 262144, MAX_DATAGRAM = 65535, LEDGER = 4096 };
+enum { SLOTS = 8, SENDERS = 16, KEYS = 32, MAX_NAME = 63, MAX_COUNT = 1024, MAX_SIZE = 1048576, MAX_DATAGRAM = 65535, LEDGER = 16384 };
 
 enum { KEPT, REPEAT, DELIVERED, REFUSED };
 enum { IN_DATAGRAM = 1, IN_STORE = 2 };

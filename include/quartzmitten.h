@@ -26,14 +26,15 @@ typedef unsigned long long qm_size; /* a length, a place or a number of elements
 #define QM_OTHER_MAGIC 2        /* neither 4c433032 nor 4c433033 */
 #define QM_DATAGRAM_TOO_LONG 3  /* a datagram over 65,535 bytes */
 #define QM_NAME 4               /* name empty, over 63 bytes or without its zero byte, not UTF-8 (RFC 3629), or a code point below 32 or 127 */
-#define QM_FRAGMENT_NUMBER 5    /* count 0 or over 256, or a number not below the count */
-#define QM_PAYLOAD_TOO_LONG 6   /* payload size over 262,144 */
+#define QM_FRAGMENT_NUMBER 5    /* count 0 or over 1,024, or a number not below the count */
+#define QM_PAYLOAD_TOO_LONG 6   /* payload size over 1,048,576 */
 #define QM_FORM 7               /* the form of a fragment broken */
 #define QM_DATAGRAM_SIZE 10     /* datagram size outside 96 to 65,507 */
-#define QM_TOO_MANY_FRAGMENTS 11 /* more than 256 fragments */
+#define QM_TOO_MANY_FRAGMENTS 11 /* more than 1,024 fragments */
 #define QM_NO_SUCH_DATAGRAM 12  /* the datagram asked for is not below the number of datagrams */
 #define QM_TOO_SHORT 13         /* output or list too short */
 #define QM_KEPT_TOO_LONG 42     /* a datagram to keep over 65,535 bytes */
+#define QM_LOG_LIMIT 45         /* a log's payload limit over 1,048,576 */
 
 /* The sum of all `length` bytes modulo 2^32. Of no bytes it is 0. Nothing is written. */
 qm_u32 qm_checksum(const qm_byte *bytes, qm_size length);
@@ -85,8 +86,10 @@ qm_u64 qm_cut(const qm_byte *name, qm_size name_length, const qm_byte *payload, 
    Both answer (number of bytes written) * 2^32, so that the next place is the place plus QM_LOG_LENGTH(answer); or a refusal,
    which is below 2^32 as no other answer is, and then nothing is written. */
 
-/* Writes the head of a log to the start of `out`: one byte. 13 where `out` has none. */
-qm_u64 qm_log_begin(qm_byte *out, qm_size out_length);
+/* Writes the head of a log to the start of `out`: the edition, which is 2, and the log's payload limit, at most four bytes in
+   all. Fragments of larger payloads are refused by 6 when the log is replayed or counted; 1,048,576 admits all that the
+   receiver takes. 45 where `limit` is over 1,048,576, then 13 where the head does not fit. */
+qm_u64 qm_log_begin(qm_byte *out, qm_size out_length, qm_u64 limit);
 
 /* Writes one entry, the datagram with its sender and arrival tick, at the place `at` of `out`: at most 30 bytes and the
    datagram's. 42 where the datagram is over 65,535 bytes, then 13 where the entry does not fit. Any place may be given. */

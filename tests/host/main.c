@@ -165,7 +165,7 @@ static u64 make(const struct plan *p) {
 static struct plan good_plan(int small, u64 max_data) {
     struct plan p = {small ? SMALL_MAGIC : FRAGMENT_MAGIC, (u32) random_64(), 0, 0, 0, 1, between(1, 63), below(max_data + 1), 1};
     if (small) return p;
-    p.count = (u32) (chance(30) ? ONE_OF(1, 2, 3, 255, 256) : between(1, 256));
+    p.count = (u32) (chance(30) ? ONE_OF(1, 2, 3, 256, 257, 1023, 1024) : between(1, 1024));
     p.number = (u32) (chance(50) ? ONE_OF(0, p.count - 1, p.count / 2) : below(p.count));
     if (p.number > 0 && p.data_length == 0) p.data_length = 1;
     if (p.number > 0) p.offset = (u32) (chance(20) ? ONE_OF(0, MAX_PAYLOAD - p.data_length) : below(MAX_PAYLOAD - p.data_length + 1));
@@ -181,15 +181,15 @@ static void bend(struct plan *p) {
     case 0: p->magic = (u32) ONE_OF(0, 0x4c433031, 0x4c433034, 0x32304c43, random_64(), SMALL_MAGIC, FRAGMENT_MAGIC); break;
     case 1: p->sequence = (u32) ONE_OF(0, 1, 0x7fffffff, 0x80000000, 0xffffffff); break;
     case 2:
-        p->size = (u32) ONE_OF(0, 1, d, p->offset + d - 1, p->offset + d, p->offset + d + 1, 262143, 262144, 262145, 0x7fffffff,
+        p->size = (u32) ONE_OF(0, 1, d, p->offset + d - 1, p->offset + d, p->offset + d + 1, 262145, 1048575, 1048576, 1048577, 0x7fffffff,
                                0x80000000, 0xffffffff);
         break;
     case 3:
         p->offset = (u32) ONE_OF(0, 1, p->size - d - 1, p->size - d, p->size - d + 1, p->size, 0 - d, 0 - d - 1, 0 - d + 1,
                                  0 - d + p->size, 0x7fffffff, 0x80000000, 0xfffffffe, 0xffffffff);
         break;
-    case 4: p->number = (u32) ONE_OF(0, 1, p->count - 1, p->count, p->count + 1, 255, 256, 257, 65535) & 0xffff; break;
-    case 5: p->count = (u32) ONE_OF(0, 1, 2, p->number, p->number + 1, 255, 256, 257, 258, 512, 65535) & 0xffff; break;
+    case 4: p->number = (u32) ONE_OF(0, 1, p->count - 1, p->count, p->count + 1, 256, 1023, 1024, 1025, 65535) & 0xffff; break;
+    case 5: p->count = (u32) ONE_OF(0, 1, 2, p->number, p->number + 1, 256, 257, 1023, 1024, 1025, 1026, 4096, 65535) & 0xffff; break;
     case 6: p->name_length = ONE_OF(0, 1, 2, 4, 62, 63, 64, 65, 100); break;
     case 7: p->data_length = ONE_OF(0, 1, 2, d + 1, d == 0 ? 0 : d - 1); break;
     default: p->zero = !p->zero; break;
@@ -280,7 +280,7 @@ static void read_points(void) {
 
 /* Every pair of edges of number and count, of size and offset. */
 static void read_numbers(void) {
-    static const u32 shorts[] = {0, 1, 2, 3, 254, 255, 256, 257, 258, 511, 512, 65534, 65535};
+    static const u32 shorts[] = {0, 1, 2, 3, 255, 256, 257, 1022, 1023, 1024, 1025, 1026, 4095, 4096, 65534, 65535};
     enum { SHORTS = sizeof shorts / sizeof *shorts };
     for (int k = 0; k < SHORTS; k++)
         for (int n = 0; n < SHORTS; n++)
@@ -289,7 +289,7 @@ static void read_numbers(void) {
                     struct plan p = {FRAGMENT_MAGIC, 7, (u32) (d + (u64) last), 0, shorts[k], shorts[n], 4, d, 1};
                     try_read(make(&p));
                 }
-    static const u64 sizes[] = {0, 1, 2, 10, 262143, 262144, 262145, 0x7fffffff, 0xfffffff0, 0xffffffff};
+    static const u64 sizes[] = {0, 1, 2, 10, 262144, 262145, 1048575, 1048576, 1048577, 0x7fffffff, 0xfffffff0, 0xffffffff};
     for (u64 s = 0; s < sizeof sizes / sizeof *sizes; s++)
         for (u64 d = 0; d < 20; d++)
             for (int shift = -2; shift <= 2; shift++)
@@ -389,14 +389,14 @@ static void try_join(u64 c, u64 p, u64 m) {
 static void cut_multiples(void) {
     static const u64 lengths[] = {1, 4, 62, 63};
     for (int l = 0; l < 4; l++)
-        for (u64 j = 0; j <= 258; j++)
+        for (u64 j = 0; j <= 1026; j += j > 40 && j < 1008 ? 16 : 1)
             for (int shift = -1; shift <= 1; shift++) {
                 u64 c = lengths[l], m = chance(70) ? 96 : between(96, 300);
                 u64 p = m - 21 - c + j * (m - 20) + (u64) shift;
                 fill_name(name_bytes, c);
                 struct cut_call call = {name_bytes, c, p, m, 0, m, (u32) random_64()};
                 try_cut(&call);
-                u64 asked[] = {j, j + 1, j + 2, 255, 256};
+                u64 asked[] = {j, j + 1, j + 2, 1023, 1024};
                 for (int i = 0; i < 5; i++) {
                     call.index = asked[i];
                     try_cut(&call);
@@ -424,14 +424,14 @@ static void cut_random(int times) {
         if (chance(15) && c > 0) name_bytes[below(c)] = (u8) ONE_OF(0, 31, 32, 126, 127, 0x80, 0xbf, 0xc0, 0xc2, 0xe0, 0xed, 0xf0, 0xf4, 0xf5, 255);
         u64 m = edge_m();
         u64 p = below(chance(60) ? 300 : 20000);
-        if (chance(3)) p = ONE_OF(262143, 262144, 262145, 65536, 65507, MAX_PAYLOAD - below(100));
+        if (chance(3)) p = ONE_OF(262145, 1048575, 1048576, 1048577, 65536, 65507, MAX_PAYLOAD - below(100));
         u64 sane = m >= 96 && m <= 65507 ? m : 96;
         if (chance(30)) p = sane - 9 - (c < 64 ? c : 63) + below(3) - 1;
         u32 datagrams = 1, length = 0;
         static u8 scratch[70000];
         u32 refusal = ref_cut(name_bytes, c, payload_copy, p, 0, m, 0, scratch, sizeof scratch, &datagrams, &length);
         if (refusal != 0) datagrams = 1;
-        u64 index = chance(80) ? below(datagrams) : ONE_OF(0, datagrams - 1, datagrams, datagrams + 1, 255, 256, 1ULL << 32, ~0ULL);
+        u64 index = chance(80) ? below(datagrams) : ONE_OF(0, datagrams - 1, datagrams, datagrams + 1, 1023, 1024, 1ULL << 32, ~0ULL);
         struct cut_call call = {name_bytes, c, p, m, index, sane, (u32) (chance(20) ? ONE_OF(0, 0xffffffff) : random_64())};
         length = (u32) sane;
         ref_cut(name_bytes, c, payload_copy, p, 0, m, index, scratch, sizeof scratch, &datagrams, &length);
@@ -442,9 +442,9 @@ static void cut_random(int times) {
 
 static void cut_limits(void) {
     fill_name(name_bytes, 63);
-    static const u64 payloads[] = {0, 1, 262143, 262144, 262145};
+    static const u64 payloads[] = {0, 1, 1048575, 1048576, 1048577};
     static const u64 ms[] = {0, 95, 96, 1043, 1044, 1045, 1046, 1047, 1048, 65506, 65507, 65508, 65535, 1ULL << 32};
-    static const u64 indexes[] = {0, 1, 4, 250, 255, 256, 257, 1ULL << 32, ~0ULL};
+    static const u64 indexes[] = {0, 1, 4, 1018, 1023, 1024, 1025, 1ULL << 32, ~0ULL};
     for (int i = 0; i < 5; i++)
         for (int j = 0; j < 14; j++)
             for (int x = 0; x < 9; x++)
@@ -458,9 +458,9 @@ static void joins(void) {
     for (u64 p = 0; p < 500; p++) try_join(4, p, 96);
     for (int i = 0; i < 300; i++) try_join(between(1, 63), below(3000), between(96, 400));
     for (int i = 0; i < 30; i++) try_join(between(1, 63), between(65000, 66000), between(1400, 65507));
-    try_join(4, 19451, 96);
-    try_join(63, 262144, 1100);
-    try_join(1, 262144, 65507);
+    try_join(4, 77819, 96);
+    try_join(63, 1048576, 1100);
+    try_join(1, 1048576, 65507);
     try_join(63, 0, 96);
 }
 
@@ -490,8 +490,8 @@ static void paper(void) {
     paper_cut(84, 1, PAIR(2, 20 + 13));
     paper_cut(147, 1, PAIR(2, 96));
     paper_cut(148, 2, PAIR(3, 20 + 1));
-    paper_cut(19451, 255, PAIR(256, 96));
-    paper_cut(19452, 0, 11);
+    paper_cut(77819, 1023, PAIR(1024, 96));
+    paper_cut(77820, 0, 11);
     paper_cut(83, 1, 12);
 }
 
@@ -508,15 +508,17 @@ static int kept(const char *what, u64 answer, u32 refusal, u64 written, const u8
     return good;
 }
 
+static u64 edge_limit(void) { return chance(40) ? below(MAX_PAYLOAD + 1) : ONE_OF(0, 1, 127, 128, 16384, 1048575, 1048576, 1048577, 1ULL << 32, ~0ULL); }
+
 static void try_begin(u64 room) {
     u8 *out = region_lend(&lent_out, room, chance(50));
     region_lend(&lent_datagram, 0, 0);
     memset(out, 0x5a, room);
     memset(expected_out, 0x5a, room);
-    u64 written = 0;
-    u32 refusal = ref_log_begin(expected_out, room, &written);
+    u64 written = 0, limit = edge_limit();
+    u32 refusal = ref_log_begin(expected_out, room, limit, &written);
     doing = "qm_log_begin";
-    count(kept(doing, qm_log_begin(out, room), refusal, written, out, room));
+    count(kept(doing, qm_log_begin(out, room, limit), refusal, written, out, room));
 }
 
 static u64 edge_number(void) {
@@ -536,7 +538,7 @@ static void try_append(u64 room, u64 at, u64 length) {
 }
 
 static void appends(int times) {
-    for (u64 room = 0; room < 5; room++) try_begin(room);
+    for (u64 room = 0; room < 600; room++) try_begin(room % 12);
     for (int i = 0; i < times; i++) {
         u64 length = chance(90) ? below(200) : ONE_OF(0, 127, 128, 16383, 16384, 65534, 65535, 65536, 65540);
         u64 at = chance(80) ? below(60) : ONE_OF(0, 1, 69999, 70000, 70001, 1ULL << 32, ~0ULL - 20, ~0ULL);
@@ -548,13 +550,13 @@ static void appends(int times) {
 /* A flight from its first byte on, each entry where the one before ended, until there is no room. */
 static void flights(int times) {
     for (int i = 0; i < times; i++) {
-        u64 room = between(1, 60000), at = 0, there = 0, written = 0;
+        u64 room = between(1, 60000), at = 0, there = 0, written = 0, limit = edge_limit();
         u8 *out = region_lend(&lent_out, room, chance(50));
         memset(out, 0x5a, room);
         memset(expected_out, 0x5a, room);
         doing = "qm_log_begin";
-        u64 answer = qm_log_begin(out, room);
-        u32 refusal = ref_log_begin(expected_out, room, &written);
+        u64 answer = qm_log_begin(out, room, limit);
+        u32 refusal = ref_log_begin(expected_out, room, limit, &written);
         while (refusal == 0) {
             at += QM_LOG_LENGTH(answer);
             there += written;
@@ -595,7 +597,7 @@ int main(void) {
     flights(200);
     all_met("qm_read_datagram", reader_gave, (const int[]) {0, 1, 2, 3, 4, 5, 6, 7, 13, -1});
     all_met("qm_cut", cutter_gave, (const int[]) {0, 4, 6, 10, 11, 12, 13, -1});
-    all_met("qm_log_begin and qm_log_append", flight_gave, (const int[]) {0, 13, 42, -1});
+    all_met("qm_log_begin and qm_log_append", flight_gave, (const int[]) {0, 13, 42, 45, -1});
     printf("%llu passed, %llu failed\n", passed, failed);
     return failed != 0;
 }

@@ -1,8 +1,8 @@
 """An LMCP reader and writer over series PITSURV, versions 1 and 2, written from the paper: the second opinion for lmcp_list and lmcp_bytes."""
 import struct
 
-LIMIT = 262144
-HOLDS = 262144  # numbers that lmcp_bytes holds
+LIMIT = 1048576
+HOLDS = 262144  # numbers that each program holds
 SERIES = b"PITSURV\0"
 ANY = "LmcpObject"
 
@@ -199,11 +199,16 @@ def answer(word, f, *args):
         return f"refused {e}"
 
 
+def held(numbers):
+    """13, the last refusal, where the program cannot hold so many."""
+    return numbers if len(numbers) <= HOLDS else refuse(13)
+
+
 def message_lines(stream):
     at, answers = 0, []
     while len(stream) - at >= 4 and len(stream) - at - 4 >= int.from_bytes(stream[at:at + 4], "big"):
         n = int.from_bytes(stream[at:at + 4], "big")
-        answers.append(answer("list", lambda m: " ".join(map(str, read(m))), stream[at + 4:at + 4 + n]))
+        answers.append(answer("list", lambda m: " ".join(map(str, held(read(m)))), stream[at + 4:at + 4 + n]))
         at += 4 + n
     return lines(answers, at < len(stream))
 

@@ -1,4 +1,4 @@
-"""The log of document 02, L1, written from the paper alone, in plain Python, and what the programs over a log write."""
+"""The log of document 02, L1 and L10, written from the papers alone, in plain Python, and what the programs over a log write."""
 import os
 import sys
 
@@ -7,6 +7,9 @@ from receiver import Receiver  # noqa: E402
 
 HOLDS = 4194304
 STORE = 2097152
+LIMIT = 1048576  # of a log's payload limit
+FIRST = (262144, 256)  # what edition 1 is read as: payload limit, fragments
+FRAGMENTS = 1024  # of edition 2
 
 
 class Refused(Exception):
@@ -30,7 +33,13 @@ def entry_bytes(sender, tick, datagram):
     return seven(sender) + seven(tick) + seven(len(datagram)) + datagram
 
 
-def log_of(entries):
+def log_of(entries, limit=LIMIT):
+    """A log as it is written: edition 2, and its payload limit."""
+    return b"\x02" + seven(limit) + b"".join(entry_bytes(*e) for e in entries)
+
+
+def first_log_of(entries):
+    """A log of edition 1."""
     return b"\x01" + b"".join(entry_bytes(*e) for e in entries)
 
 
@@ -51,14 +60,33 @@ def number_at(b, at):
     return sum((g & 127) << (7 * i) for i, g in enumerate(groups)), end + 1
 
 
+def head_in(b):
+    """Where the entries begin, and the limits of their fragments: the payload limit and the most fragments."""
+    if not b:
+        raise Refused(43)
+    if b[0] == 1:
+        return 1, FIRST
+    if b[0] != 2:
+        raise Refused(40)
+    limit, at = number_at(b, 1)
+    if limit > LIMIT:
+        raise Refused(45)
+    return at, (limit, FRAGMENTS)
+
+
+def limits_in(b):
+    """The limits, where the head is not refused."""
+    try:
+        return head_in(b)[1]
+    except Refused:
+        return 0, 0
+
+
 def entries_in(b):
     """The entries, and the refusal that ended them or None."""
-    if not b:
-        return [], 43
-    if b[0] != 1:
-        return [], 40
-    at, entries = 1, []
+    entries = []
     try:
+        at, _ = head_in(b)
         while at < len(b):
             sender, next_ = number_at(b, at)
             tick, next_ = number_at(b, next_)
@@ -92,7 +120,7 @@ def replay_log(b):
     if len(b) > HOLDS:
         return f"longer than {HOLDS} bytes\n"
     entries, refusal = entries_in(b)
-    receiver = Receiver(STORE)
+    receiver = Receiver(STORE, *limits_in(b))
     lines = [f"{i + 1} {receiver.receive(s, d)}" for i, (s, t, d) in enumerate(entries)]
     return "\n".join(lines + [last_line(entries, refusal)]) + "\n"
 

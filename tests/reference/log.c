@@ -1,4 +1,4 @@
-/* The log's writer, in plain C, written from document 02, L1. */
+/* The log's writer, in plain C, written from document 02, L1 and L10. */
 
 #include "reference.h"
 
@@ -10,10 +10,14 @@ static u64 put_seven(u8 *at, u64 v) {
     return n;
 }
 
-u32 ref_log_begin(u8 *out, u64 room, u64 *written) {
-    if (room < 1) return 13;
-    out[0] = 1;
-    *written = 1;
+/* Edition 2, and its payload limit. */
+u32 ref_log_begin(u8 *out, u64 room, u64 limit, u64 *written) {
+    u8 head[11] = {2};
+    if (limit > MAX_PAYLOAD) return 45;
+    u64 n = 1 + put_seven(head + 1, limit);
+    if (room < n) return 13;
+    memcpy(out, head, n);
+    *written = n;
     return 0;
 }
 

@@ -59,7 +59,7 @@ static int slot_of(const struct ref_receiver *r, struct ref_key key) {
     return -1;
 }
 
-static u32 *ledger_of(struct ref_receiver *r, int s, u32 k) { return r->ledger + 2 * (256 * s + (int) k); }
+static u32 *ledger_of(struct ref_receiver *r, int s, u32 k) { return r->ledger + 2 * (MAX_FRAGMENTS * s + (int) k); }
 
 /* The same fragment as the held one: offset, length, data and, of fragment 0, the name. */
 static int same_fragment(struct ref_receiver *r, int s, const u8 *d, const struct ref_header *h) {

@@ -18,8 +18,8 @@ int memcmp(const void *a, const void *b, unsigned long n);
 enum {
     MAX_DATAGRAM = 65535,
     MAX_NAME = 63,
-    MAX_PAYLOAD = 262144,
-    MAX_FRAGMENTS = 256,
+    MAX_PAYLOAD = 1048576,
+    MAX_FRAGMENTS = 1024,
     MIN_M = 96,
     MAX_M = 65507,
     SMALL_MAGIC = 0x4c433032,
@@ -58,7 +58,7 @@ u32 ref_cut(const u8 *name, u64 c, const u8 *payload, u64 p, u32 sequence, u64 m
 
 /* ---- the log's writer: 0 and how many bytes it wrote, or the refusal and nothing written */
 
-u32 ref_log_begin(u8 *out, u64 room, u64 *written);
+u32 ref_log_begin(u8 *out, u64 room, u64 limit, u64 *written);
 u32 ref_log_append(u8 *out, u64 room, u64 at, u64 sender, u64 tick, const u8 *d, u64 length, u64 *written);
 
 /* ---- the receiver */
@@ -134,7 +134,7 @@ enum ref_seen ref_watch(struct ref_watch *w, u64 sender, u32 sequence, u64 *by);
 
 /* ---- LMCP */
 
-enum { MAX_MESSAGE = 262144, DEEPEST = 16, TYPES = 7, VERSIONS = 2 };
+enum { MAX_MESSAGE = 1048576, DEEPEST = 16, TYPES = 7, VERSIONS = 2 };
 
 /* Answers 0 and the numbers written to the list, or the refusal. The list has room for any message within the limit. */
 u32 ref_read_message(const u8 *message, u64 length, i64 *list, u64 *numbers);

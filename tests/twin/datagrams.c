@@ -96,7 +96,7 @@ static u64 some_size(void) {
 
 /* Cuts as our cutter does, or at places taken at random: what the paper calls lawful. */
 static void cut_message(struct message *m) {
-    u64 most = m->size < 256 ? m->size + 1 : 256;
+    u64 most = m->size < MAX_FRAGMENTS ? m->size + 1 : MAX_FRAGMENTS;
     if (chance(40)) {
         u64 size = between(96, chance(70) ? 200 : 3000), room = size - 21 - m->name_length;
         m->count = 1;
@@ -159,7 +159,7 @@ static void move_field(u8 *d, u64 length) {
     u64 f = below(5);
     if (length < 20) return;
     u64 was = ref_number(d + fields[f].at, fields[f].width);
-    u64 to = chance(80) ? was + below(5) - 2 : ONE_OF(0, 1, 255, 256, 257, C, C + 1, 65535, 262144, 262145, 0x80000000, 0xffffffff, 0 - was);
+    u64 to = chance(80) ? was + below(5) - 2 : ONE_OF(0, 1, 256, 257, 1023, 1024, 1025, C, C + 1, 65535, 1048576, 1048577, 0x80000000, 0xffffffff, 0 - was);
     ref_put(d + fields[f].at, fields[f].width, to);
 }
 
@@ -303,7 +303,7 @@ static void small_world(struct stream *s, int datagrams) {
     }
 }
 
-/* A stream of messages in 256 fragments, each in its own order, with the damage at any of them. */
+/* A stream of messages in 1,024 fragments, each in its own order, with the damage at any of them. */
 static void wide_world(struct stream *s, int datagrams) {
     static u8 d[ROOM];
     static struct message m;

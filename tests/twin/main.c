@@ -25,7 +25,7 @@ static const struct program programs[] = {
     {"replay", replay_stream, begin_replay, give_datagram,
      {"kept", "delivered", "delivered, small", "repeat", "kept, emptied", "delivered, emptied"}, {1, 2, 4, 5, 6, 7, 8}},
     {"gaps", gaps_stream, begin_gaps, give_datagram, {"first", "forward", "same", "late", "restarted"}, {1, 2, 4, 5, 6, 7}},
-    {"lmcp_list", list_stream, 0, give_message, {"list"}, {20, 21, 22, 23, 24, 25, 26, 27, 28}},
+    {"lmcp_list", list_stream, 0, give_message, {"list"}, {13, 20, 21, 22, 23, 24, 25, 26, 27, 28}},
     {"lmcp_bytes", bytes_stream, 0, give_list, {"bytes"}, {21, 23, 24, 25, 26, 27, 28, 29}},
 };
 

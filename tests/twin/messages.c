@@ -2,7 +2,7 @@
 
 #include "twin.h"
 
-/* HELD: how many numbers of a list lmcp_bytes holds; docs/DECISIONS.md says what it answers to a longer one. */
+/* HELD: how many numbers each program holds; docs/DECISIONS.md says what lmcp_bytes answers to a longer list. */
 enum { GOOD = FIRST_KIND, LIST_ROOM = 500000, MESSAGE_ROOM = 15 * LIST_ROOM + 64, HELD = 262144 };
 
 static i64 list[LIST_ROOM];
@@ -85,16 +85,24 @@ static void chain(int notes) {
     else some_object((int) between(1, TYPES), notes + 1);
 }
 
-/* Four Notes with texts so long that the whole message has this length, 262,144 or near it. */
+/* A PitList with so many marks, each with its place, and so many nulls that the whole message has this length, 1,048,576 or near it. */
 static void sized(u64 whole) {
-    u64 left = whole - 13 - 4 * 17;
-    for (int i = 0; i < 4; i++) {
-        u64 length = left < 65535 ? left : 65535;
-        tell(6);
-        text(length);
-        left -= length;
+    u64 mark = version == 2 ? 47 : 45, left = whole - 12 - 15 - 4 - (version == 2 ? 4 : 2);
+    u64 full = left / mark - below(20), nulls = left - full * mark;
+    tell(5);
+    tell((i64) below(4294967296ULL));
+    tell((i64) (full + nulls));
+    for (u64 i = 0; i < full; i++) {
+        tell(4);
+        tell((i64) i);
+        tell((i64) (i % 2));
+        tell(2);
+        tell(some_plain('i'));
+        tell(some_plain('i'));
+        tell(some_plain('h'));
+        if (version == 2) tell(some_plain('h'));
     }
-    tell(0);
+    while (nulls-- > 0) tell(0);
 }
 
 /* A PitList of many marks, none of them or some null. */
@@ -127,14 +135,14 @@ static void some_list(void) {
 
 /* The few large ones, in turn. */
 static void large_list(int turn) {
-    static const u64 wholes[] = {262140, 262143, 262144, 262145, 262146, 262200};
+    static const u64 wholes[] = {1048570, 1048575, 1048576, 1048577, 1048578, 1048700};
     begin();
     if (turn < 6) sized(wholes[turn]);
     else if (turn < 9) marks(between(5000, 14000));
     else if (turn < 11) marks(65535);
     else if (turn == 12) {
         /* more than lmcp_bytes holds, whole within what it holds */
-        sized(262200);
+        sized(1048700);
         while (numbers < HELD + 20) tell(0);
     } else if (turn > 12) {
         /* and not whole within it; in the last with a fault */
@@ -238,7 +246,7 @@ static void damage_frame(u64 root) {
     case 4: message[below(4)] ^= (u8) (1 << below(8)); break;
     case 5: message[built++] = 0; break;
     case 6: message[below(built)] ^= (u8) (1 << below(8)); break;
-    default: ref_put(message + 4, 4, ONE_OF(0, 1, 0xffffffff, 0xfffffff4, root + 12, 262144)); break;
+    default: ref_put(message + 4, 4, ONE_OF(0, 1, 0xffffffff, 0xfffffff4, root + 12, 1048576)); break;
     }
 }
 
@@ -262,6 +270,7 @@ void give_message(struct stream *s, const u8 *bytes, u64 length) {
     fwrite(bytes, 1, length, s->in);
     s->number++;
     u32 refusal = ref_read_message(bytes, length, read, &count);
+    if (refusal == 0 && count > HELD) refusal = 13;   /* the last: the program's list is too short */
     if (refusal != 0) {
         fprintf(s->expected, "%llu refused %u\n", s->number, refusal);
         met[refusal]++;
@@ -289,7 +298,21 @@ static void one_message(struct stream *s) {
     expect_list(s);
 }
 
+/* As many numbers as lmcp_list holds, or up to three more: a PitList of nulls, of version 2, whose count has 4 bytes. */
+static void many_numbers(struct stream *s, u64 more) {
+    begin();
+    version = 2;
+    list[0] = 2;
+    tell(5);
+    tell((i64) below(4294967296ULL));
+    tell((i64) (HELD - 4 + more));
+    while (numbers < HELD + more) tell(0);
+    build();
+    expect_list(s);
+}
+
 static void large_messages(struct stream *s) {
+    for (u64 i = 0; i < 28; i++) many_numbers(s, i % 8 == 0 ? 0 : between(1, 3));
     for (int turn = 0; turn < LARGE; turn++) {
         large_list(turn);
         build();
@@ -463,6 +486,12 @@ void bytes_stream(struct stream *s, int which) {
     for (int turn = 0; turn < 3; turn++) {
         begin();
         marks(between(9000, 13000));
+        expect_bytes(s);
+    }
+    /* one over the longest message in each, or a few bytes around it */
+    for (int turn = 0; turn < 2; turn++) {
+        begin();
+        sized(turn == 0 ? MAX_MESSAGE + 1 : between(MAX_MESSAGE - 1, MAX_MESSAGE + 60));
         expect_bytes(s);
     }
     for (int i = 0; i < 15000; i++) one_list(s);

@@ -2,7 +2,8 @@
 from receiver import MAX_PAYLOAD, cut, name_in, read
 
 CUT, PARTS, WATCH, OPEN, RECEIVE, FORGET = range(1, 7)
-LEDGER = 4096
+LEDGER = 16384
+MAX_FRAGMENTS = 1024
 STORE = 64
 FEW, RIGHT, MANY = range(3)  # words or bytes lent: one too few, as many as must be, one more
 NONE, SLOT_SIZE, SIZE, COUNT, KEYS = range(5)  # what a word of a state holds
@@ -18,7 +19,7 @@ def cutter(letter, c, p, m, k, room):
     if p > MAX_PAYLOAD:
         return 6
     made = cut(7, name, b"A" * p, m)
-    if len(made) > 256:
+    if len(made) > MAX_FRAGMENTS:
         return 11
     if k >= len(made):
         return 12
@@ -54,7 +55,7 @@ def unsound(words, names, a, x, b, y):
     """Refusal 9 of what is lent and of a state that is fresh but for two words."""
     held = {SLOT_SIZE: STORE // 8, SIZE: 0, COUNT: 0, KEYS: 0}
     held.update({a: x, b: y})
-    return words != RIGHT or names != RIGHT, held[KEYS] > 32, held[SLOT_SIZE] != STORE // 8, held[COUNT] > 256 or (held[COUNT] > 0 and held[SIZE] > STORE // 8)
+    return words != RIGHT or names != RIGHT, held[KEYS] > 32, held[SLOT_SIZE] != STORE // 8, held[COUNT] > MAX_FRAGMENTS or (held[COUNT] > 0 and held[SIZE] > STORE // 8)
 
 
 def receive_line(words, names, store, ledger, a, x, b, y):
@@ -71,27 +72,27 @@ LINES = {CUT: cut_line, PARTS: parts_line, WATCH: watch_line, OPEN: open_line, R
 
 def cases():
     t = ord("T")
-    # M 95, 96, 65,507 and 65,508; p 262,144 and one more; m8; 256 fragments and one byte more
-    d = [(CUT, t, 4, p, m, k, 65507) for p, m, k in [(0, 95, 0), (0, 96, 0), (65494, 65507, 0), (65495, 65507, 0), (65495, 65507, 1), (0, 65508, 0), (262144, 65507, 4), (262145, 65507, 0)]]
-    d += [(CUT, t, 4, p, 96, k, 65507) for p, k in [(83, 0), (83, 1), (84, 0), (84, 1), (84, 2), (147, 1), (147, 2), (148, 2), (148, 3), (19451, 0), (19451, 255), (19451, 256), (19452, 0)]]
+    # M 95, 96, 65,507 and 65,508; p 1,048,576 and one more; m8; 1,024 fragments and one byte more
+    d = [(CUT, t, 4, p, m, k, 65507) for p, m, k in [(0, 95, 0), (0, 96, 0), (65494, 65507, 0), (65495, 65507, 0), (65495, 65507, 1), (0, 65508, 0), (1048576, 65507, 16), (1048576, 65507, 17), (1048577, 65507, 0)]]
+    d += [(CUT, t, 4, p, 96, k, 65507) for p, k in [(83, 0), (83, 1), (84, 0), (84, 1), (84, 2), (147, 1), (147, 2), (148, 2), (148, 3), (19452, 256), (77819, 0), (77819, 1023), (77819, 1024), (77820, 0)]]
     # names of 0, 1, 63 and 64 bytes, each end of a name's bytes; an output one too short, of a small one and of a fragment
     d += [(CUT, t, c, 5, 96, 0, 65507) for c in (0, 1, 63, 64)] + [(CUT, b, 2, 5, 96, 0, 65507) for b in (0, 31, 32, 126, 127, 128)]
     d += [(CUT, t, 4, 9, 96, 0, o) for o in (21, 22)] + [(CUT, t, 4, 84, 96, 1, o) for o in (32, 33)]
     # of two that could be given the first: 10 before 4, 4 before 6, 6 before 11, 11 before 12, 12 before 13
-    d += [(CUT, t, 64, 0, 95, 0, 65507), (CUT, t, 0, 262145, 96, 0, 65507), (CUT, t, 4, 262145, 96, 0, 65507), (CUT, t, 4, 19452, 96, 300, 65507), (CUT, t, 4, 9, 96, 1, 0)]
+    d += [(CUT, t, 64, 0, 95, 0, 65507), (CUT, t, 0, 1048577, 96, 0, 65507), (CUT, t, 4, 1048577, 96, 0, 65507), (CUT, t, 4, 77820, 96, 1100, 65507), (CUT, t, 4, 9, 96, 1, 0)]
     # the parts of small ones and of fragments, whole and with the end cut off, down to no datagram
     d += [(PARTS, t, 4, 3, 96, 0, f) for f in (65507, 15, 14, 13, 12, 8, 7, 0)] + [(PARTS, t, 1, 90, 96, k, 65507) for k in (0, 1)] + [(PARTS, t, 1, 90, 96, 1, f) for f in (36, 35, 19)]
     # the watch: 15, 16 and 17 claimed, senders in and out of it, the turn of the signed difference, late by 1,024 and 1,025
     d += [(WATCH, w, 5, s, 6) for w in (0, 1, 15, 16, 17, 2**32, 2**64 - 1) for s in (1, 15, 16, 17)]
     d += [(WATCH, 16, last, 16, n) for last, n in [(5, 5), (5, 4), (5, 3), (5, 2**31 + 4), (5, 2**31 + 5), (5, 2**31 + 6), (2**32 - 1, 1), (0, 2**31), (0, 2**32 - 1), (2**31, 0), (2000, 976), (2000, 975)]]
     # slot sizes of stores at which they turn; what is lent one too short and one too long, one by one
-    d += [(OPEN, RIGHT, RIGHT, s) for s in (0, 7, 8, 15, 16, 65535, 65536, 2097151, 2097152, 2097160, 2**63)]
+    d += [(OPEN, RIGHT, RIGHT, s) for s in (0, 7, 8, 15, 16, 65535, 65536, 2097152, 8388607, 8388608, 8388616, 2**63)]
     d += [(OPEN, w, n, 64) for w, n in [(FEW, RIGHT), (MANY, RIGHT), (RIGHT, FEW), (RIGHT, MANY)]]
     none = (NONE, 0, NONE, 0)
     d += [(RECEIVE, RIGHT, RIGHT, STORE, LEDGER) + none]
-    d += [(RECEIVE, w, n, s, l) + none for w, n, s, l in [(FEW, RIGHT, 64, 4096), (MANY, RIGHT, 64, 4096), (RIGHT, FEW, 64, 4096), (RIGHT, MANY, 64, 4096), (RIGHT, RIGHT, 63, 4096), (RIGHT, RIGHT, 65, 4096), (RIGHT, RIGHT, 72, 4096), (RIGHT, RIGHT, 64, 4095), (RIGHT, RIGHT, 64, 4097)]]
-    # states: another slot size, an open slot's P at the slot size and over, its n at 256 and over, a free slot's P, 32 and 33 keys of a sender
-    words = [(SLOT_SIZE, 7, NONE, 0), (SLOT_SIZE, 9, NONE, 0), (SIZE, 8, COUNT, 1), (SIZE, 9, COUNT, 1), (SIZE, 8, COUNT, 256), (SIZE, 8, COUNT, 257), (SIZE, 9, COUNT, 0), (KEYS, 32, NONE, 0), (KEYS, 33, NONE, 0), (KEYS, 2**64 - 1, NONE, 0)]
+    d += [(RECEIVE, w, n, s, l) + none for w, n, s, l in [(FEW, RIGHT, 64, LEDGER), (MANY, RIGHT, 64, LEDGER), (RIGHT, FEW, 64, LEDGER), (RIGHT, MANY, 64, LEDGER), (RIGHT, RIGHT, 63, LEDGER), (RIGHT, RIGHT, 65, LEDGER), (RIGHT, RIGHT, 72, LEDGER), (RIGHT, RIGHT, 64, 4096), (RIGHT, RIGHT, 64, 16383), (RIGHT, RIGHT, 64, 16385)]]
+    # states: another slot size, an open slot's P at the slot size and over, its n at 1,024 and over, a free slot's P, 32 and 33 keys of a sender
+    words = [(SLOT_SIZE, 7, NONE, 0), (SLOT_SIZE, 9, NONE, 0), (SIZE, 8, COUNT, 1), (SIZE, 9, COUNT, 1), (SIZE, 8, COUNT, 1024), (SIZE, 8, COUNT, 1025), (SIZE, 9, COUNT, 0), (KEYS, 32, NONE, 0), (KEYS, 33, NONE, 0), (KEYS, 2**64 - 1, NONE, 0)]
     d += [(RECEIVE, RIGHT, RIGHT, STORE, LEDGER) + w for w in words] + [(FORGET, RIGHT, RIGHT) + w for w in [none] + words]
     return d + [(FORGET, w, n) + none for w, n in [(FEW, RIGHT), (MANY, RIGHT), (RIGHT, FEW), (RIGHT, MANY)]]
 

@@ -1,6 +1,7 @@
 """The receiver of document 01, written from the paper alone, in plain Python: the datagram reader, the step list, the replay program's lines."""
 
-MAX_PAYLOAD = 262144
+MAX_PAYLOAD = 1048576
+MAX_FRAGMENTS = 1024
 SMALL = bytes.fromhex("4c433032")
 FRAGMENT = bytes.fromhex("4c433033")
 
@@ -17,8 +18,8 @@ def name_in(rest):
     return rest[:end] if all(ord(c) >= 32 and ord(c) != 127 for c in text) else None
 
 
-def read(d, limit):
-    """What a datagram says: a refusal's number, or a dictionary."""
+def read(d, limit, most=MAX_FRAGMENTS):
+    """What a datagram says, of payloads of at most limit bytes in at most so many fragments: a refusal's number, or a dictionary."""
     if len(d) > 65535:
         return 3
     if len(d) < 8:
@@ -34,7 +35,7 @@ def read(d, limit):
         return 1
     size, offset = int.from_bytes(d[8:12], "big"), int.from_bytes(d[12:16], "big")
     k, n = int.from_bytes(d[16:18], "big"), int.from_bytes(d[18:20], "big")
-    if n == 0 or n > 256 or k >= n:
+    if n == 0 or n > most or k >= n:
         return 5
     if size > limit:
         return 6
@@ -52,8 +53,11 @@ def read(d, limit):
 
 
 class Receiver:
-    def __init__(self, store):
-        self.limit = min(store // 8, MAX_PAYLOAD)
+    """Over a store of so many bytes; a log's limits, where there is one, bind beside the slot size (L10)."""
+
+    def __init__(self, store, payload=MAX_PAYLOAD, fragments=MAX_FRAGMENTS):
+        self.limit = min(store // 8, MAX_PAYLOAD, payload)
+        self.most = min(MAX_FRAGMENTS, fragments)
         self.slots = [None] * 8
         self.opened = 0
         self.memory = {}  # the sequences of each sender, the sender of the latest delivery last
@@ -76,7 +80,7 @@ class Receiver:
 
     def receive(self, sender, d):
         """The answer as the words of a line."""
-        r = read(d, self.limit)
+        r = read(d, self.limit, self.most)
         if isinstance(r, int):
             return f"refused {r}"
         key = (sender, r["sequence"])

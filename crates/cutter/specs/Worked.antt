@@ -32,14 +32,14 @@ cases =
     ∷ case (cutAnswer bad [] 95 0 96) (refused 10)
     ∷ case (cutAnswer bad [] 96 9 0) (refused 4)
     -- P comes before the number of fragments, that before the one asked for, and that before the room
-    ∷ case (tileOf 262_144 999 0) (refused 11)
-    ∷ case (tileOf 262_145 999 0) (refused 6)
-    ∷ case (tileOf 19_452 256 0) (refused 11)
-    ∷ case (tileOf 19_451 256 0) (refused 12)
-    ∷ case (tileOf 19_451 255 0) (refused 13)
-    -- 256 fragments: the last has 96 bytes, and room for 95 is too short
-    ∷ case (tileOf 19_451 255 95) (refused 13)
-    ∷ case (tileOf 19_451 255 96) (gives 256 96)
+    ∷ case (tileOf 1_048_576 9_999 0) (refused 11)
+    ∷ case (tileOf 1_048_577 9_999 0) (refused 6)
+    ∷ case (tileOf 77_820 1_024 0) (refused 11)
+    ∷ case (tileOf 77_819 1_024 0) (refused 12)
+    ∷ case (tileOf 77_819 1_023 0) (refused 13)
+    -- 1,024 fragments: the last has 96 bytes, and room for 95 is too short
+    ∷ case (tileOf 77_819 1_023 95) (refused 13)
+    ∷ case (tileOf 77_819 1_023 96) (gives 1_024 96)
     -- m8: small up to 83 bytes, then two fragments up to 147, then three
     ∷ case (tileOf 83 0 96) (gives 1 96)
     ∷ case (tileOf 84 0 96) (gives 2 96)

@@ -1,13 +1,13 @@
--- The numbers of document 01 that bound datagrams. Nothing else in any specs/ writes them out.
+-- The numbers of documents 01 and 02 (L10) that bound datagrams. Nothing else in any specs/ writes them out.
 use Prim.Native.Nat.{ℕ}
 
 -- the largest payload
 abbrev pub maxPayload : ℕ
-maxPayload = 262_144
+maxPayload = 1_048_576
 
 -- the most fragments of a message
 abbrev pub maxFragments : ℕ
-maxFragments = 256
+maxFragments = 1_024
 
 -- the longest datagram
 abbrev pub maxDatagram : ℕ

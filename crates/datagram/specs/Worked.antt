@@ -46,16 +46,16 @@ cases =
     ∷ case (smallOf (0xc1 ∷ 0xbf ∷ 0 ∷ [])) (refused 4)
     ∷ case (smallOf (0xed ∷ 0xa0 ∷ 0x80 ∷ 0 ∷ [])) (refused 4)
     ∷ case (smallOf (0xf4 ∷ 0x90 ∷ 0x80 ∷ 0x80 ∷ 0 ∷ [])) (refused 4)
-    -- P 262,144 and 262,145
-    ∷ case (fragmentOf 262_144 0 0 2 (0x50 ∷ 0 ∷ 0x41 ∷ [])) (fragment (begun 262_144))
-    ∷ case (fragmentOf 262_145 0 0 2 (0x50 ∷ 0 ∷ 0x41 ∷ [])) (refused 6)
-    -- n 256 and 257; n 0; k the same as n, which comes before P
-    ∷ case (fragmentOf 3 1 1 256 (0x42 ∷ [])) (fragment (later 256))
-    ∷ case (fragmentOf 3 1 1 257 (0x42 ∷ [])) (refused 5)
+    -- P 1,048,576 and 1,048,577
+    ∷ case (fragmentOf 1_048_576 0 0 2 (0x50 ∷ 0 ∷ 0x41 ∷ [])) (fragment (begun 1_048_576))
+    ∷ case (fragmentOf 1_048_577 0 0 2 (0x50 ∷ 0 ∷ 0x41 ∷ [])) (refused 6)
+    -- n 1,024 and 1,025; n 0; k the same as n, which comes before P
+    ∷ case (fragmentOf 3 1 1 1_024 (0x42 ∷ [])) (fragment (later 1_024))
+    ∷ case (fragmentOf 3 1 1 1_025 (0x42 ∷ [])) (refused 5)
     ∷ case (fragmentOf 3 1 0 0 (0x42 ∷ [])) (refused 5)
-    ∷ case (fragmentOf 262_145 1 2 2 (0x42 ∷ [])) (refused 5)
+    ∷ case (fragmentOf 1_048_577 1 2 2 (0x42 ∷ [])) (refused 5)
     -- fragment 0 from offset 1; P comes before the name, and the name before the form
     ∷ case (fragmentOf 3 1 0 2 (0x50 ∷ 0 ∷ 0x41 ∷ [])) (refused 7)
-    ∷ case (fragmentOf 262_145 0 0 2 (127 ∷ 0 ∷ 0x41 ∷ [])) (refused 6)
+    ∷ case (fragmentOf 1_048_577 0 0 2 (127 ∷ 0 ∷ 0x41 ∷ [])) (refused 6)
     ∷ case (fragmentOf 3 1 0 2 (127 ∷ 0 ∷ 0x41 ∷ [])) (refused 4)
     ∷ []

@@ -10,9 +10,9 @@ ghost use Rattle.datagram.specs.Limits.{maxDatagram, maxName};
 ghost use Rattle.datagram.specs.Read.{goodStart, goodForm, formed, readSmall, readFragment, readDatagram, namePlace, payloadPlace, nameOf, payloadOf, partOf};
 
 // The largest payload, the most fragments of a message, the longest datagram and the longest name.
-pub const MAX_PAYLOAD: usize = 262144;
+pub const MAX_PAYLOAD: usize = 1048576;
 
-pub const MAX_FRAGMENTS: u32 = 256;
+pub const MAX_FRAGMENTS: u32 = 1024;
 
 pub const MAX_DATAGRAM: usize = 65535;
 

@@ -9,11 +9,12 @@ use lib.ListN.{length}
 use borrow.Author.Tests.{ltb-false}
 use Rattle.wire.specs.Choice.{pick}
 use Rattle.wire.proofs.Once.{one-answer}
-use Rattle.datagram.specs.Limits.{maxDatagram}
-use Rattle.log.specs.Entries.{Entry, headBytes, entryBytes}
+use Rattle.datagram.specs.Limits.{maxDatagram, maxPayload}
+use Rattle.log.specs.Editions.{edition2, headBytes}
+use Rattle.log.specs.Entries.{Entry, entryBytes}
 use Rattle.log.specs.Writes.{Answer, wrote, refused, says, fitted, beginAnswer, appendAnswer, output, Began, Appended}
 use Rattle.log.specs.declared.writer.Written.{Written}
-use Rattle.log.proofs.Writing.{entry-most}
+use Rattle.log.proofs.Writing.{entry-most, seven-most}
 use Rattle.host.specs.Flight.{lengthCode, Spans, BeginTold, AppendTold, logLength}
 
 spans-fitted : (n at : ℕ) (b : List ℕ) → length b < 2 ^ 32 → Spans at (fitted n at b)
@@ -23,9 +24,13 @@ spans-fitted n at b h = by-test (ltb n (at + length b))
     by-test true = tt
     by-test false = (omega arith, omega arith)
 
-pub spans-begin : (n : ℕ) → Spans 0 (beginAnswer n)
+pub spans-begin : (n limit : ℕ) → Spans 0 (beginAnswer n limit)
 unfolding beginAnswer
-spans-begin n = spans-fitted n 0 headBytes (omega arith)
+spans-begin n limit = by-test (ltb maxPayload limit)
+  where
+    by-test : (t : Bool) → Spans 0 (pick t (refused 45) (fitted n 0 (headBytes (edition2 limit))))
+    by-test true = tt
+    by-test false = spans-fitted n 0 (headBytes (edition2 limit)) (omega (arith, seven-most limit))
 
 pub spans-append : (n at : ℕ) (e : Entry) → Spans at (appendAnswer n at e)
 unfolding appendAnswer
@@ -35,16 +40,16 @@ spans-append n at e = by-test (ltb maxDatagram (length (e .datagram))) refl
     by-test true p = tt
     by-test false p = spans-fitted n at (entryBytes e) (omega (arith, entry-most e, ltb-false maxDatagram (length (e .datagram)) p))
 
-pub begin-spans : (out : List ℕ) (r : Written) (out′ : List ℕ) → Began out r out′ → Spans 0 (says r)
-begin-spans out r out′ k = subst (Spans 0) (sym (k .answer)) (spans-begin (length out))
+pub begin-spans : (out : List ℕ) (limit : ℕ) (r : Written) (out′ : List ℕ) → Began out limit r out′ → Spans 0 (says r)
+begin-spans out limit r out′ k = subst (Spans 0) (sym (k .answer)) (spans-begin (length out) limit)
 
 pub append-spans : (out : List ℕ) (at : ℕ) (e : Entry) (r : Written) (out′ : List ℕ) → Appended out at e r out′ → Spans at (says r)
 append-spans out at e r out′ k = subst (Spans at) (sym (k .answer)) (spans-append (length out) at e)
 
-pub begin-told : (out : List ℕ) (r : Written) (out′ : List ℕ) (x : ℕ) → Began out r out′ → x ≡ lengthCode 0 (says r) → BeginTold out x out′
-begin-told out r out′ x k e = record {
+pub begin-told : (out : List ℕ) (limit : ℕ) (r : Written) (out′ : List ℕ) (x : ℕ) → Began out limit r out′ → x ≡ lengthCode 0 (says r) → BeginTold out limit x out′
+begin-told out limit r out′ x k e = record {
   gave = e ∙ ap (lengthCode 0) (k .answer);
-  left = k .left ∙ ap (λ (a : Answer). output a out 0 headBytes) (k .answer);
+  left = k .left ∙ ap (λ (a : Answer). output a out 0 (headBytes (edition2 limit))) (k .answer);
 }
 
 pub append-told : (out : List ℕ) (at : ℕ) (e : Entry) (r : Written) (out′ : List ℕ) (x : ℕ) → Appended out at e r out′ → x ≡ lengthCode at (says r) → AppendTold out at e x out′
@@ -57,8 +62,8 @@ append-told out at e r out′ x k f = record {
 pub length-back : (at next : ℕ) → logLength (lengthCode at (wrote next)) ≡ next - at
 length-back at next = omega arith
 
-pub begin-told-once : (out : List ℕ) (x y : ℕ) (a b : List ℕ) → BeginTold out x a → BeginTold out y b → (x ≡ y) × (a ≡ b)
-begin-told-once out x y a b p q = (one-answer x y (p .gave) (q .gave), one-answer a b (p .left) (q .left))
+pub begin-told-once : (out : List ℕ) (limit x y : ℕ) (a b : List ℕ) → BeginTold out limit x a → BeginTold out limit y b → (x ≡ y) × (a ≡ b)
+begin-told-once out limit x y a b p q = (one-answer x y (p .gave) (q .gave), one-answer a b (p .left) (q .left))
 
 pub append-told-once : (out : List ℕ) (at : ℕ) (e : Entry) (x y : ℕ) (a b : List ℕ) → AppendTold out at e x a → AppendTold out at e y b → (x ≡ y) × (a ≡ b)
 append-told-once out at e x y a b p q = (one-answer x y (p .gave) (q .gave), one-answer a b (p .left) (q .left))

@@ -3,7 +3,8 @@ use mathlib.Core.Path.{_≡_}
 use mathlib.Core.List.{List}
 use Prim.Native.Nat.{ℕ, _-_, _*_, _/_, _^_, _≤_, _<_}
 use lib.ListN.{length}
-use Rattle.log.specs.Entries.{Entry, headBytes, entryBytes}
+use Rattle.log.specs.Editions.{edition2, headBytes}
+use Rattle.log.specs.Entries.{Entry, entryBytes}
 use Rattle.log.specs.Writes.{Answer, wrote, refused, beginAnswer, appendAnswer, output}
 
 -- how many bytes were written at the place, times 2^32; or the refusal number alone
@@ -16,9 +17,9 @@ abbrev pub Spans : ℕ → Answer → Type 0
 Spans at (wrote next) = (at ≤ next) × (next - at < 2 ^ 32)
 Spans at (refused n) = Unit
 
-pub record BeginTold (out : List ℕ) (answer : ℕ) (out′ : List ℕ) : Type 0 where
-  pub gave : answer ≡ lengthCode 0 (beginAnswer (length out))
-  pub left : out′ ≡ output (beginAnswer (length out)) out 0 headBytes
+pub record BeginTold (out : List ℕ) (limit answer : ℕ) (out′ : List ℕ) : Type 0 where
+  pub gave : answer ≡ lengthCode 0 (beginAnswer (length out) limit)
+  pub left : out′ ≡ output (beginAnswer (length out) limit) out 0 (headBytes (edition2 limit))
 
 pub record AppendTold (out : List ℕ) (at : ℕ) (e : Entry) (answer : ℕ) (out′ : List ℕ) : Type 0 where
   pub gave : answer ≡ lengthCode at (appendAnswer (length out) at e)

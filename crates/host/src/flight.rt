@@ -16,12 +16,12 @@ fn told(at: usize, written: Written) -> u64
     }
 }
 
-// Begins a log at the start of out: 2^32, one byte being written, or the number of the refusal.
+// Begins a log with that payload limit at the start of out: the length of its head times 2^32, or the number of the refusal.
 #[no_mangle]
-pub extern "C" fn qm_log_begin(out: &mut [u8]) -> u64
-    ensures { λ r. ⌜ BeginTold (now (out .entry)) r (now (out .exit)) ⌝ }
+pub extern "C" fn qm_log_begin(out: &mut [u8], limit: u64) -> u64
+    ensures { λ r. ⌜ BeginTold (now (out .entry)) limit r (now (out .exit)) ⌝ }
 {
-    told(0, log::begin(out))
+    told(0, log::begin(out, limit))
 }
 
 // Writes one entry at a place of out: its length times 2^32, or the number of the refusal.

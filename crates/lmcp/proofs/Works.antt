@@ -28,11 +28,11 @@ module _ (m : List ℕ) (begins : take 4 m ≡ magic) where
   lmcp : same (take 4 m) magic ≡ true
   lmcp = ap (λ (l : List ℕ). same l magic) begins
 
-  pub longest : length m ≡ 262144 → be 4 (drop 4 m) ≡ 262132 → stored m ≡ 0 → frame m ≡ 0
+  pub longest : length m ≡ 1048576 → be 4 (drop 4 m) ≡ 1048564 → stored m ≡ 0 → frame m ≡ 0
   unfolding frame
   longest l r z =
-      simp (le-ltb (length m) 12 (omega arith), lmcp, le-ltb 262144 (length m) (omega arith), eq-eqb (length m) (12 + be 4 (drop 4 m)) (omega arith), eq-eqb (stored m) 0 z)
+      simp (le-ltb (length m) 12 (omega arith), lmcp, le-ltb 1048576 (length m) (omega arith), eq-eqb (length m) (12 + be 4 (drop 4 m)) (omega arith), eq-eqb (stored m) 0 z)
 
-  pub too-long : length m ≡ 262145 → frame m ≡ 21
+  pub too-long : length m ≡ 1048577 → frame m ≡ 21
   unfolding frame
-  too-long l = simp (le-ltb (length m) 12 (omega arith), lmcp, lt-ltb 262144 (length m) (omega arith))
+  too-long l = simp (le-ltb (length m) 12 (omega arith), lmcp, lt-ltb 1048576 (length m) (omega arith))

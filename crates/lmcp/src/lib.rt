@@ -6,7 +6,7 @@ ghost use Rattle.lmcp.specs.Table.{pitsurv, rowsOf, startsOf, nothing};
 ghost use Rattle.lmcp.specs.Read.{typed};
 
 // The longest whole message, in bytes.
-pub const MAX_MESSAGE: usize = 262144;
+pub const MAX_MESSAGE: usize = 1048576;
 
 // The deepest object; the root has depth 1.
 pub const DEEPEST: usize = 16;

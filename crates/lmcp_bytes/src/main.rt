@@ -14,10 +14,8 @@ use stream::Input;
 use stream::Kind;
 use stream::Next;
 
-// The numbers that the program holds, and the bytes of the longest message.
+// The numbers that the program holds.
 const NUMBERS: usize = 262144;
-
-const BYTES: usize = 262144;
 
 // A record's head, and one number more than the program holds.
 const BUFFER: usize = 8 * NUMBERS + 256;
@@ -134,7 +132,7 @@ fn run(buf: &mut [u8], list: &mut [i64], bytes: &mut [u8], out: &mut [u8]) {
 fn main() {
     let mut buf = [0u8; BUFFER];
     let mut list = [0i64; NUMBERS];
-    let mut bytes = [0u8; BYTES];
+    let mut bytes = [0u8; lmcp::MAX_MESSAGE];
     let mut out = [0u8; 65536];
     run(&mut buf, &mut list, &mut bytes, &mut out);
 }

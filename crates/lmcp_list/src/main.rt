@@ -74,8 +74,10 @@ fn run(buf: &mut [u8], list: &mut [i64], out: &mut [u8]) {
 }
 
 // The buffer holds more than the longest message, so that a longer one is refused by its front.
+const BUFFER: usize = lmcp::MAX_MESSAGE + 8192;
+
 fn main() {
-    let mut buf = [0u8; 270336];
+    let mut buf = [0u8; BUFFER];
     let mut list = [0i64; NUMBERS];
     let mut out = [0u8; 65536];
     run(&mut buf, &mut list, &mut out);

@@ -1,6 +1,7 @@
--- A list of entries and its log determine each other. Assumes nothing.
+-- The edition, in edition 2 the limit, and the entries together determine the log, and the log determines them. Assumes nothing.
 use mathlib.Core.Path.{_≡_, refl, sym, _∙_, ap, subst}
 use mathlib.Core.Bool.{Bool, true, false}
+use mathlib.Core.Option.{some}
 use mathlib.Core.List.{List, [], _∷_, _++_, append-assoc}
 use Prim.Native.Nat.{ℕ, zero, suc, _+_, _-_, _≤_, _<_, _^_}
 use native.Mathlib.Omega.{arith}
@@ -13,9 +14,10 @@ use Rattle.wire.specs.Choice.{pick}
 use Rattle.wire.specs.Taken.{Taken, taken, refused, follow}
 use Rattle.wire.specs.Seven.{seven, sevenIn}
 use Rattle.wire.proofs.Sevens.{seven-back, back-seven, groups-some}
-use Rattle.datagram.specs.Limits.{maxDatagram}
-use Rattle.log.specs.Entries.{Entry, entryOf, Keeps, AllKeep, edition, headBytes, entryBytes, bodyOf, logOf}
-use Rattle.log.specs.Listed.{headIn, datagramIn, lengthIn, tickIn, entryIn, Listed, whole, broken, after, more, oneMore, listBy, entriesAfter, entriesIn}
+use Rattle.datagram.specs.Limits.{maxDatagram, maxPayload}
+use Rattle.log.specs.Editions.{Edition, edition1, edition2, firstByte, secondByte, Lawful, headBytes, limited, limitIn, headIn, headIn1, editionIn}
+use Rattle.log.specs.Entries.{Entry, entryOf, Keeps, AllKeep, entryBytes, bodyOf, logOf}
+use Rattle.log.specs.Listed.{datagramIn, lengthIn, tickIn, entryIn, Listed, whole, broken, after, more, oneMore, listBy, entriesAfter, entriesIn}
 use Rattle.log.proofs.Takes.{Both, both, rest-bytes}
 
 -- ---- an entry: what is written reads back
@@ -111,11 +113,6 @@ body-back (suc k) (e ∷ es) a h =
     ∙ ap (more (listBy k)) (entry-back e (a .0) (bodyOf es))
     ∙ ap (after e) (body-back k es (a .1) (omega (arith, entry-some e)))
 
--- a log's entries are read back
-pub entries-of-log : (es : List Entry) → AllKeep es → entriesIn (logOf es) ≡ whole es
-unfolding entriesIn entriesAfter headIn logOf
-entries-of-log es a = body-back (length (bodyOf es)) es a (omega arith)
-
 pub record ListBack (b : List ℕ) (es : List Entry) : Type 0 where
   pub keeps : AllKeep es
   pub wrote : bodyOf es ≡ b
@@ -145,15 +142,97 @@ back-body (suc k) (x ∷ b) h l es e = by-taken (λ c m. back-body k c) (entryIn
         let size = sym (length-append (entryBytes d) c) ∙ ap length (back .wrote) in
         by-list d c back (ih c 0 (rest-bytes (entryBytes d) c (x ∷ b) (back .wrote) h) (omega (arith, entry-some d))) (listBy k c) refl q
 
--- what a log's entries are, their log is
-pub log-of-entries : (b : List ℕ) → Bytes b → (es : List Entry) → entriesIn b ≡ whole es → (AllKeep es) × (logOf es ≡ b)
-unfolding entriesIn entriesAfter headIn logOf
-log-of-entries [] h es e = absurd (let z : _≡_ {A = ℕ} 0 1 = cc in omega arith)
-log-of-entries (x ∷ b) h es e = by-edition (eqb x edition) refl e
+-- ---- the head: what is written reads back
+
+pub limited-back : (limit : ℕ) → limit ≤ maxPayload → (rest : List ℕ) → limited limit rest ≡ taken (edition2 limit) rest
+unfolding limited
+limited-back limit h rest = rw (le-ltb maxPayload limit h) refl
+
+pub head-back : (v : Edition) → Lawful v → (rest : List ℕ) → headIn (headBytes v ++ rest) ≡ taken v rest
+unfolding headIn limitIn
+head-back edition1 h rest = refl
+head-back (edition2 limit) h rest =
+    let short : limit < 2 ^ 64 = omega arith in
+    rw (seven-back limit short) (limited-back limit h rest)
+
+-- "A program that knows only edition 1 answers 40"
+pub old-reader : (limit : ℕ) (es : List Entry) → headIn1 (logOf (edition2 limit) es) ≡ refused 40
+unfolding headIn1 logOf
+old-reader limit es = refl
+
+-- and reads edition 1 as ever
+pub old-log : (es : List Entry) → headIn1 (logOf edition1 es) ≡ headIn (logOf edition1 es)
+unfolding headIn1 headIn logOf
+old-log es = refl
+
+-- ---- the head: what is read is what would be written
+
+pub record HeadBack (b : List ℕ) (v : Edition) (rest : List ℕ) : Type 0 where
+  pub lawful : Lawful v
+  pub wrote : headBytes v ++ rest ≡ b
+
+back-limited : (limit : ℕ) (b : List ℕ) (v : Edition) (rest : List ℕ) → limited limit b ≡ taken v rest → (limit ≤ maxPayload) × ((v ≡ edition2 limit) × (rest ≡ b))
+unfolding limited
+back-limited limit b v rest q = by-most (ltb maxPayload limit) refl q
   where
-    by-edition : (t : Bool) → eqb x edition ≡ t → entriesAfter (pick t (taken x b) (refused 40)) ≡ whole es → (AllKeep es) × (headBytes ++ bodyOf es ≡ x ∷ b)
-    by-edition false p q = absurd (let z : _≡_ {A = ℕ} 0 1 = cc in omega arith)
-    by-edition true p q =
-        let i = back-body (length b) b (λ j. h (suc j)) (omega arith) es q in
-        let x1 : x ≡ edition = eqb-true x edition p in
-        (i .keeps, rw (i .wrote, x1) refl)
+    by-most : (t : Bool) → ltb maxPayload limit ≡ t → pick t (refused 45) (taken (edition2 limit) b) ≡ taken v rest → (limit ≤ maxPayload) × ((v ≡ edition2 limit) × (rest ≡ b))
+    by-most true p r = absurd (let z : _≡_ {A = ℕ} 0 1 = cc in omega arith)
+    by-most false p r = (ltb-false maxPayload limit p, (cc, cc))
+
+back-second : (limit : ℕ) (c b : List ℕ) (v : Edition) (rest : List ℕ) → seven limit ++ c ≡ b
+    → (limit ≤ maxPayload) × ((v ≡ edition2 limit) × (rest ≡ c)) → HeadBack (secondByte ∷ b) v rest
+back-second limit c b v rest e l = rw (l .1 .0, l .1 .1) (record { lawful = l .0; wrote = ap (λ (r : List ℕ). secondByte ∷ r) e })
+
+back-limit : (b : List ℕ) → Bytes b → (v : Edition) (rest : List ℕ) → limitIn b ≡ taken v rest → HeadBack (secondByte ∷ b) v rest
+unfolding limitIn
+back-limit b h v rest q =
+    let one = both (sevenIn b) limited v rest q in
+    let got = back-seven b h (one .value) (one .left) (one .first) in
+    let l = back-limited (one .value) (one .left) v rest (one .second) in
+    back-second (one .value) (one .left) b v rest (got .1) l
+
+pub back-head : (b : List ℕ) → Bytes b → (v : Edition) (rest : List ℕ) → headIn b ≡ taken v rest → HeadBack b v rest
+unfolding headIn
+back-head [] h v rest q = absurd (let z : _≡_ {A = ℕ} 0 1 = cc in omega arith)
+back-head (x ∷ b) h v rest q = by-byte (eqb x firstByte) refl (eqb x secondByte) refl q
+  where
+    by-byte : (s : Bool) → eqb x firstByte ≡ s → (t : Bool) → eqb x secondByte ≡ t
+        → pick s (taken edition1 b) (pick t (limitIn b) (refused 40)) ≡ taken v rest → HeadBack (x ∷ b) v rest
+    by-byte false p false o r = absurd (let z : _≡_ {A = ℕ} 0 1 = cc in omega arith)
+    by-byte true p t o r =
+        let w : v ≡ edition1 = cc in
+        let l : rest ≡ b = cc in
+        rw (w, l, eqb-true x firstByte p) (record { lawful = tt; wrote = refl })
+    by-byte false p true o r = rw (eqb-true x secondByte o) (back-limit b (λ j. h (suc j)) v rest r)
+
+-- ---- the log
+
+-- a log's edition and its entries are read back
+pub entries-of-log : (v : Edition) → Lawful v → (es : List Entry) → AllKeep es → (editionIn (logOf v es) ≡ some v) × (entriesIn (logOf v es) ≡ whole es)
+unfolding entriesIn entriesAfter logOf
+entries-of-log v l es a = rw (head-back v l (bodyOf es)) (refl, body-back (length (bodyOf es)) es a (omega arith))
+
+-- of any bytes in which entries are read: their edition, and the log of it and the entries, which is these bytes
+pub record LogBack (b : List ℕ) (es : List Entry) : Type 0 where
+  pub edition : Edition
+  pub is : editionIn b ≡ some edition
+  pub lawful : Lawful edition
+  pub keeps : AllKeep es
+  pub wrote : logOf edition es ≡ b
+
+pub log-of-entries : (b : List ℕ) → Bytes b → (es : List Entry) → entriesIn b ≡ whole es → LogBack b es
+unfolding entriesIn entriesAfter logOf
+log-of-entries b h es e = by-head (headIn b) refl e
+  where
+    by-head : (t : Taken Edition) → headIn b ≡ t → entriesAfter t ≡ whole es → LogBack b es
+    by-head (refused n) p q = absurd (let z : _≡_ {A = ℕ} 0 1 = cc in omega arith)
+    by-head (taken v c) p q =
+        let head = back-head b h v c p in
+        let i = back-body (length c) c (rest-bytes (headBytes v) c b (head .wrote) h) (omega arith) es q in
+        record {
+          edition = v;
+          is = rw p refl;
+          lawful = head .lawful;
+          keeps = i .keeps;
+          wrote = rw (i .wrote) (head .wrote);
+        }

@@ -3,7 +3,9 @@ use mathlib.Core.Path.{_≡_, sym, _∙_, ap}
 use mathlib.Core.List.{List}
 use Prim.Native.Nat.{ℕ}
 use native.Mathlib.Omega.{arith}
-use Rattle.log.specs.Entries.{Entry, AllKeep, headBytes, entryBytes, logOf}
+use mathlib.Core.Option.{some}
+use Rattle.log.specs.Editions.{Edition, edition2, Lawful, headBytes, editionIn}
+use Rattle.log.specs.Entries.{Entry, AllKeep, entryBytes, logOf}
 use Rattle.log.specs.Listed.{Listed, whole, entriesIn}
 use Rattle.log.specs.Writes.{Answer, says, output, Began, Appended}
 use Rattle.log.specs.declared.writer.Written.{Written}
@@ -17,18 +19,21 @@ says-once (Next a) (Refused n) e = absurd (let z : _≡_ {A = ℕ} 0 1 = cc in o
 says-once (Refused n) (Next a) e = absurd (let z : _≡_ {A = ℕ} 0 1 = cc in omega arith)
 says-once (Refused m) (Refused n) e = let f : m ≡ n = cc in ap Refused f
 
-pub begin-once : (out : List ℕ) (r s : Written) (x y : List ℕ) → Began out r x → Began out s y → (r ≡ s) × (x ≡ y)
-begin-once out r s x y p q =
+pub begin-once : (out : List ℕ) (limit : ℕ) (r s : Written) (x y : List ℕ) → Began out limit r x → Began out limit s y → (r ≡ s) × (x ≡ y)
+begin-once out limit r s x y p q =
     let e : says r ≡ says s = p .answer ∙ sym (q .answer) in
-    (says-once r s e, p .left ∙ ap (λ (w : Answer). output w out 0 headBytes) e ∙ sym (q .left))
+    (says-once r s e, p .left ∙ ap (λ (w : Answer). output w out 0 (headBytes (edition2 limit))) e ∙ sym (q .left))
 
 pub append-once : (out : List ℕ) (at : ℕ) (e : Entry) (r s : Written) (x y : List ℕ) → Appended out at e r x → Appended out at e s y → (r ≡ s) × (x ≡ y)
 append-once out at e r s x y p q =
     let f : says r ≡ says s = p .answer ∙ sym (q .answer) in
     (says-once r s f, p .left ∙ ap (λ (w : Answer). output w out at (entryBytes e)) f ∙ sym (q .left))
 
--- no two lists of entries have one log
-pub log-once : (es ds : List Entry) → AllKeep es → AllKeep ds → logOf es ≡ logOf ds → es ≡ ds
-log-once es ds p q e =
-    let w : whole es ≡ whole ds = sym (entries-of-log es p) ∙ ap entriesIn e ∙ entries-of-log ds q in
-    cc
+-- no two editions, limits or lists of entries have one log
+pub log-once : (v w : Edition) → Lawful v → Lawful w → (es ds : List Entry) → AllKeep es → AllKeep ds → logOf v es ≡ logOf w ds → (v ≡ w) × (es ≡ ds)
+log-once v w l m es ds p q e =
+    let f = entries-of-log v l es p in
+    let g = entries-of-log w m ds q in
+    let h : some v ≡ some w = sym (f .0) ∙ ap editionIn e ∙ g .0 in
+    let k : whole es ≡ whole ds = sym (f .1) ∙ ap entriesIn e ∙ g .1 in
+    (cc, cc)

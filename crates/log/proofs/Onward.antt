@@ -4,22 +4,21 @@ use mathlib.Core.Bool.{Bool, true, false}
 use mathlib.Core.List.{List, [], _∷_, _++_, append-assoc}
 use Prim.Native.Nat.{ℕ, zero, suc, _+_, _-_, _≤_, _<_}
 use native.Mathlib.Omega.{arith}
-use lib.Dec.{eqb}
 use lib.ListN.{length, take, drop, length-append, length-drop, drop-of-length-le}
 use lib.Seq.{drop-drop, take-append-seam, drop-append-seam}
-use borrow.Author.Tests.{eqb-true, eqb-false}
 use Rattle.wire.specs.Bytes.{Bytes}
 use Rattle.wire.specs.Choice.{pick}
 use Rattle.wire.specs.Taken.{Taken, taken, refused}
 use Rattle.wire.specs.Seven.{seven}
 use Rattle.wire.proofs.Sevens.{drop-bytes, groups-some}
-use Rattle.log.specs.Entries.{Entry, entryOf, edition, entryBytes}
-use Rattle.log.specs.Listed.{headIn, entryIn, Listed, whole, broken, after, more, oneMore, listBy, entriesAfter, entriesIn}
+use Rattle.log.specs.Editions.{Edition, edition1, edition2, headBytes, headIn, limitsOf}
+use Rattle.log.specs.Entries.{Entry, entryOf, entryBytes}
+use Rattle.log.specs.Listed.{entryIn, Listed, whole, broken, after, more, oneMore, listBy, entriesAfter, entriesIn}
 use Rattle.log.specs.Told.{firstOf, entryAt, stepOf, stepIn, nextAt, entrySaid, Said, entry, ended, number, says, saidOf, saidIn, readAt, placeAfter, onward, readOn, readAll}
 use Rattle.log.specs.declared.reader.Step.{Step}
 use Rattle.log.specs.declared.reader.Step.the-variants.{Found, End, Refused}
-use Rattle.log.proofs.Backs.{Back, back-entry}
-use Rattle.log.proofs.Reading.{first-empty, first-good, first-other, read-on, read-first, read-refused}
+use Rattle.log.proofs.Backs.{Back, back-entry, back-head}
+use Rattle.log.proofs.Reading.{read-on, read-first, read-refused}
 
 -- ---- where an entry lies
 
@@ -105,16 +104,39 @@ onward-lists log h (suc k) at j p l m =
     by-rest ih zero m (x ∷ b) e = absurd (let z : ⊥ = omega (arith, sym (ap length e) ∙ length-drop at log) in z)
     by-rest ih (suc j) m (x ∷ b) e = by-taken ih j m x b e (entryIn (x ∷ b)) refl
 
+-- ---- the head, and reading on from it
+
+head-some : (v : Edition) → 1 ≤ length (headBytes v)
+head-some edition1 = omega arith
+head-some (edition2 limit) = omega arith
+
+-- where the entries begin
+pub record Begins (log : List ℕ) (b : List ℕ) : Type 0 where
+  pub some : 1 ≤ length log - length b
+  pub left : drop (length log - length b) log ≡ b
+
+pub begins : (log : List ℕ) → Bytes log → (v : Edition) (b : List ℕ) → headIn log ≡ taken v b → Begins log b
+begins log h v b e =
+    let w = back-head log h v b e .wrote in
+    let l : length (headBytes v) + length b ≡ length log = sym (length-append (headBytes v) b) ∙ ap length w in
+    let n : length log - length b ≡ length (headBytes v) = omega arith in
+    record {
+      some = omega (arith, head-some v);
+      left = ap (λ (k : ℕ). drop k log) n ∙ rw (← w) (drop-append-seam (headBytes v) b);
+    }
+
 -- the open reader begins at place 0; from there on to the end it reads the entries in the log, or those before the refusal and its number
 pub read-all : (log : List ℕ) → Bytes log → readAll log ≡ entriesIn log
-unfolding readAll readOn entriesIn entriesAfter headIn
-read-all [] h = ap (onward (readOn 0 []) []) (read-refused [] 0 43 refl (first-empty [] (omega arith)))
-read-all (x ∷ b) h = by-edition (eqb x edition) refl
+unfolding readAll readOn entriesIn entriesAfter
+read-all log h = by-head (headIn log) refl
   where
-    by-edition : (t : Bool) → eqb x edition ≡ t → readOn (suc (length (x ∷ b))) (x ∷ b) 0 ≡ entriesAfter (pick t (taken x b) (refused 40))
-    by-edition false p = ap (onward (readOn (length (x ∷ b)) (x ∷ b)) (x ∷ b)) (read-refused (x ∷ b) 0 40 refl (first-other (x ∷ b) (omega arith) (eqb-false x edition p)))
-    by-edition true p =
-        let one = read-first (x ∷ b) 0 1 refl (first-good (x ∷ b) (omega arith) (eqb-true x edition p)) in
-        let same = one ∙ sym (read-on (x ∷ b) 1 (λ z. omega arith)) in
-        ap (onward (readOn (length (x ∷ b)) (x ∷ b)) (x ∷ b)) same
-        ∙ onward-lists (x ∷ b) h (suc (length (x ∷ b))) 1 (length b) (omega arith) (omega arith) (omega arith)
+    by-head : (t : Taken Edition) → headIn log ≡ t → onward (readOn (length log) log) log (readAt log 0) ≡ entriesAfter t
+    by-head (refused n) p = ap (onward (readOn (length log) log) log) (read-refused log 0 n refl (ap (firstOf log) p))
+    by-head (taken v b) p =
+        let g = begins log h v b p in
+        let at = length log - length b in
+        let one = read-first log 0 at (limitsOf v) refl (ap (firstOf log) p) in
+        let same = one ∙ sym (read-on log at (λ z. omega (arith, g .some))) in
+        ap (onward (readOn (length log) log) log) same
+        ∙ onward-lists log h (suc (length log)) at (length b) (g .some) (omega (arith, g .some)) (omega (arith, g .some))
+        ∙ ap (listBy (length b)) (g .left)

@@ -13,11 +13,13 @@ use Rattle.wire.specs.Bytes.{Bytes}
 use Rattle.wire.specs.Choice.{pick}
 use Rattle.wire.specs.Taken.{Taken, taken, refused, follow}
 use Rattle.wire.specs.Seven.{sevenIn}
-use Rattle.datagram.specs.Limits.{maxDatagram}
-use Rattle.log.specs.Entries.{Entry, entryOf, edition}
-use Rattle.log.specs.Listed.{headIn, datagramIn, lengthIn, tickIn, entryIn}
+use Rattle.datagram.specs.Limits.{maxDatagram, maxPayload, maxFragments}
+use Rattle.log.specs.Editions.{Edition, edition1, edition2, firstByte, secondByte, limited, limitIn, headIn, limitsTo, limitsOf, limitsIn}
+use Rattle.log.specs.Entries.{Entry, entryOf}
+use Rattle.log.specs.Listed.{datagramIn, lengthIn, tickIn, entryIn}
 use Rattle.log.specs.Told.{firstOf, firstIn, entryAt, stepOf, stepIn, nextAt, readAt}
 use Rattle.log.specs.declared.reader.EntryAt.{EntryAt}
+use Rattle.log.specs.declared.reader.Limits.{Limits}
 use Rattle.log.specs.declared.reader.First.{First}
 use Rattle.log.specs.declared.reader.First.the-variants as first
 use Rattle.log.specs.declared.reader.Step.{Step}
@@ -30,15 +32,56 @@ unfolding headIn
 first-empty [] h = refl
 first-empty (x ∷ b) h = absurd (let z : ⊥ = omega arith in z)
 
-pub first-good : (log : List ℕ) → 1 ≤ length log → getD log 0 0 ≡ edition → firstIn log ≡ first.At 1
+pub first-one : (log : List ℕ) → 1 ≤ length log → getD log 0 0 ≡ firstByte → firstIn log ≡ first.At 1 (limitsOf edition1)
 unfolding headIn
-first-good [] h e = absurd (let z : ⊥ = omega arith in z)
-first-good (x ∷ b) h e = rw (eq-eqb x edition e) (ap first.At (omega arith))
+first-one [] h e = absurd (let z : ⊥ = omega arith in z)
+first-one (x ∷ b) h e = rw (eq-eqb x firstByte e) (ap (λ (at : ℕ). first.At at (limitsOf edition1)) (omega arith))
 
-pub first-other : (log : List ℕ) → 1 ≤ length log → (getD log 0 0 ≡ edition → ⊥) → firstIn log ≡ first.Refused 40
+pub first-two : (log : List ℕ) → 1 ≤ length log → (getD log 0 0 ≡ firstByte → ⊥) → getD log 0 0 ≡ secondByte → firstIn log ≡ firstOf log (limitIn (drop 1 log))
 unfolding headIn
-first-other [] h e = absurd (let z : ⊥ = omega arith in z)
-first-other (x ∷ b) h e = rw (ne-eqb x edition e) refl
+first-two [] h n e = absurd (let z : ⊥ = omega arith in z)
+first-two (x ∷ b) h n e = rw (ne-eqb x firstByte n, eq-eqb x secondByte e) refl
+
+pub first-other : (log : List ℕ) → 1 ≤ length log → (getD log 0 0 ≡ firstByte → ⊥) → (getD log 0 0 ≡ secondByte → ⊥) → firstIn log ≡ first.Refused 40
+unfolding headIn
+first-other [] h n e = absurd (let z : ⊥ = omega arith in z)
+first-other (x ∷ b) h n e = rw (ne-eqb x firstByte n, ne-eqb x secondByte e) refl
+
+-- the limit of edition 2
+
+pub limited-over : (log : List ℕ) (at limit : ℕ) → maxPayload < limit → firstOf log (limited limit (drop at log)) ≡ first.Refused 45
+unfolding limited
+limited-over log at limit h = rw (lt-ltb maxPayload limit h) refl
+
+pub limited-good : (log : List ℕ) (at limit : ℕ) → limit ≤ maxPayload → at ≤ length log → firstOf log (limited limit (drop at log)) ≡ first.At at (limitsTo limit maxFragments)
+unfolding limited
+limited-good log at limit h l =
+    let e : length log - length (drop at log) ≡ at = rw length-drop (omega arith) in
+    rw (le-ltb maxPayload limit h, e) refl
+
+pub limit-follows : (b c : List ℕ) (limit : ℕ) → sevenIn b ≡ taken limit c → limitIn b ≡ limited limit c
+unfolding limitIn
+limit-follows b c limit e = rw e refl
+
+pub limit-refused : (b : List ℕ) (n : ℕ) → sevenIn b ≡ refused n → limitIn b ≡ refused n
+unfolding limitIn
+limit-refused b n e = rw e refl
+
+-- the limits that are told with the place are the log's
+
+pub limits-told : (log : List ℕ) (at : ℕ) (l : Limits) → firstIn log ≡ first.At at l → l ≡ limitsIn log
+limits-told log at l e = by-head (headIn log) refl e
+  where
+    by-head : (t : Taken Edition) → headIn log ≡ t → firstOf log t ≡ first.At at l → l ≡ limitsIn log
+    by-head (refused n) p q = absurd (let z : _≡_ {A = ℕ} 0 1 = cc in omega arith)
+    by-head (taken v b) p q = let m : l ≡ limitsOf v = cc in rw (p, m) refl
+
+pub limits-none : (log : List ℕ) (n : ℕ) → firstIn log ≡ first.Refused n → limitsTo 0 0 ≡ limitsIn log
+limits-none log n e = by-head (headIn log) refl e
+  where
+    by-head : (t : Taken Edition) → headIn log ≡ t → firstOf log t ≡ first.Refused n → limitsTo 0 0 ≡ limitsIn log
+    by-head (refused m) p q = rw p refl
+    by-head (taken v b) p q = absurd (let z : _≡_ {A = ℕ} 0 1 = cc in omega arith)
 
 -- ---- the datagram of an entry
 
@@ -110,9 +153,9 @@ pub read-on : (log : List ℕ) (at : ℕ) → (at ≡ 0 → ⊥) → readAt log 
 unfolding readAt
 read-on log at n = rw (ne-eqb at 0 n) refl
 
-pub read-first : (log : List ℕ) (at place : ℕ) → at ≡ 0 → firstIn log ≡ first.At place → readAt log at ≡ nextAt log place
+pub read-first : (log : List ℕ) (at place : ℕ) (l : Limits) → at ≡ 0 → firstIn log ≡ first.At place l → readAt log at ≡ nextAt log place
 unfolding readAt
-read-first log at place z e = rw (z, e) refl
+read-first log at place l z e = rw (z, e) refl
 
 pub read-refused : (log : List ℕ) (at n : ℕ) → at ≡ 0 → firstIn log ≡ first.Refused n → readAt log at ≡ Refused n
 unfolding readAt

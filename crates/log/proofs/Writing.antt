@@ -3,15 +3,16 @@ use mathlib.Core.Path.{_≡_, refl, sym, _∙_, ap}
 use mathlib.Core.List.{List, [], _∷_, _++_}
 use Prim.Native.Nat.{ℕ, _+_, _-_, _≤_, _<_}
 use native.Mathlib.Omega.{arith}
-use lib.ListN.{length, set, length-append}
+use lib.ListN.{length, set, length-append, length-set}
 use borrow.Author.Tests.{lt-ltb, le-ltb}
 use Rattle.wire.specs.Overlay.{overlay}
 use Rattle.wire.specs.Seven.{seven}
-use Rattle.wire.proofs.Overlays.{overlay-append, overlay-one}
+use Rattle.wire.proofs.Overlays.{overlay-append, overlay-one, length-overlay}
 use Rattle.wire.proofs.Sevens.{groups-length}
-use Rattle.datagram.specs.Limits.{maxDatagram}
-use Rattle.log.specs.Entries.{Entry, entryOf, edition, headBytes, entryBytes}
-use Rattle.log.specs.Writes.{beginAnswer, appendAnswer, Began, Appended}
+use Rattle.datagram.specs.Limits.{maxDatagram, maxPayload}
+use Rattle.log.specs.Editions.{edition2, secondByte, headBytes}
+use Rattle.log.specs.Entries.{Entry, entryOf, entryBytes}
+use Rattle.log.specs.Writes.{wrote, refused, fitted, beginAnswer, appendAnswer, Began, Appended}
 use Rattle.log.specs.declared.writer.Written.{Written}
 use Rattle.log.specs.declared.writer.Written.the-variants.{Next, Refused}
 use Rattle.log.proofs.Backs.{entry-some}
@@ -47,13 +48,36 @@ entry-overlay o o₁ o₂ o₃ o₄ at a b c s t d e₁ f₁ e₂ f₂ e₃ f₃
 
 -- ---- begin
 
-pub begin-short : (out : List ℕ) → length out < 1 → Began out (Refused 13) out
-unfolding beginAnswer
-begin-short out h = record { answer = rw (lt-ltb (length out) 1 h) refl; left = refl }
+fitted-short : (n at : ℕ) (b : List ℕ) → n < at + length b → fitted n at b ≡ refused 13
+fitted-short n at b h = rw (lt-ltb n (at + length b) h) refl
 
-pub begin-good : (out : List ℕ) → 1 ≤ length out → Began out (Next 1) (set out 0 edition)
-unfolding beginAnswer
-begin-good out h = record { answer = rw (le-ltb (length out) 1 h) refl; left = sym (overlay-one out 0 edition) }
+fitted-good : (n at : ℕ) (b : List ℕ) → at + length b ≤ n → fitted n at b ≡ wrote (at + length b)
+fitted-good n at b h = rw (le-ltb n (at + length b) h) refl
+
+module _ (out : List ℕ) (limit : ℕ) where
+  pub begin-over : maxPayload < limit → Began out limit (Refused 45) out
+  unfolding beginAnswer
+  begin-over h = record { answer = rw (lt-ltb maxPayload limit h) refl; left = refl }
+
+  pub begin-length : (x : ℕ) → length (overlay (set out 0 x) 1 (seven limit)) ≡ length out
+  begin-length x = length-overlay (set out 0 x) 1 (seven limit) ∙ length-set out 0 x
+
+  pub begin-short : limit ≤ maxPayload → length out < 1 + length (seven limit) → Began out limit (Refused 13) out
+  unfolding beginAnswer
+  begin-short h l =
+      let f = fitted-short (length out) 0 (headBytes (edition2 limit)) (omega arith) in
+      record { answer = rw (le-ltb maxPayload limit h) (sym f); left = refl }
+
+  pub begin-good : (n : ℕ) (out′ : List ℕ) → limit ≤ maxPayload → n ≡ length (seven limit) → 1 + n ≤ length out
+      → out′ ≡ overlay (set out 0 secondByte) 1 (seven limit) → Began out limit (Next (1 + n)) out′
+  unfolding beginAnswer
+  begin-good n out′ h s l o =
+      let f = fitted-good (length out) 0 (headBytes (edition2 limit)) (omega arith) in
+      let e : 1 + n ≡ 0 + length (headBytes (edition2 limit)) = omega arith in
+      record {
+        answer = rw (le-ltb maxPayload limit h) (ap wrote e ∙ sym f);
+        left = joins out (secondByte ∷ []) (seven limit) (set out 0 secondByte) out′ 0 1 (sym (overlay-one out 0 secondByte)) refl o;
+      }
 
 -- ---- append
 

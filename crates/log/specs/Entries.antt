@@ -1,10 +1,11 @@
--- A log: document 02, L1. "A log begins with the byte 1 (its edition). Each entry is sender, arrival tick, datagram length, then the bytes."
+-- A log: document 02, L1. Behind its head "each entry is sender, arrival tick, datagram length, then the bytes."
 -- Definitions only.
 use mathlib.Core.List.{List, [], _∷_, _++_}
 use Prim.Native.Nat.{ℕ, _^_, _≤_, _<_}
 use lib.ListN.{length}
 use Rattle.wire.specs.Seven.{seven}
 use Rattle.datagram.specs.Limits.{maxDatagram}
+use Rattle.log.specs.Editions.{Edition, headBytes}
 
 pub record Entry : Type 0 where
   pub sender : ℕ
@@ -24,13 +25,6 @@ abbrev pub AllKeep : List Entry → Type 0
 AllKeep [] = Unit
 AllKeep (e ∷ es) = Keeps e × AllKeep es
 
-abbrev pub edition : ℕ
-edition = 1
-
--- the head of a log
-abbrev pub headBytes : List ℕ
-headBytes = edition ∷ []
-
 unfoldable pub entryBytes : Entry → List ℕ
 entryBytes e = seven (e .sender) ++ seven (e .tick) ++ seven (length (e .datagram)) ++ e .datagram
 
@@ -38,6 +32,6 @@ unfoldable pub bodyOf : List Entry → List ℕ
 bodyOf [] = []
 bodyOf (e ∷ es) = entryBytes e ++ bodyOf es
 
--- the log of a list of entries
-unfoldable pub logOf : List Entry → List ℕ
-logOf es = headBytes ++ bodyOf es
+-- the log of an edition and a list of entries
+unfoldable pub logOf : Edition → List Entry → List ℕ
+logOf v es = headBytes v ++ bodyOf es

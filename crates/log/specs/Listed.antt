@@ -1,20 +1,16 @@
 -- The entries in some bytes, or the refusal: document 02, L1. "40 edition, 41 number not shortest, or a tenth byte above 1, 42 length over
--- 65,535, 43 log empty or ending inside an entry, in byte order with 43 before any value that is cut". Definitions only.
+-- 65,535, 43 log empty or ending inside an entry, in byte order with 43 before any value that is cut". The head is read by specs/Editions.
+-- Definitions only.
 use mathlib.Core.List.{List, [], _∷_}
 use Prim.Native.Nat.{ℕ, zero, suc}
-use lib.Dec.{eqb, ltb}
+use lib.Dec.{ltb}
 use lib.ListN.{length, take, drop}
 use Rattle.wire.specs.Choice.{pick}
 use Rattle.wire.specs.Taken.{Taken, taken, refused, follow}
 use Rattle.wire.specs.Seven.{sevenIn}
 use Rattle.datagram.specs.Limits.{maxDatagram}
-use Rattle.log.specs.Entries.{Entry, entryOf, edition}
-
--- ---- the head: its edition
-
-unfoldable pub headIn : List ℕ → Taken ℕ
-headIn [] = refused 43
-headIn (x ∷ b) = pick (eqb x edition) (taken x b) (refused 40)
+use Rattle.log.specs.Editions.{Edition, headIn}
+use Rattle.log.specs.Entries.{Entry, entryOf}
 
 -- ---- an entry: three numbers, each read as a 64-bit number first, then the bytes
 
@@ -57,8 +53,8 @@ unfoldable pub listBy : ℕ → List ℕ → Listed
 listBy zero b = whole []
 listBy (suc k) b = oneMore (listBy k) b
 
-unfoldable pub entriesAfter : Taken ℕ → Listed
-entriesAfter (taken x b) = listBy (length b) b
+unfoldable pub entriesAfter : Taken Edition → Listed
+entriesAfter (taken v b) = listBy (length b) b
 entriesAfter (refused n) = broken [] n
 
 unfoldable pub entriesIn : List ℕ → Listed

@@ -5,18 +5,19 @@ use lib.Dec.{eqb}
 use lib.ListN.{length, take, drop}
 use Rattle.wire.specs.Choice.{pick}
 use Rattle.wire.specs.Taken.{Taken, taken, refused}
+use Rattle.log.specs.Editions.{Edition, headIn, limitsOf}
 use Rattle.log.specs.Entries.{Entry, entryOf}
-use Rattle.log.specs.Listed.{headIn, entryIn, Listed, whole, broken, after}
+use Rattle.log.specs.Listed.{entryIn, Listed, whole, broken, after}
 use Rattle.log.specs.declared.reader.EntryAt.{EntryAt}
 use Rattle.log.specs.declared.reader.First.{First}
 use Rattle.log.specs.declared.reader.First.the-variants as first
 use Rattle.log.specs.declared.reader.Step.{Step}
 use Rattle.log.specs.declared.reader.Step.the-variants.{Found, End, Refused}
 
--- ---- the head: where the first entry begins
+-- ---- the head: where the first entry begins, and the log's limits
 
-abbrev pub firstOf : List ℕ → Taken ℕ → First
-firstOf log (taken x b) = first.At (length log - length b)
+abbrev pub firstOf : List ℕ → Taken Edition → First
+firstOf log (taken v b) = first.At (length log - length b) (limitsOf v)
 firstOf log (refused n) = first.Refused n
 
 abbrev pub firstIn : List ℕ → First
@@ -73,7 +74,7 @@ saidIn (x ∷ b) = saidOf (entryIn (x ∷ b))
 -- ---- the open reader: its place is 0 until the head was judged, and stays where the log ended or was refused
 
 abbrev pub fromFirst : List ℕ → First → Step
-fromFirst log (first.At at) = nextAt log at
+fromFirst log (first.At at limits) = nextAt log at
 fromFirst log (first.Refused n) = Refused n
 
 unfoldable pub readAt : List ℕ → ℕ → Step

@@ -2,13 +2,20 @@
 ghost use mathlib.Core.Path.{_≡_};
 ghost use Prim.Native.Nat.{_≤_};
 ghost use lib.ListN.{length, drop};
+ghost use Rattle.log.specs.Editions.{limited, limitIn, limitsIn};
 ghost use Rattle.log.specs.Listed.{datagramIn, lengthIn, tickIn, entryIn};
-ghost use Rattle.log.specs.Told.{firstIn, stepOf, nextAt, readAt, placeAfter};
+ghost use Rattle.log.specs.Told.{firstOf, firstIn, stepOf, nextAt, readAt, placeAfter};
 use wire::Seven;
 
-// Where the first entry begins, or the refusal.
+// The limits of a log's fragments: the largest payload, and the most fragments of a message.
+pub struct Limits {
+    pub payload: usize,
+    pub fragments: u32,
+}
+
+// Where the first entry begins and the log's limits, or the refusal.
 pub enum First {
-    At(usize),
+    At(usize, Limits),
     Refused(u32),
 }
 
@@ -27,6 +34,34 @@ pub enum Step {
     Refused(u32),
 }
 
+// The head of edition 2 with this limit; the entries begin at a place.
+fn within(log: &[u8], limit: u64, at: usize) -> First
+    requires { ⌜ at ≤ length (now log) ⌝ }
+    ensures { λ r. ⌜ r ≡ firstOf (now (log .entry)) (limited limit (drop at (now (log .entry)))) ⌝ }
+{
+    if (datagram::MAX_PAYLOAD as u64) < limit {
+        return First::Refused(45);
+    }
+    First::At(
+        at,
+        Limits {
+            payload: limit as usize,
+            fragments: datagram::MAX_FRAGMENTS,
+        },
+    )
+}
+
+// The limit of edition 2 at a place.
+fn limit_at(log: &[u8], at: usize) -> First
+    ensures { λ r. ⌜ r ≡ firstOf (now (log .entry)) (limitIn (drop at (now (log .entry)))) ⌝ }
+{
+    let read = wire::read_seven(log, at);
+    match read {
+        Seven::Number(limit, next) => within(log, limit, next),
+        Seven::Refused(form) => First::Refused(form),
+    }
+}
+
 // Judges the head of a log.
 pub fn first_entry(log: &[u8]) -> First
     ensures { λ r. ⌜ r ≡ firstIn (now (log .entry)) ⌝ }
@@ -34,10 +69,33 @@ pub fn first_entry(log: &[u8]) -> First
     if log.len() < 1 {
         return First::Refused(43);
     }
+    if log[0] == super::EDITION_ONE {
+        return First::At(
+            1,
+            Limits {
+                payload: super::PAYLOAD_ONE,
+                fragments: super::FRAGMENTS_ONE,
+            },
+        );
+    }
     if log[0] == super::EDITION {
-        return First::At(1);
+        return limit_at(log, 1);
     }
     First::Refused(40)
+}
+
+// The limits of a log. One that is refused at its head has no entries, and no fragment is within its limits.
+pub fn limits_in(log: &[u8]) -> Limits
+    ensures { λ r. ⌜ r ≡ limitsIn (now (log .entry)) ⌝ }
+{
+    let first = first_entry(log);
+    match first {
+        First::At(_, limits) => limits,
+        First::Refused(_) => Limits {
+            payload: 0,
+            fragments: 0,
+        },
+    }
 }
 
 // The datagram of n bytes at a place, of an entry with these numbers.
@@ -104,7 +162,7 @@ pub fn read_on(log: &[u8], at: usize) -> Step
     }
     let first = first_entry(log);
     match first {
-        First::At(place) => next_entry(log, place),
+        First::At(place, _) => next_entry(log, place),
         First::Refused(e) => Step::Refused(e),
     }
 }

@@ -14,15 +14,20 @@ pub enum Written {
     Refused(u32),
 }
 
-// The head of a log at the start of the output.
-pub fn begin(out: &mut [u8]) -> Written
-    ensures { λ r. ⌜ Began (now (out .entry)) r (now (out .exit)) ⌝ }
+// The head of a log at the start of the output: edition 2, with its payload limit.
+pub fn begin(out: &mut [u8], limit: u64) -> Written
+    ensures { λ r. ⌜ Began (now (out .entry)) limit r (now (out .exit)) ⌝ }
 {
-    if out.len() < 1 {
+    if (datagram::MAX_PAYLOAD as u64) < limit {
+        return Written::Refused(45);
+    }
+    let n = 1 + wire::seven_length(limit);
+    if out.len() < n {
         return Written::Refused(13);
     }
     out[0] = super::EDITION;
-    Written::Next(1)
+    wire::put_seven(out, 1, limit);
+    Written::Next(n)
 }
 
 // How many bytes an entry takes.

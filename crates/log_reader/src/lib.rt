@@ -2,7 +2,9 @@
 // crate log on the slice and the place.
 ghost use mathlib.Core.Path.{_≡_};
 ghost use lib.ListN.{take, drop};
+ghost use Rattle.log.specs.Editions.{limitsIn};
 ghost use Rattle.log_reader.specs.Reader.{readerAt, stepNow, onward};
+use log::Limits;
 use log::Step;
 
 pub struct LogReader<'a> {
@@ -25,6 +27,13 @@ pub fn next<'s, 'a>(r: &'s mut LogReader<'a>) -> Step
     let step = log::read_on(r.log, at);
     r.at = log::place_after(at, step);
     step
+}
+
+// The log's limits.
+pub fn limits<'a>(r: LogReader<'a>) -> Limits
+    ensures { λ l. ⌜ l ≡ limitsIn (now (r .entry .log)) ⌝ }
+{
+    log::limits_in(r.log)
 }
 
 // The datagram of an entry, as the part of the lent log that holds it.

@@ -48,10 +48,11 @@ fn kept(buf: &mut [u8], out: &mut [u8], first: usize) {
     }
 }
 
+// The log's payload limit is the largest that a log may have, so no refusal comes.
 fn main() {
     let mut buf = [0u8; 262144];
     let mut out = [0u8; 262144];
-    if let Written::Next(first) = log::begin(&mut out) {
+    if let Written::Next(first) = log::begin(&mut out, datagram::MAX_PAYLOAD as u64) {
         kept(&mut buf, &mut out, first);
     }
 }

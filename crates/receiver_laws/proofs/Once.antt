@@ -23,7 +23,7 @@ use Rattle.receiver.specs.declared.Call.the-variants as call
 use Rattle.receiver_state.proofs.Unique.{words-same, names-same}
 
 -- words and names of the lengths that were lent
-shape-of : (w n v m : List ℕ) → shaped w n ≡ true → length v ≡ length w → length m ≡ length n → Shaped v m
+pub shape-of : (w n v m : List ℕ) → shaped w n ≡ true → length v ≡ length w → length m ≡ length n → Shaped v m
 shape-of w n v m s a b = record {
   words = a ∙ eqb-true _ _ (and-l (eqb (length w) stateWords) (eqb (length n) nameBytes) s);
   bytes = b ∙ eqb-true _ _ (and-r (eqb (length w) stateWords) (eqb (length n) nameBytes) s);

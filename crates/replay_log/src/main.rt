@@ -1,16 +1,18 @@
 // Replays a flight that was kept. Standard input is a log; each datagram is given, from its entry's sender, to a fresh receiver, and a line
-// says what it answers, as in `replay`; the last line says how many entries there are, or the refusal that ended them.
+// says what it answers, as in `replay`; the last line says how many entries there are, or the refusal that ended them. The log's limits bind
+// beside the slot size.
 ghost use Rattle.log.specs.Told.{entrySaid};
-ghost use Rattle.replay_run.specs.Lines.{Replayed};
+ghost use Rattle.replay_log.specs.Lines.{Replayed};
 use log::EntryAt;
+use log::Limits;
 use log::Step;
 use receiver::Call;
 use stream::All;
 
-// The bytes of the store: each of the eight slots takes a payload of 262,144.
+// The bytes of the store: each of the eight slots takes a payload of 262,144, in every edition.
 const STORE: usize = 2097152;
 
-// Entry n: its datagram is received from its sender, and its line goes out. Answers the place after it.
+// Entry n: its datagram is received from its sender, within the log's limits, and its line goes out. Answers the place after it.
 fn one_more(
     out: &mut [u8],
     at: usize,
@@ -19,13 +21,17 @@ fn one_more(
     names: &mut [u8],
     store: &mut [u8],
     ledger: &mut [u32],
+    limits: Limits,
     log: &[u8],
     entry: EntryAt,
 ) -> usize
-    ensures { λ r. ⌜ Replayed (now (state .entry)) (now (names .entry)) (now (store .entry)) (now (ledger .entry)) (entry .sender) (entrySaid (now (log .entry)) entry .datagram) n (now (out .entry)) at (now (state .exit)) (now (names .exit)) (now (store .exit)) (now (ledger .exit)) (now (out .exit)) r ⌝ }
+    ensures { λ r. ⌜ Replayed limits (now (state .entry)) (now (names .entry)) (now (store .entry)) (now (ledger .entry)) (entry .sender) (entrySaid (now (log .entry)) entry .datagram) n (now (out .entry)) at (now (state .exit)) (now (names .exit)) (now (store .exit)) (now (ledger .exit)) (now (out .exit)) r ⌝ }
 {
     let d = wire::part(log, entry.at, entry.len);
-    replay_run::replay_one(out, at, n, state, names, store, ledger, entry.sender, d)
+    let outcome = bounded::receive_within(state, names, store, ledger, limits, entry.sender, d);
+    let answer = outcome.answer;
+    let emptied = outcome.emptied;
+    replay_run::pour_line(out, at, n, answer, emptied)
 }
 
 // One line an entry, and the last line.
@@ -37,6 +43,7 @@ fn replayed(
     store: &mut [u8],
     ledger: &mut [u32],
 ) {
+    let limits = log::limits_in(log);
     let mut place: usize = 0;
     let mut at: usize = 0;
     let mut n: u64 = 0;
@@ -49,7 +56,7 @@ fn replayed(
         };
         n += 1;
         place = entry.next;
-        at = one_more(out, at, n, state, names, store, ledger, log, entry);
+        at = one_more(out, at, n, state, names, store, ledger, limits, log, entry);
     }
 }
 

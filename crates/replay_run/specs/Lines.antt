@@ -31,8 +31,8 @@ line n answer emptied = decimal n ++ answerText answer ++ emptiedText emptied
 abbrev pub onlySender : ℕ
 onlySender = 0
 
--- Datagram d of a sender was received over the lent state, names, store and ledger, and line n says the outcome.
-pub record Replayed (w n store ledger : List ℕ) (sender : ℕ) (d : List ℕ) (number : ℕ) (out : List ℕ) (at : ℕ) (w′ n′ store′ ledger′ out′ : List ℕ) (r : ℕ) : Type 0 where
+-- Datagram d was received over the lent state, names, store and ledger, and line n says the outcome.
+pub record Replayed (w n store ledger d : List ℕ) (number : ℕ) (out : List ℕ) (at : ℕ) (w′ n′ store′ ledger′ out′ : List ℕ) (r : ℕ) : Type 0 where
   pub outcome : Outcome
-  pub heard : Receives w n store ledger sender d outcome w′ n′ store′ ledger′
+  pub heard : Receives w n store ledger onlySender d outcome w′ n′ store′ ledger′
   pub said : Pours out at (line number (outcome .answer) (outcome .emptied)) out′ r

@@ -4,7 +4,7 @@ ghost use mathlib.Core.Path.{_≡_};
 ghost use mathlib.Core.List.{[], _∷_, _++_};
 ghost use lib.ListN.{length};
 ghost use Rattle.output.specs.Output.{Pours};
-ghost use Rattle.replay_run.specs.Lines.{answerText, emptiedText, line, onlySender, Replayed};
+ghost use Rattle.replay_run.specs.Lines.{answerText, emptiedText, line, Replayed};
 use receiver::Call;
 use receiver::Outcome;
 use steps::Answer;
@@ -41,7 +41,7 @@ fn pour_emptied(out: &mut [u8], at: usize, emptied: Emptied) -> usize
 }
 
 // Line n.
-fn pour_line(out: &mut [u8], at: usize, n: u64, answer: Answer, emptied: Emptied) -> usize
+pub fn pour_line(out: &mut [u8], at: usize, n: u64, answer: Answer, emptied: Emptied) -> usize
     ensures { λ r. ⌜ Pours (now (out .entry)) at (line n answer emptied) (now (out .exit)) r ⌝ }
 {
     let a = output::pour_decimal(out, at, n);
@@ -49,27 +49,7 @@ fn pour_line(out: &mut [u8], at: usize, n: u64, answer: Answer, emptied: Emptied
     pour_emptied(out, b, emptied)
 }
 
-// Datagram n, of a sender, is received, and its line goes out. Answers the place after it.
-pub fn replay_one(
-    out: &mut [u8],
-    at: usize,
-    n: u64,
-    state: &mut [u64],
-    names: &mut [u8],
-    store: &mut [u8],
-    ledger: &mut [u32],
-    sender: u64,
-    d: &[u8],
-) -> usize
-    ensures { λ r. ⌜ Replayed (now (state .entry)) (now (names .entry)) (now (store .entry)) (now (ledger .entry)) sender (now (d .entry)) n (now (out .entry)) at (now (state .exit)) (now (names .exit)) (now (store .exit)) (now (ledger .exit)) (now (out .exit)) r ⌝ }
-{
-    let outcome = receiver::receive(state, names, store, ledger, sender, d);
-    let answer = outcome.answer;
-    let emptied = outcome.emptied;
-    pour_line(out, at, n, answer, emptied)
-}
-
-// In `replay` all are of one sender, 0.
+// Datagram n is received, and its line goes out. Answers the place after it. All are of one sender, 0.
 fn one_more(
     out: &mut [u8],
     at: usize,
@@ -80,9 +60,12 @@ fn one_more(
     ledger: &mut [u32],
     d: &[u8],
 ) -> usize
-    ensures { λ r. ⌜ Replayed (now (state .entry)) (now (names .entry)) (now (store .entry)) (now (ledger .entry)) onlySender (now (d .entry)) n (now (out .entry)) at (now (state .exit)) (now (names .exit)) (now (store .exit)) (now (ledger .exit)) (now (out .exit)) r ⌝ }
+    ensures { λ r. ⌜ Replayed (now (state .entry)) (now (names .entry)) (now (store .entry)) (now (ledger .entry)) (now (d .entry)) n (now (out .entry)) at (now (state .exit)) (now (names .exit)) (now (store .exit)) (now (ledger .exit)) (now (out .exit)) r ⌝ }
 {
-    replay_one(out, at, n, state, names, store, ledger, 0, d)
+    let outcome = receiver::receive(state, names, store, ledger, 0, d);
+    let answer = outcome.answer;
+    let emptied = outcome.emptied;
+    pour_line(out, at, n, answer, emptied)
 }
 
 // One line a datagram, and the last line.

@@ -19,7 +19,7 @@ pub worked-cases : map hears cases ≡ map (λ (c : Case). c .answered) cases
 unfolding hears inFours run zipWith A-of B-of step sound receive decide act stay step3 step5 sameFragment agrees seat oldest release lower opening openCount filled opened emptyMemory isRemembered remember placeFor withKey memoryOk among isHeld hold noneHeld said readDatagram readSmall readFragment formed goodForm nameLength goodName untilZero be overlay
 worked-cases = refl
 
-pub slot-sizes : slotSizes ≡ 0 ∷ 1 ∷ 262_143 ∷ 262_144 ∷ 262_144 ∷ []
+pub slot-sizes : slotSizes ≡ 0 ∷ 1 ∷ 1_048_575 ∷ 1_048_576 ∷ 1_048_576 ∷ []
 slot-sizes = refl
 
 pub memory-cases :

@@ -13,7 +13,7 @@ sendersMost = 16
 abbrev pub keysEach : ℕ
 keysEach = 32
 
--- offset and length for each fragment of each slot: 4,096 numbers
+-- offset and length for each fragment of each slot: 16,384 numbers
 abbrev pub ledgerLength : ℕ
 ledgerLength = 2 * (maxFragments * slotCount)
 

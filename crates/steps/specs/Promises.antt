@@ -13,7 +13,7 @@ use Rattle.steps.specs.Memory.{Key, isRemembered, memoryOk}
 use Rattle.steps.specs.Slots.{Slot, busy, slotAt, padded}
 use Rattle.steps.specs.Receive.{Machine, offsetOf, lengthOf, placeOf}
 
--- Refusal 9: store length not that of opening, ledger not 4,096, or a state with C not the store's, an open slot's P over C or n outside 1 to 256
+-- Refusal 9: store length not that of opening, ledger not 16,384, or a state with C not the store's, an open slot's P over C or n outside 1 to 1,024
 -- (an open slot's n is not 0), or over 16 remembered senders, or over 32 keys for one.
 pub data Unfit (m : Machine) (store ledger : List ℕ) : Type 0 where
   by-store : length store ≢ m .storeLength → Unfit m store ledger

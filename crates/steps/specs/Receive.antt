@@ -209,11 +209,11 @@ receive m store ledger sender r = act m store ledger (keyOf sender (sequenceOf r
 
 -- ---- refusal 9, and the whole call
 
--- a free slot, or P not over C and n not over 256 (n = 0 is a free slot)
+-- a free slot, or P not over C and n not over 1,024 (n = 0 is a free slot)
 abbrev pub slotOk : ℕ → Slot → Bool
 slotOk C slot = not (busy slot) || (leb (slot .size) C && leb (slot .count) maxFragments)
 
--- The store has its length of opening, the ledger 4,096 numbers, C is the store's, every slot is in order, and not over 16 senders are remembered, nor over 32 keys for one.
+-- The store has its length of opening, the ledger 16,384 numbers, C is the store's, every slot is in order, and not over 16 senders are remembered, nor over 32 keys for one.
 unfoldable pub sound : Machine → ℕ → ℕ → Bool
 sound m storeLength ledgerSize =
     eqb storeLength (m .storeLength)

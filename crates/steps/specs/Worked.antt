@@ -101,9 +101,9 @@ cases =
 
 -- ---- slot sizes; what is remembered after deliveries, the latest first, and of a sender that is forgotten
 
--- the slot sizes of stores of 7, 8, 2,097,151, 2,097,152 and 2,097,160 bytes
+-- the slot sizes of stores of 7, 8, 8,388,607, 8,388,608 and 8,388,616 bytes
 abbrev pub slotSizes : List ℕ
-slotSizes = map slotSizeOf (7 ∷ 8 ∷ 2_097_151 ∷ 2_097_152 ∷ 2_097_160 ∷ [])
+slotSizes = map slotSizeOf (7 ∷ 8 ∷ 8_388_607 ∷ 8_388_608 ∷ 8_388_616 ∷ [])
 
 -- the keys of sender 0 with sequences below n, then other deliveries before them
 abbrev pub keysBelow : ℕ → List Key → List Key

@@ -1,21 +1,26 @@
--- An entry's datagram, the part of the log that holds it, from the entry's sender. Assumes nothing.
+-- An entry's datagram, the part of the log that holds it, from the entry's sender, within the log's limits. Assumes nothing.
 use mathlib.Core.Path.{_≡_, subst}
 use mathlib.Core.List.{List}
 use Prim.Native.Nat.{ℕ}
+use Rattle.receiver.specs.declared.Outcome.{Outcome}
+use Rattle.log.specs.declared.reader.Limits.{Limits}
+use Rattle.bounded.specs.Within.{ReceivesWithin}
 use borrow.Author.Needs.{needs}
-use Rattle.replay_run.specs.Lines.{Replayed}
 use Rattle.replay_log.proofs.one_more.Statement.{statement}
 use Rattle.replay_log.proofs.one_more.Tie as tie
 
-module _ {w n store ledger : List ℕ} {sender : ℕ} {d e : List ℕ} {number : ℕ} {out : List ℕ} {at : ℕ} {w′ n′ store′ ledger′ out′ : List ℕ} {r : ℕ} where
-  same-datagram : d ≡ e → Replayed w n store ledger sender d number out at w′ n′ store′ ledger′ out′ r → Replayed w n store ledger sender e number out at w′ n′ store′ ledger′ out′ r
-  same-datagram = subst (λ (b : List ℕ). Replayed w n store ledger sender b number out at w′ n′ store′ ledger′ out′ r)
+module _ {l : Limits} {w n store ledger : List ℕ} {sender : ℕ} {d e : List ℕ} {r : Outcome} {w′ n′ store′ ledger′ : List ℕ} where
+  same-datagram : d ≡ e → ReceivesWithin l w n store ledger sender d r w′ n′ store′ ledger′ → ReceivesWithin l w n store ledger sender e r w′ n′ store′ ledger′
+  same-datagram = subst (λ (b : List ℕ). ReceivesWithin l w n store ledger sender b r w′ n′ store′ ledger′)
 
 part-requires : tie.Need-part-requires
 part-requires c κs = search needs
 
-replay-one-requires : tie.Need-replay-one-requires
-replay-one-requires c κs = search needs
+receive-within-requires : tie.Need-receive-within-requires
+receive-within-requires c κs = search needs
+
+pour-line-requires : tie.Need-pour-line-requires
+pour-line-requires c κs = search needs
 
 same-length : tie.Need-same-length
 same-length c = search needs
@@ -34,15 +39,17 @@ same-length-5 c = search needs
 
 returns : tie.Need-returns
 returns c =
-    let p = c .before .before .before .before .before .before .before .before .before .before in
-    same-datagram (p .before .before .before .before .before .before .part .ensures) (p .replay-one .ensures)
+    let r = c .before .before .before .before .before .before .before .before .before .before .before .before in
+    let p = r .before .before .before .before .before .part .ensures in
+    record { outcome = _; heard = same-datagram p (r .receive-within .ensures); said = c .before .before .pour-line .ensures }
 
 pub one-more-spec : {M : Type 1} → statement M
 one-more-spec =
     tie.close
     (tie.spec
     part-requires
-    replay-one-requires
+    receive-within-requires
+    pour-line-requires
     same-length
     same-length-2
     same-length-3

@@ -7,11 +7,14 @@ use Rattle.replay_log.proofs.replayed.Statement.{statement}
 use Rattle.replay_log.proofs.replayed.Tie as tie
 
 abbrev Inv-loop : tie.InvT-loop
-Inv-loop log out₀ state₀ names₀ store₀ ledger₀ place₀ at₀ n₀ out state names store ledger place at n =
+Inv-loop log out₀ state₀ names₀ store₀ ledger₀ limits place₀ at₀ n₀ out state names store ledger place at n =
     (length out ≡ length out₀) × (length state ≡ length state₀) × (length names ≡ length names₀) × (length store ≡ length store₀) × (length ledger ≡ length ledger₀)
 
 abbrev μ-loop : tie.MeasureT-loop
-μ-loop log out₀ state₀ names₀ store₀ ledger₀ place₀ at₀ n₀ out state names store ledger place at n = 18446744073709551615 - n
+μ-loop log out₀ state₀ names₀ store₀ ledger₀ limits place₀ at₀ n₀ out state names store ledger place at n = 18446744073709551615 - n
+
+limits-in-requires : tie.Need-limits-in-requires Inv-loop μ-loop
+limits-in-requires c κs = search needs
 
 loop-holds : tie.Need-loop-holds Inv-loop μ-loop
 loop-holds c = search needs
@@ -79,4 +82,4 @@ returns-2 c = search needs
 pub replayed-spec : {M : Type 1} → statement M
 replayed-spec =
     tie.close
-    (tie.spec Inv-loop μ-loop loop-holds read-on-requires enum-known-step pour-last-requires write-out-requires same-length same-length-2 same-length-3 same-length-4 same-length-5 returns add-n one-more-requires loop-less loop-again same-length-6 same-length-7 same-length-8 same-length-9 same-length-10 returns-2)
+    (tie.spec Inv-loop μ-loop limits-in-requires loop-holds read-on-requires enum-known-step pour-last-requires write-out-requires same-length same-length-2 same-length-3 same-length-4 same-length-5 returns add-n one-more-requires loop-less loop-again same-length-6 same-length-7 same-length-8 same-length-9 same-length-10 returns-2)

@@ -1,10 +1,13 @@
--- A datagram of sender 0. Assumes nothing.
+-- A datagram is received, and its line says the outcome. Assumes nothing.
 use borrow.Author.Needs.{needs}
 use Rattle.replay_run.proofs.one_more.Statement.{statement}
 use Rattle.replay_run.proofs.one_more.Tie as tie
 
-replay-one-requires : tie.Need-replay-one-requires
-replay-one-requires c κs = search needs
+receive-requires : tie.Need-receive-requires
+receive-requires c κs = search needs
+
+pour-line-requires : tie.Need-pour-line-requires
+pour-line-requires c κs = search needs
 
 same-length : tie.Need-same-length
 same-length c = search needs
@@ -22,13 +25,17 @@ same-length-5 : tie.Need-same-length-5
 same-length-5 c = search needs
 
 returns : tie.Need-returns
-returns c = c .before .before .before .before .before .before .before .before .before .before .replay-one .ensures
+returns c =
+    let p = c .before .before in
+    let r = p .before .before .before .before .before .before .before .before .before .before in
+    record { outcome = _; heard = r .receive .ensures; said = p .pour-line .ensures }
 
 pub one-more-spec : {M : Type 1} → statement M
 one-more-spec =
     tie.close
     (tie.spec
-    replay-one-requires
+    receive-requires
+    pour-line-requires
     same-length
     same-length-2
     same-length-3

@@ -1,24 +1,48 @@
 -- `log::first_entry` meets its contract. Assumes nothing.
-use mathlib.Core.Path.{sym}
-use Rattle.log.proofs.Reading.{first-empty, first-good, first-other}
+use mathlib.Core.Path.{sym, _∙_}
+use Rattle.log.proofs.Reading.{first-empty, first-one, first-two, first-other}
 use borrow.Author.Needs.{needs}
 use Rattle.log.proofs.reader.first_entry.Statement.{statement}
 use Rattle.log.proofs.reader.first_entry.Tie as tie
 
 returns : tie.Need-returns
 returns c =
-    sym (first-empty (c .before .args .log .now) (c .if1 .taken))
+    sym (first-empty (c .before .before .args .log .now) (c .if1 .taken))
 
 shared-slice-read-if2 : tie.Need-shared-slice-read-if2
 shared-slice-read-if2 c = search needs
 
 returns-2 : tie.Need-returns-2
 returns-2 c =
-    sym (first-good (c .before .before .before .args .log .now) (c .before .before .if1 .left) (c .if2 .taken))
+    let i = c .before .before in
+    sym (first-one (i .before .before .args .log .now) (i .if1 .left) (c .if2 .taken))
+
+shared-slice-read-if3 : tie.Need-shared-slice-read-if3
+shared-slice-read-if3 c = search needs
+
+limit-at-requires : tie.Need-limit-at-requires
+limit-at-requires c κs = search needs
 
 returns-3 : tie.Need-returns-3
 returns-3 c =
-    sym (first-other (c .before .before .before .args .log .now) (c .before .before .if1 .left) (c .if2 .left))
+    let j = c .before .before .before in
+    let i = j .before .before in
+    c .limit-at .ensures ∙ sym (first-two (i .before .before .args .log .now) (i .if1 .left) (j .if2 .left) (c .before .if3 .taken))
+
+returns-4 : tie.Need-returns-4
+returns-4 c =
+    let j = c .before .before in
+    let i = j .before .before in
+    sym (first-other (i .before .before .args .log .now) (i .if1 .left) (j .if2 .left) (c .if3 .left))
 
 pub first-entry-spec : {M : Type 1} → statement M
-first-entry-spec = tie.close (tie.spec returns shared-slice-read-if2 returns-2 returns-3)
+first-entry-spec =
+    tie.close
+    (tie.spec
+    returns
+    shared-slice-read-if2
+    returns-2
+    shared-slice-read-if3
+    limit-at-requires
+    returns-3
+    returns-4)

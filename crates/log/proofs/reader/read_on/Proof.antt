@@ -29,7 +29,7 @@ returns-2 : tie.Need-returns-2
 returns-2 c =
     let f = c .before .before .before .before in
     let a = f .before .before .before .args in
-    c .next-entry2 .ensures ∙ sym (read-first (a .log .now) (a .at) _ (f .before .if1 .left) (sym (f .first-entry .ensures) ∙ c .before .before .first .given .1))
+    c .next-entry2 .ensures ∙ sym (read-first (a .log .now) (a .at) _ _ (f .before .if1 .left) (sym (f .first-entry .ensures) ∙ c .before .before .first .given .1))
 
 returns-3 : tie.Need-returns-3
 returns-3 c =

@@ -1,0 +1,3 @@
+pub mod Readers
+pub mod Withins
+pub mod Once

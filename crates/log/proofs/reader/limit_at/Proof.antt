@@ -1,0 +1,47 @@
+-- `log::reader::limit_at` meets its contract. Assumes nothing.
+use mathlib.Core.Path.{sym, ap, _∙_}
+use Rattle.wire.proofs.Sevens.{number-taken, number-refused}
+use Rattle.log.specs.Told.{firstOf}
+use Rattle.log.proofs.Reading.{limit-follows, limit-refused}
+use borrow.Author.Needs.{needs}
+use Rattle.log.proofs.reader.limit_at.Statement.{statement}
+use Rattle.log.proofs.reader.limit_at.Tie as tie
+
+read-seven-requires : tie.Need-read-seven-requires
+read-seven-requires c κs = search needs
+
+enum-known-read : tie.Need-enum-known-read
+enum-known-read c = search needs
+
+within-requires : tie.Need-within-requires
+within-requires c κs =
+    let r = c .before .before .before in
+    let a = r .before .before .args in
+    number-taken (a .log .now) (a .at) _ _ (λ i. r .before .shared-slice-known .given i .fits) _ (r .read-seven .ensures) (c .before .read .given .1) .within
+
+enum-known-read-2 : tie.Need-enum-known-read-2
+enum-known-read-2 c = search needs
+
+returns : tie.Need-returns
+returns c =
+    let r = c .before .before .before .before in
+    let a = r .before .before .args in
+    let f = number-taken (a .log .now) (a .at) _ _ (λ i. r .before .shared-slice-known .given i .fits) _ (r .read-seven .ensures) (c .before .before .read .given .1) in
+    c .within .ensures ∙ ap (firstOf (a .log .now)) (sym (limit-follows _ _ _ (f .is)))
+
+returns-2 : tie.Need-returns-2
+returns-2 c =
+    let r = c .before .before .before in
+    let a = r .before .before .args in
+    sym (ap (firstOf (a .log .now)) (limit-refused _ _ (number-refused (a .log .now) (a .at) _ _ (r .read-seven .ensures) (c .before .read2 .given .1))))
+
+pub limit-at-spec : {M : Type 1} → statement M
+limit-at-spec =
+    tie.close
+    (tie.spec
+    read-seven-requires
+    enum-known-read
+    within-requires
+    enum-known-read-2
+    returns
+    returns-2)

@@ -1,0 +1,29 @@
+-- `log::limits_in` meets its contract. Assumes nothing.
+use mathlib.Core.Path.{sym, _∙_}
+use Rattle.log.proofs.Reading.{limits-told, limits-none}
+use borrow.Author.Needs.{needs}
+use Rattle.log.proofs.reader.limits_in.Statement.{statement}
+use Rattle.log.proofs.reader.limits_in.Tie as tie
+
+first-entry-requires : tie.Need-first-entry-requires
+first-entry-requires c κs = search needs
+
+enum-known-first : tie.Need-enum-known-first
+enum-known-first c = search needs
+
+enum-told : tie.Need-enum-told
+enum-told c = search needs
+
+returns : tie.Need-returns
+returns c =
+    let f = c .before .before .before in
+    limits-told (f .before .before .args .log .now) _ _ (sym (f .first-entry .ensures) ∙ c .before .first .given .1)
+
+returns-2 : tie.Need-returns-2
+returns-2 c =
+    let f = c .before .before in
+    limits-none (f .before .before .args .log .now) _ (sym (f .first-entry .ensures) ∙ c .enum-told .given .1)
+
+pub limits-in-spec : {M : Type 1} → statement M
+limits-in-spec =
+    tie.close (tie.spec first-entry-requires enum-known-first enum-told returns returns-2)
