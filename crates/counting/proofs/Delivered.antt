@@ -1,4 +1,4 @@
--- Under demand 3's suppositions the delivered payloads are the messages', each once: as members, and in every sum. Assumes nothing.
+-- Under demand 3's suppositions, and where the limits admit the messages, the delivered payloads are the messages', each once: as members, and in every sum. Assumes nothing.
 use mathlib.Core.Path.{_≡_, refl, sym, ap, _∙_, subst}
 use mathlib.Core.Logic.{inl, inr}
 use mathlib.Core.List.{List, [], _∷_, map}
@@ -8,15 +8,16 @@ use native.Mathlib.Decide.{ℕ-discrete}
 use borrow.Author.Tests.{ne-eqb}
 use Rattle.steps.specs.Search.{one}
 use Rattle.steps.proofs.Tables.{all-of}
-use Rattle.arrival.specs.Demand.{Scene, nobody, parts, size, Message, message, Feed, got, done, completed, own, Supposed}
+use Rattle.arrival.specs.Demand.{Scene, nobody, parts, size, Message, message, Feed, got, done, completed, own, inOrderOfCompletion, Supposed}
 use Rattle.arrival.proofs.Track.{Lawful, Fair, fair-of, times, done-once}
-use Rattle.arrival.proofs.Whole.{Apart, completed-apart}
+use Rattle.arrival.proofs.Whole.{Apart, completed-apart, whole-tidy}
 use Rattle.arrival.proofs.Demand3.{delivered-own}
+use Rattle.log.specs.declared.reader.Limits.{Limits}
 use Rattle.log.specs.Entries.{Entry}
 use Rattle.tally.specs.Lists.{In, SameMembers, total}
 use Rattle.tally.proofs.Members.{chained, in-at, Place, place, map-in, map-from, Origin}
 use Rattle.tally.proofs.Sums.{total-map}
-use Rattle.counting.specs.Promise.{Keeps, payloadsOf, deliveredBy}
+use Rattle.counting.specs.Promise.{Keeps, Admits, payloadsOf, deliveredBy}
 use Rattle.counting.proofs.Sums.{total-at, total-once}
 use Rattle.counting.proofs.Logs.{backwards, back-members, back-total, bytesIn, by-log}
 
@@ -42,15 +43,19 @@ own-bytes σ [] = refl
 own-bytes σ (i ∷ l) = ap (λ (ps : List (List ℕ)). payload σ i ∷ ps) (own-bytes σ l)
 
 module _ (σ : Scene) (f : Feed) (s : Supposed σ f) where
-  law : Lawful σ
+  pub law : Lawful σ
   law = record { distinct = s .distinct; sent = s .sent; ledger-fits = s .ledger-fits }
 
-  fair : Fair σ f
+  pub fair : Fair σ f
   fair = fair-of σ f (s .mixture) (s .never-over-eight) (s .few-senders) (s .never-too-late)
 
   -- only messages of the scene are completed, and each of them once
   completed-below : (i : ℕ) → In i (completed σ f) → i < size σ
   completed-below = apart-below σ (completed σ f) (completed-apart σ law f fair)
+
+  -- fed whole, one after another, they are fair too
+  pub whole-fair : Fair σ (inOrderOfCompletion σ f)
+  whole-fair = whole-tidy σ law (completed σ f) (completed-apart σ law f fair) .fair
 
   completed-once : (i : ℕ) → i < size σ → times i (completed σ f) ≡ 1
   unfolding done
@@ -70,16 +75,16 @@ module _ (σ : Scene) (f : Feed) (s : Supposed σ f) where
         (map-in (payload σ) (completed σ f) (q .i) (times-in (q .i) (completed σ f) (omega arith)));
   }
 
-  module _ (es : List Entry) (k : Keeps σ f es) where
-    delivered-are : deliveredBy σ es ≡ backwards (map (payload σ) (completed σ f))
-    delivered-are = by-log σ f es k ∙ ap (λ (l : List (List ℕ)). backwards l) (ap bytesIn (delivered-own σ law f fair) ∙ own-bytes σ (completed σ f))
+  module _ (l : Limits) (a : Admits l σ) (es : List Entry) (k : Keeps σ f es) where
+    delivered-are : deliveredBy l σ es ≡ backwards (map (payload σ) (completed σ f))
+    delivered-are = by-log σ l a (s .sent) f fair es k ∙ ap (λ (ps : List (List ℕ)). backwards ps) (ap bytesIn (delivered-own σ law f fair) ∙ own-bytes σ (completed σ f))
 
-    pub delivered-members : SameMembers (deliveredBy σ es) (payloadsOf σ)
-    delivered-members = subst (λ (l : List (List ℕ)). SameMembers l (payloadsOf σ)) (sym delivered-are)
+    pub delivered-members : SameMembers (deliveredBy l σ es) (payloadsOf σ)
+    delivered-members = subst (λ (ps : List (List ℕ)). SameMembers ps (payloadsOf σ)) (sym delivered-are)
         (chained (back-members (map (payload σ) (completed σ f))) own-members)
 
     -- whatever is summed over the delivered payloads, it is the sum over the messages'
-    pub delivered-total : (w : List ℕ → ℕ) → total w (deliveredBy σ es) ≡ total w (payloadsOf σ)
+    pub delivered-total : (w : List ℕ → ℕ) → total w (deliveredBy l σ es) ≡ total w (payloadsOf σ)
     delivered-total w =
         ap (total w) delivered-are
         ∙ back-total w (map (payload σ) (completed σ f))

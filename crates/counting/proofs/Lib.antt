@@ -1,4 +1,6 @@
+pub mod Heads
 pub mod Computed
+pub mod Wide
 pub mod Under
 pub mod Means
 pub mod Keys
@@ -11,6 +13,7 @@ pub mod Seen
 pub mod Spells
 pub mod Bounds
 pub mod Answered
+pub mod Admitting
 pub mod Logs
 pub mod Delivered
 pub mod Counted

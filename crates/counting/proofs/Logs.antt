@@ -1,21 +1,29 @@
--- The entries that keep a feed deliver what the feed delivers, the first first. Assumes nothing.
-use mathlib.Core.Path.{_≡_, refl, ap, _∙_}
+-- The entries that keep a feed, within limits that admit its messages, deliver what the feed delivers, the first first. Assumes nothing.
+use mathlib.Core.Path.{_≡_, refl, sym, ap, subst, _∙_}
 use mathlib.Core.Logic.{inl, inr}
 use mathlib.Core.List.{List, [], _∷_, _++_, map, append-nil}
 use Prim.Native.Nat.{ℕ}
 use native.Mathlib.Omega.{arith}
+use lib.ListN.{length}
+use Rattle.steps.specs.Limits.{slotSizeOf}
 use Rattle.steps.specs.declared.Key.{Key}
 use Rattle.steps.specs.Answers.{Reply, refusedBy, kept, repeat, delivered, reply}
 use Rattle.steps.specs.Runs.{World, worldOf, fresh, Arrival, call, run, keyIn}
 use Rattle.steps.specs.Runs as runs
-use Rattle.arrival.specs.Demand.{Scene, slotBytes, Feed, start, _▹_, arrival, arrivals, after, Delivery, nameIn, handedBy, delivery, deliveries, push}
+use Rattle.steps.specs.Receive.{After, stay}
+use Rattle.steps.proofs.Reaches.{Good, step-good, opened-good}
+use Rattle.arrival.specs.Demand.{Scene, EachSent, slotBytes, Feed, start, _▹_, arrival, arrivals, after, Delivery, nameIn, handedBy, delivery, deliveries, push}
 use Rattle.arrival.specs.Demand as demand
+use Rattle.arrival.proofs.Track.{Fair}
+use Rattle.log.specs.declared.reader.Limits.{Limits}
 use Rattle.log.specs.Entries.{Entry}
+use Rattle.bounded.proofs.Admits.{Admitted, step-admitted}
 use Rattle.tally.specs.Lists.{In, SameMembers, total}
 use Rattle.tally.proofs.Members.{in-left, in-right, in-either, gather-append}
 use Rattle.tally.proofs.Sums.{total-append}
-use Rattle.counting.specs.Run.{arrivalOf, called, answers, payloadIn, payloads}
-use Rattle.counting.specs.Promise.{Keeps, deliveredBy}
+use Rattle.counting.specs.Run.{arrivalOf, called, answerTo, leftBy, answers, payloadIn, payloads}
+use Rattle.counting.specs.Promise.{Keeps, Admits, deliveredBy}
+use Rattle.counting.proofs.Admitting.{AllAdmitted, all-admitted}
 
 -- ---- answers to arrivals
 
@@ -26,11 +34,32 @@ abbrev replies : World → List Arrival → List Reply
 replies w [] = []
 replies w (x ∷ xs) = replyTo w x ∷ replies (worldOf (call w x)) xs
 
--- an entry is answered as its arrival
-answers-are : (w : World) (es : List Entry) → answers w es ≡ replies w (map arrivalOf es)
-unfolding answers called
-answers-are w [] = refl
-answers-are w (e ∷ es) = ap (λ (rs : List Reply). replyTo w (arrivalOf e) ∷ rs) (answers-are (worldOf (call w (arrivalOf e))) es)
+-- where the limits admit an entry, it hands over and leaves what its arrival does without them
+record AsArrival (l : Limits) (w : World) (e : Entry) : Type 0 where
+  hands : payloadIn (answerTo l w e) ≡ payloadIn (replyTo w (arrivalOf e))
+  leaves : leftBy l w e ≡ worldOf (call w (arrivalOf e))
+
+as-arrival : (l : Limits) (w : World) (e : Entry) → Admitted l (w .machine .slotSize) (e .datagram) → AsArrival l w e
+unfolding called stay
+as-arrival l w e a = elim (step-admitted l (w .machine) (w .store) (w .ledger) (e .sender) (e .datagram) a) [
+  | inl q ↦ record { hands = ap (λ (x : After). payloadIn (reply (e .datagram) (x .store) (x .answer))) q; leaves = ap worldOf q }
+  | inr b ↦ record {
+    hands = ap (λ (x : After). payloadIn (reply (e .datagram) (x .store) (x .answer))) (b .within) ∙ sym (ap (λ (x : After). payloadIn (reply (e .datagram) (x .store) (x .answer))) (b .without));
+    leaves = ap worldOf (b .within) ∙ sym (ap worldOf (b .without));
+  }
+]
+
+-- so all entries deliver as their arrivals
+payloads-are : (l : Limits) (n : ℕ) (w : World) → Good n (w .machine) → (es : List Entry) → AllAdmitted l (slotSizeOf n) (map arrivalOf es)
+    → payloads (answers l w es) ≡ payloads (replies w (map arrivalOf es))
+unfolding answers
+payloads-are l n w g [] a = refl
+payloads-are l n w g (e ∷ es) a =
+    let s : AsArrival l w e = as-arrival l w e (subst (λ (C : ℕ). Admitted l C (e .datagram)) (sym (g .sized)) (a .0)) in
+    let v : World = worldOf (call w (arrivalOf e)) in
+    let h : Good n (v .machine) = step-good n (w .machine) g (w .store) (w .ledger) (e .sender) (e .datagram) in
+    ap (λ (x : World). payloadIn (answerTo l w e) ++ payloads (answers l x es)) (s .leaves)
+    ∙ (λ i. s .hands i ++ payloads-are l n v h es (a .1) i)
 
 replies-last : (w : World) (xs : List Arrival) (x : Arrival) → replies w (xs ++ x ∷ []) ≡ replies w xs ++ replyTo (runs.leftBy w (run w xs)) x ∷ []
 unfolding run
@@ -88,5 +117,9 @@ module _ (σ : Scene) where
       ∙ ap (λ (l : List (List ℕ)). l ++ payloadIn r) (by-arrivals f)
       ∙ one-more (keyIn (slotBytes σ) (arrival σ e)) (nameIn (demand.call σ (after σ f) e .name)) r (deliveries σ f)
 
-  pub by-log : (f : Feed) (es : List Entry) → Keeps σ f es → deliveredBy σ es ≡ backwards (bytesIn (deliveries σ f))
-  by-log f es k = ap payloads (answers-are opening es ∙ ap (replies opening) k) ∙ by-arrivals f
+  pub by-log : (l : Limits) → Admits l σ → EachSent σ → (f : Feed) → Fair σ f → (es : List Entry) → Keeps σ f es → deliveredBy l σ es ≡ backwards (bytesIn (deliveries σ f))
+  by-log l a s f w es k =
+      let n : ℕ = length (σ .store) in
+      payloads-are l n opening (opened-good n) es (subst (AllAdmitted l (slotBytes σ)) (sym k) (all-admitted l σ a s f w))
+      ∙ ap (λ (xs : List Arrival). payloads (replies opening xs)) k
+      ∙ by-arrivals f

@@ -9,6 +9,7 @@ use lib.ListN.{length, length-append}
 use borrow.Author.Tests.{eq-eqb}
 use Rattle.wire.proofs.Choices.{either, never}
 use Rattle.steps.specs.Answers.{Reply, refusedBy, kept, repeat, delivered}
+use Rattle.log.specs.declared.reader.Limits.{Limits}
 use Rattle.log.specs.Entries.{Entry}
 use Rattle.tally.specs.Lists.{In, SameMembers}
 use Rattle.tally.proofs.Members.{in-left, in-right, in-either}
@@ -58,10 +59,10 @@ seen-long seen (p ∷ ps) =
 
 -- ---- in the middle of a log
 
-pub answers-append : (h : Held) (ds es : List Entry) → answers (h .world) (ds ++ es) ≡ answers (h .world) ds ++ answers (heldAll h ds .world) es
+pub answers-append : (l : Limits) (h : Held) (ds es : List Entry) → answers l (h .world) (ds ++ es) ≡ answers l (h .world) ds ++ answers l (heldAll l h ds .world) es
 unfolding answers
-answers-append h [] es = refl
-answers-append h (d ∷ ds) es = ap (λ (rs : List Reply). answerTo (h .world) d ∷ rs) (answers-append (heldAfter h d) ds es)
+answers-append l h [] es = refl
+answers-append l h (d ∷ ds) es = ap (λ (rs : List Reply). answerTo l (h .world) d ∷ rs) (answers-append l (heldAfter l h d) ds es)
 
 -- one answer's payload, and then others
 seen-then : (seen : List PitList) (r : Reply) (ps : List (List ℕ)) → seenAfter (seenAt seen r) ps ≡ seenAfter seen (payloadIn r ++ ps)
@@ -71,13 +72,13 @@ seen-then seen repeat ps = refl
 seen-then seen (delivered b) ps = refl
 
 -- where nothing was found so far, the walk goes on from what is held and seen by then
-pub walk-on : (room : ℕ) (seen : List PitList) (h : Held) (ds es : List Entry) → walk room seen h ds .fault ≡ 0
-    → walk room seen h (ds ++ es) ≡ walk room (seenAfter seen (payloads (answers (h .world) ds))) (heldAll h ds) es
+pub walk-on : (l : Limits) (room : ℕ) (seen : List PitList) (h : Held) (ds es : List Entry) → walk l room seen h ds .fault ≡ 0
+    → walk l room seen h (ds ++ es) ≡ walk l room (seenAfter seen (payloads (answers l (h .world) ds))) (heldAll l h ds) es
 unfolding walk answers
-walk-on room seen h [] es q = refl
-walk-on room seen h (d ∷ ds) es q = elim (either (eqb (faultAt room seen (answerTo (h .world) d)) 0)) [
+walk-on l room seen h [] es q = refl
+walk-on l room seen h (d ∷ ds) es q = elim (either (eqb (faultAt room seen (answerTo l (h .world) d)) 0)) [
   | inl t ↦
-      rw t (walk-on room (seenAt seen (answerTo (h .world) d)) (heldAfter h d) ds es (rw t at q)
-      ∙ ap (λ (ls : List PitList). walk room ls (heldAll h (d ∷ ds)) es) (seen-then seen (answerTo (h .world) d) (payloads (answers (leftBy (h .world) d) ds))))
-  | inr t ↦ never (eq-eqb (faultAt room seen (answerTo (h .world) d)) 0 (let z : faultAt room seen (answerTo (h .world) d) ≡ 0 = rw t at q in z)) t
+      rw t (walk-on l room (seenAt seen (answerTo l (h .world) d)) (heldAfter l h d) ds es (rw t at q)
+      ∙ ap (λ (ls : List PitList). walk l room ls (heldAll l h (d ∷ ds)) es) (seen-then seen (answerTo l (h .world) d) (payloads (answers l (leftBy l (h .world) d) ds))))
+  | inr t ↦ never (eq-eqb (faultAt room seen (answerTo l (h .world) d)) 0 (let z : faultAt room seen (answerTo l (h .world) d) ≡ 0 = rw t at q in z)) t
 ]

@@ -12,16 +12,17 @@ use Rattle.steps.specs.declared.Answer.{Answer}
 use Rattle.steps.specs.declared.Answer.the-variants.{Refused, Kept, Repeat, Delivered}
 use Rattle.steps.specs.Answers.{Reply, refusedBy, kept, repeat, delivered, reply}
 use Rattle.steps.specs.Runs.{World}
-use Rattle.steps.proofs.Numbers.{refusal-number}
+use Rattle.log.specs.declared.reader.Limits.{Limits}
 use Rattle.log.specs.Entries.{Entry}
+use Rattle.bounded.proofs.Admits.{within-number}
 use Rattle.counting.specs.Run.{called, answerTo, leftBy, answers, isKept, isRepeat, isDelivered, isRefused, howMany, keptIn, repeatedIn, deliveredIn, refusals, refusedIn, payloadIn, payloads}
 use Rattle.counting.specs.Promise.{EntriesSum}
 use Rattle.counting.proofs.Sums.{sumTo, sum-none, sum-more, sum-add}
 
 -- AN ENTRY IS REFUSED BY 1 TO 9
-pub called-number : (w : World) (e : Entry) (n : ℕ) → called w e .answer ≡ Refused n → (1 ≤ n) × (n ≤ 9)
+pub called-number : (l : Limits) (w : World) (e : Entry) (n : ℕ) → called l w e .answer ≡ Refused n → (1 ≤ n) × (n ≤ 9)
 unfolding called
-called-number w e n q = refusal-number (w .machine) (w .store) (w .ledger) (e .sender) (e .datagram) n q
+called-number l w e n q = within-number _ (w .machine) (w .store) (w .ledger) (e .sender) (e .datagram) n q
 
 abbrev Numbered : Reply → Type 0
 Numbered (refusedBy n) = (1 ≤ n) × (n ≤ 9)
@@ -29,10 +30,10 @@ Numbered kept = Unit {0}
 Numbered repeat = Unit {0}
 Numbered (delivered b) = Unit {0}
 
-numbered : (w : World) (e : Entry) → Numbered (answerTo w e)
-numbered w e = go (called w e .answer) (λ n q. called-number w e n q)
+numbered : (l : Limits) (w : World) (e : Entry) → Numbered (answerTo l w e)
+numbered l w e = go (called l w e .answer) (λ n q. called-number l w e n q)
   where
-    go : (a : Answer) → ((n : ℕ) → a ≡ Refused n → (1 ≤ n) × (n ≤ 9)) → Numbered (reply (e .datagram) (called w e .store) a)
+    go : (a : Answer) → ((n : ℕ) → a ≡ Refused n → (1 ≤ n) × (n ≤ 9)) → Numbered (reply (e .datagram) (called l w e .store) a)
     go (Refused n) h = h n refl
     go Kept h = tt
     go Repeat h = tt
@@ -64,23 +65,23 @@ hands-one kept = refl
 hands-one repeat = refl
 hands-one (delivered b) = refl
 
-entries : (w : World) (es : List Entry)
-    → length es ≡ keptIn (answers w es) + (repeatedIn (answers w es) + (deliveredIn (answers w es) + sum (refusedIn (answers w es))))
+entries : (l : Limits) (w : World) (es : List Entry)
+    → length es ≡ keptIn (answers l w es) + (repeatedIn (answers l w es) + (deliveredIn (answers l w es) + sum (refusedIn (answers l w es))))
 unfolding answers howMany
-entries w [] = rw (sum-none refusals (λ k. 0) (λ i b. refl))
-entries w (e ∷ es) =
-    let r : Reply = answerTo w e in
-    let rs : List Reply = answers (leftBy w e) es in
-    let a = counts-once r (numbered w e) in
-    let b = entries (leftBy w e) es in
+entries l w [] = rw (sum-none refusals (λ k. 0) (λ i b. refl))
+entries l w (e ∷ es) =
+    let r : Reply = answerTo l w e in
+    let rs : List Reply = answers l (leftBy l w e) es in
+    let a = counts-once r (numbered l w e) in
+    let b = entries l (leftBy l w e) es in
     let c : sumTo refusals (λ k. one (isRefused k r) + howMany (isRefused k) rs) ≡ sumTo refusals (λ k. one (isRefused k r)) + sumTo refusals (λ k. howMany (isRefused k) rs) =
     sum-add refusals (λ k. one (isRefused k r)) (λ k. howMany (isRefused k) rs) in
     rw c (omega arith)
 
-none-by-0 : (w : World) (es : List Entry) → howMany (isRefused 0) (answers w es) ≡ 0
+none-by-0 : (l : Limits) (w : World) (es : List Entry) → howMany (isRefused 0) (answers l w es) ≡ 0
 unfolding answers howMany
-none-by-0 w [] = refl
-none-by-0 w (e ∷ es) = rw (not-by-0 (answerTo w e) (numbered w e), none-by-0 (leftBy w e) es)
+none-by-0 l w [] = refl
+none-by-0 l w (e ∷ es) = rw (not-by-0 (answerTo l w e) (numbered l w e), none-by-0 l (leftBy l w e) es)
 
 pub delivered-payloads : (rs : List Reply) → deliveredIn rs ≡ length (payloads rs)
 unfolding howMany
@@ -88,4 +89,4 @@ delivered-payloads [] = refl
 delivered-payloads (r ∷ rs) = rw (hands-one r, delivered-payloads rs) (sym (length-append (payloadIn r) (payloads rs)))
 
 pub entries-sum : EntriesSum
-entries-sum w es = record { entries = entries w es; none-by-0 = none-by-0 w es; delivered = delivered-payloads (answers w es) }
+entries-sum l w es = record { entries = entries l w es; none-by-0 = none-by-0 l w es; delivered = delivered-payloads (answers l w es) }

@@ -1,8 +1,12 @@
 -- Two worked logs of the same messages, one of them with late copies, meet the suppositions and show the same lines. Assumes nothing.
 use mathlib.Core.Path.{_≡_, refl, ap, _∙_}
 use mathlib.Core.List.{List, [], _∷_, map}
+use Prim.Native.Nat.{zero, suc}
+use native.Mathlib.Omega.{arith}
+use lib.Dec.{lit≤}
 use Rattle.wire.specs.Bytes.{be, bytes}
 use Rattle.wire.specs.Sum.{sum}
+use Rattle.datagram.specs.Limits.{maxPayload}
 use Rattle.datagram.specs.Name.{goodName, untilZero, nameLength}
 use Rattle.datagram.specs.Read.{readSmall, goodForm, formed, readFragment, readDatagram}
 use Rattle.datagram.specs.Said.{said}
@@ -10,7 +14,7 @@ use Rattle.cutter.specs.Cut.{countOf, smallBytes, headBytes, pieceOf, fragmentB
 use Rattle.cutter.specs.Trip.{joined}
 use Rattle.steps.specs.Memory.{since}
 use Rattle.steps.specs.Runs.{Arrival}
-use Rattle.arrival.specs.Demand.{arrivals, done, unfinished, completes, completed}
+use Rattle.arrival.specs.Demand.{Supposed, arrivals, done, unfinished, completes, completed}
 use Rattle.arrival.proofs.Tests.{tests, allPass, tested}
 use Rattle.lmcp.specs.Run as run
 use Rattle.lmcp.specs.Value.{fault, numberOf}
@@ -18,13 +22,15 @@ use Rattle.lmcp.specs.Read.{judged, readValue, readCount, typed, known, readHea
 use Rattle.lmcp.specs.Walk.{item, field, fields, object, root}
 use Rattle.lmcp.specs.Message.{frame, readMessage}
 use Rattle.lmcp.specs.Lists as lists
+use Rattle.log.specs.Editions.{edition1, edition2, limitsOf}
 use Rattle.log.specs.Entries.{entryOf}
 use Rattle.tally.specs.Lists.{enter, rising}
 use Rattle.counting.specs.Marks.{markLength, markAt, marksIn, pitListOf, listRead, listIn}
 use Rattle.counting.specs.Report.{report}
 use Rattle.counting.specs.Run.{arrivalOf, listsRead}
-use Rattle.counting.specs.Promise.{payloadsOf, deliveredBy}
+use Rattle.counting.specs.Promise.{Admits, payloadsOf, deliveredBy}
 use Rattle.counting.specs.Worked.{first, second, third, ping, lines, wholeScene, wholeFeed, mixedScene, mixedFeed, entriesOf}
+use Rattle.counting.proofs.Admitting.{largest-admits}
 use Rattle.counting.proofs.Counted.{counted}
 
 whole-meets : tests wholeScene wholeFeed ≡ allPass
@@ -47,8 +53,23 @@ keeps : (xs : List Arrival) → map arrivalOf (map (λ x. entryOf (x .sender) 0 
 keeps [] = refl
 keeps (x ∷ xs) = ap (λ (ys : List Arrival). x ∷ ys) (keeps xs)
 
-pub whole-lines : report (listsRead (deliveredBy wholeScene (entriesOf wholeScene wholeFeed))) ≡ lines
-whole-lines = counted wholeScene wholeFeed (tested wholeScene wholeFeed whole-meets) (entriesOf wholeScene wholeFeed) (keeps (arrivals wholeScene wholeFeed)) .tile-lines ∙ lines-computed
+-- the one in an edition 1 log
+whole-admitted : Admits (limitsOf edition1) wholeScene
+unfolding countOf smallBytes headBytes pieceOf fragmentBytes datagramOf first second third ping
+whole-admitted zero b f = (lit≤ tt, lit≤ tt)
+whole-admitted (suc zero) b f = (lit≤ tt, lit≤ tt)
+whole-admitted (suc (suc zero)) b f = (lit≤ tt, lit≤ tt)
+whole-admitted (suc (suc (suc zero))) b f = (lit≤ tt, lit≤ tt)
+whole-admitted (suc (suc (suc (suc i)))) b f = absurd (let z : ⊥ = omega arith in z)
 
-pub mixed-lines : report (listsRead (deliveredBy mixedScene (entriesOf mixedScene mixedFeed))) ≡ lines
-mixed-lines = counted mixedScene mixedFeed (tested mixedScene mixedFeed mixed-meets) (entriesOf mixedScene mixedFeed) (keeps (arrivals mixedScene mixedFeed)) .tile-lines ∙ lines-computed
+pub whole-lines : report (listsRead (deliveredBy (limitsOf edition1) wholeScene (entriesOf wholeScene wholeFeed))) ≡ lines
+whole-lines =
+    counted (limitsOf edition1) wholeScene wholeFeed (tested wholeScene wholeFeed whole-meets) whole-admitted (entriesOf wholeScene wholeFeed) (keeps (arrivals wholeScene wholeFeed)) .tile-lines
+    ∙ lines-computed
+
+-- the other in an edition 2 log
+pub mixed-lines : report (listsRead (deliveredBy (limitsOf (edition2 maxPayload)) mixedScene (entriesOf mixedScene mixedFeed))) ≡ lines
+mixed-lines =
+    let s : Supposed mixedScene mixedFeed = tested mixedScene mixedFeed mixed-meets in
+    counted (limitsOf (edition2 maxPayload)) mixedScene mixedFeed s (largest-admits mixedScene (s .sent)) (entriesOf mixedScene mixedFeed) (keeps (arrivals mixedScene mixedFeed)) .tile-lines
+    ∙ lines-computed

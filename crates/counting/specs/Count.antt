@@ -10,6 +10,8 @@ use Rattle.steps.specs.Runs.{fresh}
 use Rattle.lmcp.specs.Run.{got, refused}
 use Rattle.lmcp.specs.Read.{Read}
 use Rattle.lmcp.specs.Lists.{readList}
+use Rattle.log.specs.declared.reader.Limits.{Limits}
+use Rattle.log.specs.Editions.{limitsIn}
 use Rattle.log.specs.Entries.{Entry}
 use Rattle.log.specs.Listed.{Listed, whole, broken, entriesIn}
 use Rattle.tally.specs.Lists.{total}
@@ -83,25 +85,25 @@ pub data Outcome : Type 0 where
   -- refused, by that number
   noReport : ℕ → Outcome
 
--- the answers to a log's entries, through a fresh receiver over the lent store and ledger
-abbrev pub answersTo : List ℕ → List ℕ → List Entry → List Reply
-answersTo store ledger es = answers (fresh store ledger) es
+-- the answers to a log's entries, within its limits, through a fresh receiver over the lent store and ledger
+abbrev pub answersTo : Limits → List ℕ → List ℕ → List Entry → List Reply
+answersTo l store ledger es = answers l (fresh store ledger) es
 
 -- by the number that stands against it
 abbrev pub unless : ℕ → Report → Outcome
 unless n r = pick (eqb n 0) (reported r) (noReport n)
 
 -- entries that were read whole, with a number list of so many numbers
-unfoldable pub countEntries : ℕ → List ℕ → List ℕ → List Entry → Outcome
-countEntries room store ledger es =
+unfoldable pub countEntries : Limits → ℕ → List ℕ → List ℕ → List Entry → Outcome
+countEntries l room store ledger es =
     pick (ltb maxEntries (length es)) (noReport 62)
-    (unless (firstFault room [] (payloads (answersTo store ledger es))) (reportOf es (answersTo store ledger es)))
+    (unless (firstFault room [] (payloads (answersTo l store ledger es))) (reportOf es (answersTo l store ledger es)))
 
 -- the log's own refusal over the whole log first
-abbrev pub countListed : ℕ → List ℕ → List ℕ → Listed → Outcome
-countListed room store ledger (whole es) = countEntries room store ledger es
-countListed room store ledger (broken es n) = noReport n
+abbrev pub countListed : Limits → ℕ → List ℕ → List ℕ → Listed → Outcome
+countListed l room store ledger (whole es) = countEntries l room store ledger es
+countListed l room store ledger (broken es n) = noReport n
 
 -- THE COUNT OF A LOG: of its bytes, with the lent store and ledger, and a number list with room for so many numbers
 unfoldable pub countLog : ℕ → List ℕ → List ℕ → List ℕ → Outcome
-countLog room store ledger log = countListed room store ledger (entriesIn log)
+countLog room store ledger log = countListed (limitsIn log) room store ledger (entriesIn log)

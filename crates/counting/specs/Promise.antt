@@ -1,12 +1,15 @@
 -- WHAT IS PROMISED OF THE COUNT. Its proofs are `entries-sum`, `report-sum`, `same-report`, `counted`, `count-promise` and `shown-promise` of proofs/. Definitions only.
 use mathlib.Core.Path.{_≡_}
+use mathlib.Core.Bool.{true}
 use mathlib.Core.Option.{Option, none, some}
 use mathlib.Core.List.{List, map}
-use Prim.Native.Nat.{ℕ, _+_, _≤_}
+use Prim.Native.Nat.{ℕ, _+_, _≤_, _<_}
 use lib.ListN.{length}
 use Rattle.wire.specs.Sum.{sum}
 use Rattle.steps.specs.Runs.{World}
-use Rattle.arrival.specs.Demand.{Scene, Feed, arrivals, inOrderOfCompletion, Supposed}
+use Rattle.arrival.specs.Demand.{Scene, size, message, parts, Feed, arrivals, inOrderOfCompletion, Supposed}
+use Rattle.log.specs.declared.reader.Limits.{Limits}
+use Rattle.log.specs.Editions.{limitsIn}
 use Rattle.log.specs.Entries.{Entry}
 use Rattle.log.specs.Listed.{whole, entriesIn}
 use Rattle.tally.specs.Lists.{SameMembers}
@@ -17,16 +20,16 @@ use Rattle.counting.specs.Count.{maxEntries, Report, Outcome, reported, 
 
 -- ==== "Entries equal the sum over the answers, each counted by its own definition from the log."
 
-pub record AddsUp (w : World) (es : List Entry) : Type 0 where
-  pub entries : let rs = answers w es in length es ≡ keptIn rs + (repeatedIn rs + (deliveredIn rs + sum (refusedIn rs)))
+pub record AddsUp (l : Limits) (w : World) (es : List Entry) : Type 0 where
+  pub entries : let rs = answers l w es in length es ≡ keptIn rs + (repeatedIn rs + (deliveredIn rs + sum (refusedIn rs)))
   -- nothing is refused by 0
-  pub none-by-0 : howMany (isRefused 0) (answers w es) ≡ 0
+  pub none-by-0 : howMany (isRefused 0) (answers l w es) ≡ 0
   -- as many are answered Delivered as payloads are handed over
-  pub delivered : deliveredIn (answers w es) ≡ length (payloads (answers w es))
+  pub delivered : deliveredIn (answers l w es) ≡ length (payloads (answers l w es))
 
--- for all entries, from every state, with whatever is lent
+-- for all entries, within any limits, from every state, with whatever is lent
 abbrev pub EntriesSum : Type 0
-EntriesSum = (w : World) (es : List Entry) → AddsUp w es
+EntriesSum = (l : Limits) (w : World) (es : List Entry) → AddsUp l w es
 
 -- so it is in every report that is given
 abbrev pub ReportSum : Type 0
@@ -44,28 +47,34 @@ WhichLists = (ls ms : List PitList) → SameMembers ls ms → report ls ≡ repo
 abbrev pub Keeps : Scene → Feed → List Entry → Type 0
 Keeps σ f es = map arrivalOf es ≡ arrivals σ f
 
--- a log of such entries
+-- A log's limits admit the messages: P of each message that is sent in fragments is within its payload limit, and n within its fragments.
+-- They never concern a small message.
+abbrev pub Admits : Limits → Scene → Type 0
+Admits l σ = (i : ℕ) → i < size σ → message σ i .fragmented ≡ true → (length (message σ i .payload) ≤ l .payload) × (parts (message σ i) ≤ l .fragments)
+
+-- a log of such entries, whose limits admit the messages
 pub record LogOf (σ : Scene) (f : Feed) (log : List ℕ) : Type 0 where
   pub entries : List Entry
   pub reads : entriesIn log ≡ whole entries
   pub keeps : Keeps σ f entries
+  pub admits : Admits (limitsIn log) σ
 
 -- the messages' payloads, each once
 abbrev pub payloadsOf : Scene → List (List ℕ)
 payloadsOf σ = map (λ m. m .payload) (σ .messages)
 
--- what those entries deliver, in order, through a fresh receiver
-abbrev pub deliveredBy : Scene → List Entry → List (List ℕ)
-deliveredBy σ es = payloads (answersTo (σ .store) (σ .ledger) es)
+-- what those entries deliver, in order, within a log's limits, through a fresh receiver
+abbrev pub deliveredBy : Limits → Scene → List Entry → List (List ℕ)
+deliveredBy l σ es = payloads (answersTo l (σ .store) (σ .ledger) es)
 
--- Under demand 3's suppositions the count of a log is that of the messages themselves, each once:
--- mixture, repeats, noise, the order of arrival, the ticks, the store's length and what it held do not matter.
-pub record Counted (σ : Scene) (f : Feed) (es : List Entry) : Type 0 where
-  pub tile-lines : report (listsRead (deliveredBy σ es)) ≡ report (listsRead (payloadsOf σ))
-  pub lists-read : length (listsRead (deliveredBy σ es)) ≡ length (listsRead (payloadsOf σ))
-  pub delivered : length (deliveredBy σ es) ≡ length (payloadsOf σ)
+-- Under demand 3's suppositions, and where the log's limits admit the messages, its count is that of the messages themselves, each once:
+-- mixture, repeats, noise, the order of arrival, the ticks, the store's length and what it held do not matter, nor by which number noise is refused.
+pub record Counted (l : Limits) (σ : Scene) (f : Feed) (es : List Entry) : Type 0 where
+  pub tile-lines : report (listsRead (deliveredBy l σ es)) ≡ report (listsRead (payloadsOf σ))
+  pub lists-read : length (listsRead (deliveredBy l σ es)) ≡ length (listsRead (payloadsOf σ))
+  pub delivered : length (deliveredBy l σ es) ≡ length (payloadsOf σ)
   -- and what is delivered, in order, is as if the messages had been fed whole, one after another, in order of completion
-  pub as-whole : (ds : List Entry) → Keeps σ (inOrderOfCompletion σ f) ds → deliveredBy σ es ≡ deliveredBy σ ds
+  pub as-whole : (ds : List Entry) → Keeps σ (inOrderOfCompletion σ f) ds → deliveredBy l σ es ≡ deliveredBy l σ ds
 
 -- what may not depend on the arrivals
 pub record Shown : Type 0 where
@@ -77,7 +86,7 @@ abbrev pub shownOf : Report → Shown
 shownOf r = record { delivered = r .delivered; lists = r .lists; lines = r .lines }
 
 -- ==== TWO LOGS OF THE SAME MESSAGES COUNT THE SAME: late copies add no pit.
--- The messages may be cut and sent in other ways; stores, ledgers and number lists may be others.
+-- The messages may be cut and sent in other ways; stores, ledgers, number lists and the logs' editions may be others.
 abbrev pub CountPromise : Type 0
 CountPromise = (σ : Scene) (f : Feed) (log : List ℕ) (τ : Scene) (g : Feed) (log′ : List ℕ)
     → Supposed σ f → LogOf σ f log → Supposed τ g → LogOf τ g log′ → payloadsOf σ ≡ payloadsOf τ

@@ -7,8 +7,10 @@ use Rattle.words.specs.Builds.{build}
 use Rattle.steps.specs.Search.{one}
 use Rattle.steps.specs.Receive.{After}
 use Rattle.steps.specs.Answers.{Reply, refusedBy, kept, repeat, delivered, reply}
-use Rattle.steps.specs.Runs.{World, worldOf, Arrival, from, call}
+use Rattle.steps.specs.Runs.{World, worldOf, Arrival, from}
 use Rattle.log.specs.Entries.{Entry}
+use Rattle.log.specs.declared.reader.Limits.{Limits}
+use Rattle.bounded.specs.Within.{stepWithin}
 use Rattle.tally.specs.Lists.{gather}
 use Rattle.counting.specs.Marks.{PitList, listIn}
 
@@ -16,22 +18,22 @@ use Rattle.counting.specs.Marks.{PitList, listIn}
 abbrev pub arrivalOf : Entry → Arrival
 arrivalOf e = from (e .sender) (e .datagram)
 
--- what is done with one entry, by the step list
-unfoldable pub called : World → Entry → After
-called w e = call w (arrivalOf e)
+-- what is done with one entry, by the step list; the log's limits bind beside the slot size
+unfoldable pub called : Limits → World → Entry → After
+called l w e = stepWithin l (w .machine) (w .store) (w .ledger) (e .sender) (e .datagram)
 
 -- what it is answered
-abbrev pub answerTo : World → Entry → Reply
-answerTo w e = reply (e .datagram) (called w e .store) (called w e .answer)
+abbrev pub answerTo : Limits → World → Entry → Reply
+answerTo l w e = reply (e .datagram) (called l w e .store) (called l w e .answer)
 
 -- and what is then lent
-abbrev pub leftBy : World → Entry → World
-leftBy w e = worldOf (called w e)
+abbrev pub leftBy : Limits → World → Entry → World
+leftBy l w e = worldOf (called l w e)
 
 -- what each entry is answered, in order, each call with what the one before left
-unfoldable pub answers : World → List Entry → List Reply
-answers w [] = []
-answers w (e ∷ es) = answerTo w e ∷ answers (leftBy w e) es
+unfoldable pub answers : Limits → World → List Entry → List Reply
+answers l w [] = []
+answers l w (e ∷ es) = answerTo l w e ∷ answers l (leftBy l w e) es
 
 -- ---- the counts over answers, each by its own definition
 

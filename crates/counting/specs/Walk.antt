@@ -10,6 +10,8 @@ use Rattle.steps.specs.Answers.{Reply, refusedBy, kept, repeat, delivered}
 use Rattle.steps.specs.Runs.{World, fresh}
 use Rattle.lmcp.specs.Message.{listed}
 use Rattle.lmcp.specs.Lists.{readList}
+use Rattle.log.specs.declared.reader.Limits.{Limits}
+use Rattle.log.specs.Editions.{limitsIn}
 use Rattle.log.specs.Entries.{Entry}
 use Rattle.log.specs.Listed.{Listed, whole, broken, entriesIn}
 use Rattle.counting.specs.Marks.{PitList, listIn}
@@ -52,29 +54,29 @@ pub record Walked : Type 0 where
   pub held : Held
 
 -- an entry's call is made, and its payload read, before anything is held against it
-abbrev pub heldAfter : Held → Entry → Held
-heldAfter h e = record { world = leftBy (h .world) e; list = listAt (h .list) (answerTo (h .world) e) }
+abbrev pub heldAfter : Limits → Held → Entry → Held
+heldAfter l h e = record { world = leftBy l (h .world) e; list = listAt (h .list) (answerTo l (h .world) e) }
 
-unfoldable pub walk : ℕ → List PitList → Held → List Entry → Walked
-walk room seen h [] = record { fault = 0; held = h }
-walk room seen h (e ∷ es) =
-    pick (eqb (faultAt room seen (answerTo (h .world) e)) 0)
-    (walk room (seenAt seen (answerTo (h .world) e)) (heldAfter h e) es)
-    (record { fault = faultAt room seen (answerTo (h .world) e); held = heldAfter h e })
+unfoldable pub walk : Limits → ℕ → List PitList → Held → List Entry → Walked
+walk l room seen h [] = record { fault = 0; held = h }
+walk l room seen h (e ∷ es) =
+    pick (eqb (faultAt room seen (answerTo l (h .world) e)) 0)
+    (walk l room (seenAt seen (answerTo l (h .world) e)) (heldAfter l h e) es)
+    (record { fault = faultAt room seen (answerTo l (h .world) e); held = heldAfter l h e })
 
 abbrev pub atFirst : List ℕ → List ℕ → List ℤ → Held
 atFirst store ledger list = record { world = fresh store ledger; list = list }
 
-unfoldable pub walkEntries : List ℕ → List ℕ → List ℤ → List Entry → Walked
-walkEntries store ledger list es = walk (length list) [] (atFirst store ledger list) es
+unfoldable pub walkEntries : Limits → List ℕ → List ℕ → List ℤ → List Entry → Walked
+walkEntries l store ledger list es = walk l (length list) [] (atFirst store ledger list) es
 
 -- what is lent at the end: by a log's own refusal, and by 62, nothing is called
-abbrev pub leftAfter : List ℕ → List ℕ → List ℤ → Listed → Held
-leftAfter store ledger list (whole es) = pick (ltb maxEntries (length es)) (atFirst store ledger list) (walkEntries store ledger list es .held)
-leftAfter store ledger list (broken es n) = atFirst store ledger list
+abbrev pub leftAfter : Limits → List ℕ → List ℕ → List ℤ → Listed → Held
+leftAfter l store ledger list (whole es) = pick (ltb maxEntries (length es)) (atFirst store ledger list) (walkEntries l store ledger list es .held)
+leftAfter l store ledger list (broken es n) = atFirst store ledger list
 
 unfoldable pub heldBy : List ℕ → List ℕ → List ℤ → List ℕ → Held
-heldBy store ledger list log = leftAfter store ledger list (entriesIn log)
+heldBy store ledger list log = leftAfter (limitsIn log) store ledger list (entriesIn log)
 
 -- ---- THE CONTRACT OF THE COUNT, for the lent log, store, ledger and number list, and what the last three hold afterwards
 pub record CountsTo (log store ledger : List ℕ) (list : List ℤ) (answer : Outcome) (store′ ledger′ : List ℕ) (list′ : List ℤ) : Type 0 where
@@ -98,10 +100,10 @@ seenAfter seen [] = seen
 seenAfter seen (p ∷ ps) = seenAfter (listIn p ++ seen) ps
 
 -- what the entries leave
-abbrev pub heldAll : Held → List Entry → Held
-heldAll h [] = h
-heldAll h (e ∷ es) = heldAll (heldAfter h e) es
+abbrev pub heldAll : Limits → Held → List Entry → Held
+heldAll l h [] = h
+heldAll l h (e ∷ es) = heldAll l (heldAfter l h e) es
 
-pub record Agrees (store ledger : List ℕ) (list : List ℤ) (es : List Entry) : Type 0 where
-  pub same-fault : walkEntries store ledger list es .fault ≡ firstFault (length list) [] (payloads (answersTo store ledger es))
-  pub whole : walkEntries store ledger list es .fault ≡ 0 → walkEntries store ledger list es .held ≡ heldAll (atFirst store ledger list) es
+pub record Agrees (l : Limits) (store ledger : List ℕ) (list : List ℤ) (es : List Entry) : Type 0 where
+  pub same-fault : walkEntries l store ledger list es .fault ≡ firstFault (length list) [] (payloads (answersTo l store ledger es))
+  pub whole : walkEntries l store ledger list es .fault ≡ 0 → walkEntries l store ledger list es .held ≡ heldAll l (atFirst store ledger list) es

@@ -9,6 +9,7 @@ use Rattle.steps.specs.Answers.{Reply, refusedBy, kept, repeat, delivered}
 use Rattle.steps.specs.Worked.{headOf, A-of, B-of}
 use Rattle.arrival.specs.Demand.{Message, Scene, part, noise, Feed, start, _▹_, arrivals}
 use Rattle.arrival.specs.Ours.{cutMessage}
+use Rattle.log.specs.Editions.{Edition}
 use Rattle.log.specs.Entries.{Entry, entryOf, logOf}
 use Rattle.counting.specs.Marks.{PitList, listIn}
 use Rattle.counting.specs.Report.{Line}
@@ -105,8 +106,8 @@ flight =
     ∷ entryOf 3 18 (small 5 fourth)
     ∷ []
 
-unfoldable pub flightLog : List ℕ
-flightLog = logOf flight
+unfoldable pub flightLog : Edition → List ℕ
+flightLog v = logOf v flight
 
 abbrev pub store : List ℕ
 store = replicate 32 9
@@ -119,7 +120,15 @@ abbrev pub flightAnswers : List Reply
 flightAnswers =
     delivered first ∷ kept ∷ refusedBy 1 ∷ refusedBy 6 ∷ delivered third ∷ repeat ∷ delivered second ∷ repeat ∷ delivered deep ∷ delivered (0x41 ∷ 0x42 ∷ 0x43 ∷ []) ∷ delivered fourth ∷ []
 
+-- and in an edition 2 log of limit 2: the 3 bytes of "ABC" are over it, and are refused by 6; small messages are longer, and go through
+abbrev pub tightAnswers : List Reply
+tightAnswers =
+    delivered first ∷ refusedBy 6 ∷ refusedBy 1 ∷ refusedBy 6 ∷ delivered third ∷ refusedBy 6 ∷ delivered second ∷ repeat ∷ delivered deep ∷ refusedBy 6 ∷ delivered fourth ∷ []
+
 -- "tile 4 pits 0 sure 0", "tile 5 pits 1 sure 0", "tile 9 pits 2 sure 2"
+abbrev pub flightLines : List Line
+flightLines = record { tile = 4; pits = 0; sure = 0 } ∷ record { tile = 5; pits = 1; sure = 0 } ∷ record { tile = 9; pits = 2; sure = 2 } ∷ []
+
 abbrev pub flightReport : Report
 flightReport = record {
   entries = 11;
@@ -128,12 +137,46 @@ flightReport = record {
   delivered = 6;
   refused = 0 ∷ 1 ∷ 0 ∷ 0 ∷ 0 ∷ 0 ∷ 1 ∷ 0 ∷ 0 ∷ 0 ∷ [];
   lists = 5;
-  lines = record { tile = 4; pits = 0; sure = 0 } ∷ record { tile = 5; pits = 1; sure = 0 } ∷ record { tile = 9; pits = 2; sure = 2 } ∷ [];
+  lines = flightLines;
+}
+
+abbrev pub tightReport : Report
+tightReport = record {
+  entries = 11;
+  kept = 0;
+  repeated = 1;
+  delivered = 5;
+  refused = 0 ∷ 1 ∷ 0 ∷ 0 ∷ 0 ∷ 0 ∷ 4 ∷ 0 ∷ 0 ∷ 0 ∷ [];
+  lists = 5;
+  lines = flightLines;
 }
 
 -- the longest list of the flight, of `deep`, has so many numbers
 abbrev pub longest : ℕ
 longest = 18
+
+-- ---- a log of one fragment, with n 257: edition 1 refuses it by 5, edition 2 keeps it; and a fragment with P 262,145
+
+abbrev pub many : Entry
+many = entryOf 3 10 (0x4c ∷ 0x43 ∷ 0x30 ∷ 0x33 ∷ 0 ∷ 0 ∷ 0 ∷ 9 ∷ 0 ∷ 0 ∷ 0 ∷ 4 ∷ 0 ∷ 0 ∷ 0 ∷ 0 ∷ 0 ∷ 1 ∷ 1 ∷ 1 ∷ 0x41 ∷ [])
+
+unfoldable pub manyLog : Edition → List ℕ
+manyLog v = logOf v (many ∷ [])
+
+-- kept so often, and so often refused by 5
+abbrev pub manyReport : ℕ → ℕ → Report
+manyReport k five = record {
+  entries = 1;
+  kept = k;
+  repeated = 0;
+  delivered = 0;
+  refused = 0 ∷ 0 ∷ 0 ∷ 0 ∷ 0 ∷ five ∷ 0 ∷ 0 ∷ 0 ∷ 0 ∷ [];
+  lists = 0;
+  lines = [];
+}
+
+abbrev pub wide : Entry
+wide = entryOf 3 10 (0x4c ∷ 0x43 ∷ 0x30 ∷ 0x33 ∷ 0 ∷ 0 ∷ 0 ∷ 9 ∷ 0 ∷ 4 ∷ 0 ∷ 1 ∷ 0 ∷ 0 ∷ 0 ∷ 0 ∷ 0 ∷ 1 ∷ 0 ∷ 3 ∷ 0x41 ∷ [])
 
 -- ---- lists seen of n other tiles
 abbrev pub manyTiles : ℕ → List PitList
