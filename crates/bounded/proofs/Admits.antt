@@ -22,6 +22,7 @@ use Rattle.datagram.specs.declared.Read.{Read}
 use Rattle.datagram.specs.declared.Read.the-variants.{Good, Refused}
 use Rattle.steps.specs.declared.Answer.the-variants as answer
 use Rattle.steps.specs.Receive.{Machine, After, stay, sound, decide, act, receive, step}
+use Rattle.steps.proofs.Branches.{step-unsound}
 use Rattle.steps.proofs.Numbers.{said-number, refusal-number}
 use Rattle.log.specs.declared.reader.Limits.{Limits}
 use Rattle.bounded.specs.Within.{readWithin, stepWithin}
@@ -150,6 +151,17 @@ module _ (l : Limits) (m : Machine) (store ledger : List ℕ) (sender : ℕ) (d 
         | inl t ↦ inr (record { number = j; number-within = k; without = own-refusal j t p; within = step-refused l m store ledger sender d k t q })
         | inr t ↦ inl (step-nine l m store ledger sender d t)
       ]
+
+  -- WHAT THE READER REFUSES WITHIN THE LIMITS is refused, by its number or by 9, and nothing is altered
+  pub record Refuses : Type 0 where
+    pub number : ℕ
+    pub is : stepWithin l m store ledger sender d ≡ stay m store ledger (answer.Refused number)
+
+  pub within-refused : (k : ℕ) → readWithin l (m .slotSize) d ≡ Refused k → Refuses
+  within-refused k q = elim (either (sound m (length store) (length ledger))) [
+    | inl t ↦ record { number = k; is = step-refused l m store ledger sender d k t q }
+    | inr t ↦ record { number = 9; is = step-nine l m store ledger sender d t ∙ step-unsound m store ledger sender d t }
+  ]
 
   -- NO REFUSAL BUT 1 TO 9
   pub within-number : (n : ℕ) → stepWithin l m store ledger sender d .answer ≡ answer.Refused n → (1 ≤ n) × (n ≤ 9)

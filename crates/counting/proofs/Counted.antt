@@ -17,7 +17,7 @@ use Rattle.counting.proofs.Which.{same-report}
 use Rattle.counting.proofs.Logs.{backwards, bytesIn, by-log}
 use Rattle.counting.proofs.Delivered.{fair, whole-fair, delivered-members, delivered-total}
 
-pub counted : (l : Limits) (σ : Scene) (f : Feed) → Supposed σ f → Admits l σ → (es : List Entry) → Keeps σ f es → Counted l σ f es
+pub counted : (l : Limits) (σ : Scene) (f : Feed) → Supposed σ f → Admits l σ → (es : List Entry) → Keeps l σ f es → Counted l σ f es
 counted l σ f s a es k =
     let ps : List (List ℕ) = deliveredBy l σ es in
     let qs : List (List ℕ) = payloadsOf σ in

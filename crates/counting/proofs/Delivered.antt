@@ -75,7 +75,7 @@ module _ (σ : Scene) (f : Feed) (s : Supposed σ f) where
         (map-in (payload σ) (completed σ f) (q .i) (times-in (q .i) (completed σ f) (omega arith)));
   }
 
-  module _ (l : Limits) (a : Admits l σ) (es : List Entry) (k : Keeps σ f es) where
+  module _ (l : Limits) (a : Admits l σ) (es : List Entry) (k : Keeps l σ f es) where
     delivered-are : deliveredBy l σ es ≡ backwards (map (payload σ) (completed σ f))
     delivered-are = by-log σ l a (s .sent) f fair es k ∙ ap (λ (ps : List (List ℕ)). backwards ps) (ap bytesIn (delivered-own σ law f fair) ∙ own-bytes σ (completed σ f))
 

@@ -5,6 +5,7 @@ use mathlib.Core.List.{List, [], _∷_, _++_, map, append-nil}
 use Prim.Native.Nat.{ℕ}
 use native.Mathlib.Omega.{arith}
 use lib.ListN.{length}
+use Rattle.datagram.specs.declared.Read.the-variants.{Refused}
 use Rattle.steps.specs.Limits.{slotSizeOf}
 use Rattle.steps.specs.declared.Key.{Key}
 use Rattle.steps.specs.Answers.{Reply, refusedBy, kept, repeat, delivered, reply}
@@ -17,12 +18,13 @@ use Rattle.arrival.specs.Demand as demand
 use Rattle.arrival.proofs.Track.{Fair}
 use Rattle.log.specs.declared.reader.Limits.{Limits}
 use Rattle.log.specs.Entries.{Entry}
-use Rattle.bounded.proofs.Admits.{Admitted, step-admitted}
+use Rattle.bounded.specs.Within.{readWithin}
+use Rattle.bounded.proofs.Admits.{Admitted, step-admitted, Refuses, within-refused}
 use Rattle.tally.specs.Lists.{In, SameMembers, total}
 use Rattle.tally.proofs.Members.{in-left, in-right, in-either, gather-append}
 use Rattle.tally.proofs.Sums.{total-append}
 use Rattle.counting.specs.Run.{arrivalOf, called, answerTo, leftBy, answers, payloadIn, payloads}
-use Rattle.counting.specs.Promise.{Keeps, Admits, deliveredBy}
+use Rattle.counting.specs.Promise.{Recorded, no-more, own, stray, Keeps, Admits, deliveredBy}
 use Rattle.counting.proofs.Admitting.{AllAdmitted, all-admitted}
 
 -- ---- answers to arrivals
@@ -49,17 +51,31 @@ as-arrival l w e a = elim (step-admitted l (w .machine) (w .store) (w .ledger) (
   }
 ]
 
--- so all entries deliver as their arrivals
-payloads-are : (l : Limits) (n : ℕ) (w : World) → Good n (w .machine) → (es : List Entry) → AllAdmitted l (slotSizeOf n) (map arrivalOf es)
-    → payloads (answers l w es) ≡ payloads (replies w (map arrivalOf es))
+-- refused within the limits, it hands over nothing and leaves all as it was
+record Stays (l : Limits) (w : World) (e : Entry) : Type 0 where
+  hands : payloadIn (answerTo l w e) ≡ []
+  leaves : leftBy l w e ≡ w
+
+stays : (l : Limits) (w : World) (e : Entry) (k : ℕ) → readWithin l (w .machine .slotSize) (e .datagram) ≡ Refused k → Stays l w e
+unfolding called stay
+stays l w e k q =
+    let r : Refuses l (w .machine) (w .store) (w .ledger) (e .sender) (e .datagram) = within-refused l (w .machine) (w .store) (w .ledger) (e .sender) (e .datagram) k q in
+    record { hands = ap (λ (x : After). payloadIn (reply (e .datagram) (x .store) (x .answer))) (r .is); leaves = ap worldOf (r .is) }
+
+-- so what is recorded delivers as the arrivals do, and strays hand over and alter nothing
+payloads-are : (l : Limits) (n : ℕ) (w : World) → Good n (w .machine) → {xs : List Arrival} {es : List Entry} → Recorded l (slotSizeOf n) xs es
+    → AllAdmitted l (slotSizeOf n) xs → payloads (answers l w es) ≡ payloads (replies w xs)
 unfolding answers
-payloads-are l n w g [] a = refl
-payloads-are l n w g (e ∷ es) a =
+payloads-are l n w g no-more a = refl
+payloads-are l n w g (own {xs} {es} e r) a =
     let s : AsArrival l w e = as-arrival l w e (subst (λ (C : ℕ). Admitted l C (e .datagram)) (sym (g .sized)) (a .0)) in
     let v : World = worldOf (call w (arrivalOf e)) in
     let h : Good n (v .machine) = step-good n (w .machine) g (w .store) (w .ledger) (e .sender) (e .datagram) in
     ap (λ (x : World). payloadIn (answerTo l w e) ++ payloads (answers l x es)) (s .leaves)
-    ∙ (λ i. s .hands i ++ payloads-are l n v h es (a .1) i)
+    ∙ (λ i. s .hands i ++ payloads-are l n v h r (a .1) i)
+payloads-are l n w g (stray {xs} {es} e k q r) a =
+    let s : Stays l w e = stays l w e k (subst (λ (C : ℕ). readWithin l C (e .datagram) ≡ Refused k) (sym (g .sized)) q) in
+    (λ i. s .hands i ++ payloads (answers l (s .leaves i) es)) ∙ payloads-are l n w g r a
 
 replies-last : (w : World) (xs : List Arrival) (x : Arrival) → replies w (xs ++ x ∷ []) ≡ replies w xs ++ replyTo (runs.leftBy w (run w xs)) x ∷ []
 unfolding run
@@ -117,9 +133,5 @@ module _ (σ : Scene) where
       ∙ ap (λ (l : List (List ℕ)). l ++ payloadIn r) (by-arrivals f)
       ∙ one-more (keyIn (slotBytes σ) (arrival σ e)) (nameIn (demand.call σ (after σ f) e .name)) r (deliveries σ f)
 
-  pub by-log : (l : Limits) → Admits l σ → EachSent σ → (f : Feed) → Fair σ f → (es : List Entry) → Keeps σ f es → deliveredBy l σ es ≡ backwards (bytesIn (deliveries σ f))
-  by-log l a s f w es k =
-      let n : ℕ = length (σ .store) in
-      payloads-are l n opening (opened-good n) es (subst (AllAdmitted l (slotBytes σ)) (sym k) (all-admitted l σ a s f w))
-      ∙ ap (λ (xs : List Arrival). payloads (replies opening xs)) k
-      ∙ by-arrivals f
+  pub by-log : (l : Limits) → Admits l σ → EachSent σ → (f : Feed) → Fair σ f → (es : List Entry) → Keeps l σ f es → deliveredBy l σ es ≡ backwards (bytesIn (deliveries σ f))
+  by-log l a s f w es k = payloads-are l (length (σ .store)) opening (opened-good (length (σ .store))) k (all-admitted l σ a s f w) ∙ by-arrivals f

@@ -69,7 +69,7 @@ abbrev ofPayloads : List (List ℕ) → Shown
 ofPayloads ps = record { delivered = length ps; lists = length (listsRead ps); lines = report (listsRead ps) }
 
 -- what a log shows are the messages' own
-shown-is : (l : Limits) (σ : Scene) (f : Feed) → Supposed σ f → Admits l σ → (es : List Entry) → Keeps σ f es → shownOf (reportIn l σ es) ≡ ofPayloads (payloadsOf σ)
+shown-is : (l : Limits) (σ : Scene) (f : Feed) → Supposed σ f → Admits l σ → (es : List Entry) → Keeps l σ f es → shownOf (reportIn l σ es) ≡ ofPayloads (payloadsOf σ)
 unfolding reportOf
 shown-is l σ f s a es k =
     let c : Counted l σ f es = counted l σ f s a es k in

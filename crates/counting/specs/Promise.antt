@@ -2,16 +2,18 @@
 use mathlib.Core.Path.{_≡_}
 use mathlib.Core.Bool.{true}
 use mathlib.Core.Option.{Option, none, some}
-use mathlib.Core.List.{List, map}
+use mathlib.Core.List.{List, [], _∷_, map}
 use Prim.Native.Nat.{ℕ, _+_, _≤_, _<_}
 use lib.ListN.{length}
 use Rattle.wire.specs.Sum.{sum}
-use Rattle.steps.specs.Runs.{World}
-use Rattle.arrival.specs.Demand.{Scene, size, message, parts, Feed, arrivals, inOrderOfCompletion, Supposed}
+use Rattle.datagram.specs.declared.Read.the-variants.{Refused}
+use Rattle.steps.specs.Runs.{World, Arrival}
+use Rattle.arrival.specs.Demand.{Scene, size, message, slotBytes, parts, Feed, arrivals, inOrderOfCompletion, Supposed}
 use Rattle.log.specs.declared.reader.Limits.{Limits}
 use Rattle.log.specs.Editions.{limitsIn}
 use Rattle.log.specs.Entries.{Entry}
 use Rattle.log.specs.Listed.{whole, entriesIn}
+use Rattle.bounded.specs.Within.{readWithin}
 use Rattle.tally.specs.Lists.{SameMembers}
 use Rattle.counting.specs.Marks.{PitList}
 use Rattle.counting.specs.Report.{Line, report}
@@ -43,9 +45,15 @@ WhichLists = (ls ms : List PitList) → SameMembers ls ms → report ls ≡ repo
 
 -- ==== the count of a log is the count of the messages
 
--- these entries keep the arrivals of a feed, in their order, at any ticks
-abbrev pub Keeps : Scene → Feed → List Entry → Type 0
-Keeps σ f es = map arrivalOf es ≡ arrivals σ f
+-- Arrivals are recorded as entries, in their order, at any ticks; among these stand any others that are refused for form within a log's limits, for slots of C bytes.
+pub data Recorded (l : Limits) (C : ℕ) : List Arrival → List Entry → Type 0 where
+  no-more : Recorded l C [] []
+  own : {xs : List Arrival} {es : List Entry} (e : Entry) → Recorded l C xs es → Recorded l C (arrivalOf e ∷ xs) (e ∷ es)
+  stray : {xs : List Arrival} {es : List Entry} (e : Entry) (n : ℕ) → readWithin l C (e .datagram) ≡ Refused n → Recorded l C xs es → Recorded l C xs (e ∷ es)
+
+-- these entries keep the arrivals of a feed
+abbrev pub Keeps : Limits → Scene → Feed → List Entry → Type 0
+Keeps l σ f es = Recorded l (slotBytes σ) (arrivals σ f) es
 
 -- A log's limits admit the messages: P of each message that is sent in fragments is within its payload limit, and n within its fragments.
 -- They never concern a small message.
@@ -56,7 +64,7 @@ Admits l σ = (i : ℕ) → i < size σ → message σ i .fragmented ≡ true �
 pub record LogOf (σ : Scene) (f : Feed) (log : List ℕ) : Type 0 where
   pub entries : List Entry
   pub reads : entriesIn log ≡ whole entries
-  pub keeps : Keeps σ f entries
+  pub keeps : Keeps (limitsIn log) σ f entries
   pub admits : Admits (limitsIn log) σ
 
 -- the messages' payloads, each once
@@ -74,7 +82,7 @@ pub record Counted (l : Limits) (σ : Scene) (f : Feed) (es : List Entry) : Type
   pub lists-read : length (listsRead (deliveredBy l σ es)) ≡ length (listsRead (payloadsOf σ))
   pub delivered : length (deliveredBy l σ es) ≡ length (payloadsOf σ)
   -- and what is delivered, in order, is as if the messages had been fed whole, one after another, in order of completion
-  pub as-whole : (ds : List Entry) → Keeps σ (inOrderOfCompletion σ f) ds → deliveredBy l σ es ≡ deliveredBy l σ ds
+  pub as-whole : (ds : List Entry) → Keeps l σ (inOrderOfCompletion σ f) ds → deliveredBy l σ es ≡ deliveredBy l σ ds
 
 -- what may not depend on the arrivals
 pub record Shown : Type 0 where
