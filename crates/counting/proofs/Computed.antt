@@ -15,7 +15,7 @@ use Rattle.steps.specs.Held.{noneHeld, isHeld, hold}
 use Rattle.steps.specs.Memory.{among, emptyMemory, isRemembered, remember, placeFor, withKey, memoryOk}
 use Rattle.steps.specs.Slots.{oldest, openCount, lower, release, seat, opening, filled}
 use Rattle.steps.specs.Receive.{opened, stay, sameFragment, agrees, step3, decide, step5, act, receive, sound}
-use Rattle.steps.specs.Answers.{Reply}
+use Rattle.steps.specs.Answers.{Reply, refusedBy, kept}
 use Rattle.steps.specs.Worked.{A-of, B-of}
 use Rattle.lmcp.specs.Run as run
 use Rattle.lmcp.specs.Value.{fault, numberOf}
@@ -133,17 +133,31 @@ many-read : listBy (length (bodyOf (many ∷ []))) (bodyOf (many ∷ [])) ≡ wh
 unfolding bodyOf entryBytes groups listBy entryIn groupsIn tickIn lengthIn datagramIn
 many-read = refl
 
-pub many-old : countLog longest store ledger (manyLog edition1) ≡ reported (manyReport 0 1)
-unfolding manyLog countEntries firstFault reportOf howMany report enter rising answers called stepWithin sound receive decide act stay step3 step5 sameFragment agrees seat oldest release lower opening openCount filled opened emptyMemory
+many-refused : answersTo (limitsOf edition1) store ledger (many ∷ []) ≡ refusedBy 5 ∷ []
+unfolding answers called stepWithin sound receive decide act stay step3 step5 sameFragment agrees seat oldest release lower opening openCount filled opened emptyMemory
     isRemembered remember placeFor withKey memoryOk among isHeld hold noneHeld readDatagram readSmall readFragment formed goodForm nameLength goodName untilZero
     be overlay
-many-old = own-listed edition1 tt (many ∷ []) many-read longest store ledger
+many-refused = refl
+
+many-kept : answersTo (limitsOf (edition2 maxPayload)) store ledger (many ∷ []) ≡ kept ∷ []
+unfolding answers called stepWithin sound receive decide act stay step3 step5 sameFragment agrees seat oldest release lower opening openCount filled opened emptyMemory
+    isRemembered remember placeFor withKey memoryOk among isHeld hold noneHeld readDatagram readSmall readFragment formed goodForm nameLength goodName untilZero
+    be overlay
+many-kept = refl
+
+many-is : (v : Edition) → Lawful v → (rs : List Reply) → answersTo (limitsOf v) store ledger (many ∷ []) ≡ rs
+    → countLog longest store ledger (manyLog v) ≡ unless (firstFault longest [] (payloads rs)) (reportOf (many ∷ []) rs)
+unfolding manyLog countEntries
+many-is v l rs e =
+    own-listed v l (many ∷ []) many-read longest store ledger ∙ ap (λ (x : List Reply). unless (firstFault longest [] (payloads x)) (reportOf (many ∷ []) x)) e
+
+pub many-old : countLog longest store ledger (manyLog edition1) ≡ reported (manyReport 0 1)
+unfolding firstFault reportOf howMany report rising
+many-old = many-is edition1 tt (refusedBy 5 ∷ []) many-refused
 
 pub many-new : countLog longest store ledger (manyLog (edition2 maxPayload)) ≡ reported (manyReport 1 0)
-unfolding manyLog countEntries firstFault reportOf howMany report enter rising answers called stepWithin sound receive decide act stay step3 step5 sameFragment agrees seat oldest release lower opening openCount filled opened emptyMemory
-    isRemembered remember placeFor withKey memoryOk among isHeld hold noneHeld readDatagram readSmall readFragment formed goodForm nameLength goodName untilZero
-    be overlay
-many-new = own-listed (edition2 maxPayload) (omega arith) (many ∷ []) many-read longest store ledger
+unfolding firstFault reportOf howMany report rising
+many-new = many-is (edition2 maxPayload) (omega arith) (kept ∷ []) many-kept
 
 -- ---- the 256th tile and the 257th; and by which number a log is refused may depend on the order of its payloads
 
