@@ -1,0 +1,1 @@
+// Distinct numbers kept in rising order in lent words: found by halving, and entered once.
