@@ -1,0 +1,3 @@
+pub mod Enterings
+pub mod Halves
+pub mod Moves
