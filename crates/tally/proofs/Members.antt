@@ -1,7 +1,7 @@
 -- Laws of membership, of `gather` and of `map`. Assumes nothing.
-use mathlib.Core.Path.{_≡_, refl, ap, subst}
+use mathlib.Core.Path.{_≡_, refl, sym, ap, _∙_, subst}
 use mathlib.Core.Logic.{_⊎_, inl, inr}
-use mathlib.Core.List.{List, [], _∷_, _++_, map}
+use mathlib.Core.List.{List, [], _∷_, _++_, map, append-assoc}
 use Prim.Native.Nat.{ℕ, zero, suc, _<_}
 use native.Mathlib.Omega.{arith}
 use lib.ListN.{length, getD}
@@ -69,6 +69,10 @@ module _ {A B : Type 0} (h : A → List B) where
   -- what is gathered depends on the members only
   pub gather-same : (l m : List A) → SameMembers l m → SameMembers (gather h l) (gather h m)
   gather-same l m s = record { there = gather-sub l m (s .there); back = gather-sub m l (s .back) }
+
+  pub gather-append : (l m : List A) → gather h (l ++ m) ≡ gather h l ++ gather h m
+  gather-append [] m = refl
+  gather-append (x ∷ l) m = ap (λ (n : List B). h x ++ n) (gather-append l m) ∙ sym (append-assoc (h x) (gather h l) (gather h m))
 
 module _ {A B : Type 0} (h : A → B) where
   pub map-in : (l : List A) (x : A) → In x l → In (h x) (map h l)
