@@ -1,3 +1,4 @@
+pub mod Answers
 pub mod Editions
 pub mod Few
 pub mod Goes
