@@ -16,7 +16,7 @@ use Rattle.wire.proofs.Choices.{either, never, and-l, and-r, pick-all}
 use Rattle.tally.specs.declared.Entered.{Entered}
 use Rattle.tally.specs.declared.Entered.the-variants.{Now, Full}
 use Rattle.tally.specs.Lists.{In, enter, Rising, below}
-use Rattle.tally.specs.Halving.{held, middle, behind, halve, rankIn, inserted, isThere, noRoom, entered, wordsWith}
+use Rattle.tally.specs.Halving.{held, middle, behind, halve, rankIn, inserted, isThere, noRoom, entered, wordsWith, Holds}
 use Rattle.tally.proofs.Halves.{done, turn, rank-most}
 use Rattle.tally.proofs.Rises.{enter-old, enter-new, enter-rises}
 use Rattle.tally.proofs.Places as places
@@ -40,12 +40,6 @@ words-long w n x =
     pick-all (λ (v : List ℕ). length v ≡ length w) (isThere w n x) (λ e. refl)
     (λ e. pick-all (λ (v : List ℕ). length v ≡ length w) (noRoom w n) (λ q. refl) (λ q. inserted-all w (rankIn w n x) (held w n) x (rank-most w x n) (omega (arith, eqb-false (held w n) (length w) q))))
 
--- the first n words are the rising list l
-pub record Holds (w : List ℕ) (n : ℕ) (l : List ℕ) : Type 0 where
-  pub size : n ≤ length w
-  pub front : take n w ≡ l
-  pub rises : Rising l
-
 module _ (w : List ℕ) (n : ℕ) (l : List ℕ) (h : Holds w n l) where
   pub all-held : held w n ≡ n
   all-held = let a = h .size in omega arith
@@ -53,7 +47,7 @@ module _ (w : List ℕ) (n : ℕ) (l : List ℕ) (h : Holds w n l) where
   pub as-many : length l ≡ n
   as-many = ap (λ (m : List ℕ). length m) (sym (h .front)) ∙ length-take-le n w (h .size)
 
-  word-at : (i : ℕ) → i < n → getD w i 0 ≡ getD l i 0
+  pub word-at : (i : ℕ) → i < n → getD w i 0 ≡ getD l i 0
   word-at i b = sym (getD-take n w i 0 b) ∙ ap (λ (m : List ℕ). getD m i 0) (h .front)
 
   module _ (x : ℕ) where
