@@ -18,13 +18,13 @@ use Rattle.counting.specs.Spelled.{markOf, listWith, ReadAsSpelled, NoOt
 
 -- one element, and what stands behind it
 module _ (two : Bool) (rest : List ℤ) where
-  mark-is : (e : Element) → markAt (spellElement two e ++ rest) ≡ markOf e
+  pub mark-is : (e : Element) → markAt (spellElement two e ++ rest) ≡ markOf e
   unfolding markAt
   mark-is null = refl
   mark-is (marked pit true at depth) = refl
   mark-is (marked pit false at depth) = refl
 
-  past-is : (e : Element) → drop (markLength two (spellElement two e ++ rest)) (spellElement two e ++ rest) ≡ rest
+  pub past-is : (e : Element) → drop (markLength two (spellElement two e ++ rest)) (spellElement two e ++ rest) ≡ rest
   unfolding markLength
   past-is null = refl
   past-is (marked pit sure nowhere depth) = go two

@@ -8,6 +8,7 @@ pub mod Makes
 pub mod Never
 pub mod Once
 pub mod Pitsurv
+pub mod Sizes
 pub mod Spells
 pub mod Tables
 pub mod Trips
