@@ -61,6 +61,15 @@ u32 ref_cut(const u8 *name, u64 c, const u8 *payload, u64 p, u32 sequence, u64 m
 u32 ref_log_begin(u8 *out, u64 room, u64 *written);
 u32 ref_log_append(u8 *out, u64 room, u64 at, u64 sender, u64 tick, const u8 *d, u64 length, u64 *written);
 
+/* ---- the log's reader: 0, or the refusal with the place as it was. There is an entry more where the place is not the log's end. */
+
+struct ref_entry {
+    u64 sender, tick, place, length;   /* of the datagram in the log */
+};
+
+u32 ref_log_open(const u8 *log, u64 length, u64 *at);
+u32 ref_log_next(const u8 *log, u64 length, u64 *at, struct ref_entry *e);
+
 /* ---- the receiver */
 
 enum { SLOTS = 8, SENDERS_KNOWN = 16, KEYS_EACH = 32, LEDGER = SLOTS * MAX_FRAGMENTS * 2 };
@@ -148,5 +157,21 @@ u32 ref_write_message(const i64 *list, u64 numbers, int calculate, u8 *out, u64 
 
 /* The fields of a type of a version, a letter or two each; lmcp.c says which. */
 extern const char *const ref_fields[VERSIONS + 1][TYPES + 1];
+
+/* ---- the count of a log */
+
+enum { MOST_ENTRIES = 4096, MOST_TILES = 256, MOST_PITS = 8192, REFUSAL_NUMBERS = 10 };
+
+struct ref_report {
+    u64 entries, kept, repeated, delivered;
+    u64 refused[REFUSAL_NUMBERS];   /* under each number */
+    u64 lists, tiles;
+    u64 tile[MOST_TILES], pits[MOST_TILES], sure[MOST_TILES];   /* in rising tile number, the rest zero */
+};
+
+/* Answers 0 and the report, or the refusal with a report all of zeros. Store, ledger and numbers are left as the calls made by then
+   left them. */
+u32 ref_count(const u8 *log, u64 length, u8 *store, u64 store_length, u32 *ledger, u64 ledger_length, i64 *numbers, u64 room,
+              struct ref_report *report);
 
 #endif
