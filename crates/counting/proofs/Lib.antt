@@ -1,0 +1,4 @@
+pub mod Under
+pub mod Means
+pub mod Keys
+pub mod Steps

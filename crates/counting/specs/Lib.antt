@@ -1,0 +1,7 @@
+pub mod Marks
+pub mod Report
+pub mod Meaning
+pub mod Run
+pub mod Count
+pub mod Walk
+pub mod Keys

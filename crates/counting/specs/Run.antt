@@ -1,0 +1,96 @@
+-- A log's entries through a receiver: what each is answered, the counts over these answers, and the lists among what is delivered. Definitions only.
+use mathlib.Core.Bool.{Bool, true, false}
+use mathlib.Core.List.{List, [], _∷_}
+use Prim.Native.Nat.{ℕ, _+_}
+use lib.Dec.{eqb}
+use Rattle.words.specs.Builds.{build}
+use Rattle.steps.specs.Search.{one}
+use Rattle.steps.specs.Receive.{After}
+use Rattle.steps.specs.Answers.{Reply, refusedBy, kept, repeat, delivered, reply}
+use Rattle.steps.specs.Runs.{World, worldOf, Arrival, from, call}
+use Rattle.log.specs.Entries.{Entry}
+use Rattle.tally.specs.Lists.{gather}
+use Rattle.counting.specs.Marks.{PitList, listIn}
+
+-- an entry is given to the receiver as it came; its tick plays no part
+abbrev pub arrivalOf : Entry → Arrival
+arrivalOf e = from (e .sender) (e .datagram)
+
+-- what is done with one entry, by the step list
+unfoldable pub called : World → Entry → After
+called w e = call w (arrivalOf e)
+
+-- what it is answered
+abbrev pub answerTo : World → Entry → Reply
+answerTo w e = reply (e .datagram) (called w e .store) (called w e .answer)
+
+-- and what is then lent
+abbrev pub leftBy : World → Entry → World
+leftBy w e = worldOf (called w e)
+
+-- what each entry is answered, in order, each call with what the one before left
+unfoldable pub answers : World → List Entry → List Reply
+answers w [] = []
+answers w (e ∷ es) = answerTo w e ∷ answers (leftBy w e) es
+
+-- ---- the counts over answers, each by its own definition
+
+abbrev pub isKept : Reply → Bool
+isKept (refusedBy n) = false
+isKept kept = true
+isKept repeat = false
+isKept (delivered b) = false
+
+abbrev pub isRepeat : Reply → Bool
+isRepeat (refusedBy n) = false
+isRepeat kept = false
+isRepeat repeat = true
+isRepeat (delivered b) = false
+
+abbrev pub isDelivered : Reply → Bool
+isDelivered (refusedBy n) = false
+isDelivered kept = false
+isDelivered repeat = false
+isDelivered (delivered b) = true
+
+-- by number k
+abbrev pub isRefused : ℕ → Reply → Bool
+isRefused k (refusedBy n) = eqb n k
+isRefused k kept = false
+isRefused k repeat = false
+isRefused k (delivered b) = false
+
+-- how many pass
+unfoldable pub howMany : (Reply → Bool) → List Reply → ℕ
+howMany p [] = 0
+howMany p (r ∷ rs) = one (p r) + howMany p rs
+
+abbrev pub keptIn : List Reply → ℕ
+keptIn rs = howMany isKept rs
+
+abbrev pub repeatedIn : List Reply → ℕ
+repeatedIn rs = howMany isRepeat rs
+
+abbrev pub deliveredIn : List Reply → ℕ
+deliveredIn rs = howMany isDelivered rs
+
+-- the receiver's numbers of refusal are 1 to 9: ten numbers, the first of them 0
+abbrev pub refusals : ℕ
+refusals = 10
+
+abbrev pub refusedIn : List Reply → List ℕ
+refusedIn rs = build refusals (λ k. howMany (isRefused k) rs)
+
+-- ---- the delivered payloads in order, and the lists among payloads
+
+abbrev pub payloadIn : Reply → List (List ℕ)
+payloadIn (refusedBy n) = []
+payloadIn kept = []
+payloadIn repeat = []
+payloadIn (delivered b) = b ∷ []
+
+abbrev pub payloads : List Reply → List (List ℕ)
+payloads rs = gather payloadIn rs
+
+abbrev pub listsRead : List (List ℕ) → List PitList
+listsRead ps = gather listIn ps
