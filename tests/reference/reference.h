@@ -174,4 +174,22 @@ struct ref_report {
 u32 ref_count(const u8 *log, u64 length, u8 *store, u64 store_length, u32 *ledger, u64 ledger_length, i64 *numbers, u64 room,
               struct ref_report *report);
 
+/* ---- logs to count: each call makes one, in flight_log */
+
+enum { FLIGHT_ROOM = 1 << 20 };
+extern u8 flight_log[FLIGHT_ROOM];
+extern u64 flight_length;
+
+void flight_seed(u64 seed);
+/* So many messages: lists of few tiles and pits in either version and others, cut, late, doubled, damaged, with strangers about. */
+void flight_world(u64 messages);
+/* That many lists without marks, each of another tile. */
+void flight_tiles(u64 tiles);
+/* That many pits, in lists of at most 2,000, on two tiles. */
+void flight_pits(u64 pits);
+/* That many entries. */
+void flight_entries(u64 entries);
+/* Cuts or damages the log that was made. */
+void flight_damage(void);
+
 #endif
