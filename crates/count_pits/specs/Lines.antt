@@ -1,0 +1,25 @@
+-- What the program writes of a count. Definitions only.
+use mathlib.Core.List.{List, _++_}
+use Prim.Native.Nat.{ℕ, min}
+use lib.ListN.{length}
+use Rattle.count.specs.declared.Answer.{Answer}
+use Rattle.count.specs.declared.Answer.the-variants.{Given, Refused}
+use Rattle.count.specs.declared.Counted.{Counted}
+use Rattle.count.specs.declared.Report.{Report}
+use Rattle.count_lines.specs.Lines.{totalLines, refusedLines, listsLine, tileLines, refusalLine}
+
+-- the totals, the refusals that occurred, the lists read, and the tiles
+abbrev pub reportLines : Report → List ℕ
+reportLines r =
+    totalLines (r .entries) (r .kept) (r .repeated) (r .delivered)
+    ++ refusedLines (length (r .refused)) (r .refused)
+    ++ listsLine (r .lists)
+    ++ tileLines (r .tiles) (r .tile) (r .pits) (r .sure)
+
+-- a count that is refused is its number alone
+abbrev pub linesBy : Answer → Report → List ℕ
+linesBy Given r = reportLines r
+linesBy (Refused n) r = refusalLine n
+
+abbrev pub countLines : Counted → List ℕ
+countLines c = linesBy (c .answer) (c .report)
