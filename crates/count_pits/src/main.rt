@@ -2,7 +2,9 @@
 // tile its pits and how many of them are sure.
 ghost use mathlib.Core.Path.{_≡_};
 ghost use Rattle.output.specs.Output.{Pours};
-ghost use Rattle.count_pits.specs.Lines.{reportLines, countLines};
+ghost use lib.ListN.{length};
+ghost use Rattle.counting.specs.Count.{countLog};
+ghost use Rattle.count_pits.specs.Lines.{outcomeLines, reportLines, countLines};
 use count::Answer;
 use count::Counted;
 use count::Report;
@@ -24,7 +26,14 @@ fn pour_report(out: &mut [u8], at: usize, report: Report) -> usize
     let tile = report.tile;
     let pits = report.pits;
     let sure = report.sure;
-    let a = count_lines::pour_totals(out, at, report.entries, report.kept, report.repeated, report.delivered);
+    let a = count_lines::pour_totals(
+        out,
+        at,
+        report.entries,
+        report.kept,
+        report.repeated,
+        report.delivered,
+    );
     let b = count_lines::pour_refusals(out, a, &refused);
     let c = count_lines::pour_lists(out, b, report.lists);
     count_lines::pour_tiles(out, c, report.tiles as usize, &tile, &pits, &sure)
@@ -41,13 +50,26 @@ fn pour_count(out: &mut [u8], at: usize, counted: Counted) -> usize
     }
 }
 
+// A log's lines: those of its count, over the lent store, ledger and number list.
+fn pour_log(
+    out: &mut [u8],
+    at: usize,
+    log: &[u8],
+    store: &mut [u8],
+    ledger: &mut [u32],
+    numbers: &mut [i64],
+) -> usize
+    ensures { λ r. ⌜ Pours (now (out .entry)) at (outcomeLines (countLog (length (now (numbers .entry))) (now (store .entry)) (now (ledger .entry)) (now (log .entry)))) (now (out .exit)) r ⌝ }
+{
+    pour_count(out, at, count::count_log(log, store, ledger, numbers))
+}
+
 // Counts a log, and writes all lines.
-fn count_and_tell(log: &[u8], out: &mut [u8]) {
+fn counted(log: &[u8], out: &mut [u8]) {
     let mut store = [0u8; STORE];
     let mut ledger = [0u32; receiver::LEDGER];
     let mut numbers = [0i64; NUMBERS];
-    let counted = count::count_log(log, &mut store, &mut ledger, &mut numbers);
-    let end = pour_count(out, 0, counted);
+    let end = pour_log(out, 0, log, &mut store, &mut ledger, &mut numbers);
     output::write_out(out, end);
 }
 
@@ -55,7 +77,7 @@ fn count_and_tell(log: &[u8], out: &mut [u8]) {
 fn run(buf: &mut [u8], out: &mut [u8]) {
     let all = stream::read_all(buf);
     match all {
-        All::Whole(n) => count_and_tell(wire::part(buf, 0, n), out),
+        All::Whole(n) => counted(wire::part(buf, 0, n), out),
         All::Longer => {
             let end = log_lines::pour_longer(out, 0, buf.len() as u64);
             output::write_out(out, end);
