@@ -1,6 +1,7 @@
 /* Quartzmitten for a C host: the checksum, the datagram reader, the cutter, the log's writer and the count of a log.
 
-   Link the archive libhost.a, which the toolchain's `rt staticlib host` writes (x86-64 Linux). No other header is needed.
+   Link the archives libhost.a and libhost_count.a, or the one whose functions are called (qm_count is the second's): the toolchain's
+   `rt staticlib host` and `rt staticlib host_count` write them (x86-64 Linux). No other header is needed.
 
    What holds for all of them:
    - They end for any bytes and any lengths, keep no state, ask the system for nothing, and may be called from any thread.

@@ -10,10 +10,8 @@ ghost use Rattle.datagram.specs.Read.{readDatagram};
 ghost use Rattle.host.specs.Fields.{kindOf, PlacesFit, Told};
 ghost use Rattle.host.specs.Code.{CutTold};
 
-mod counts;
 mod flight;
 
-pub use counts::qm_count;
 pub use flight::qm_log_append;
 pub use flight::qm_log_begin;
 

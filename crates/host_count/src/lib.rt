@@ -43,7 +43,8 @@ fn put_report(list: &mut [u64], report: Report)
 }
 
 // Counts a log: 0 and the report's numbers at the start of report, or the number of the refusal. Where report is too short it is 13, and nothing is done.
-pub fn count_told(
+#[no_mangle]
+pub extern "C" fn qm_count(
     log: &[u8],
     store: &mut [u8],
     ledger: &mut [u32],

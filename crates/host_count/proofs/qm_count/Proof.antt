@@ -1,10 +1,10 @@
--- `host_count::count_told` meets its contract. Assumes nothing.
+-- `host_count::qm_count` meets its contract. Assumes nothing.
 use mathlib.Core.Path.{sym, ap, _∙_}
 use Rattle.count.specs.declared.Answer.{Answer}
 use Rattle.host_count.proofs.Telling.{codeBy, leftBy, not-counted, told-as-counted}
 use borrow.Author.Needs.{needs}
-use Rattle.host_count.proofs.count_told.Statement.{statement}
-use Rattle.host_count.proofs.count_told.Tie as tie
+use Rattle.host_count.proofs.qm_count.Statement.{statement}
+use Rattle.host_count.proofs.qm_count.Tie as tie
 
 returns : tie.Need-returns
 returns c = let a = c .before .before .before .before .before .args in not-counted (a .log .now) (a .store .now) (a .ledger .now) (a .numbers .now) (a .report .now) (c .if1 .taken)
@@ -61,8 +61,8 @@ returns-3 c =
     told-as-counted (a .log .now) (a .store .now) (a .ledger .now) (a .numbers .now) (a .report .now) (test .if1 .left) (l .count-log .ensures) (sym (ap codeBy e))
     (sym (ap (λ (z : Answer). leftBy z (l .count-log .result .report) (a .report .now)) e))
 
-pub count-told-spec : {M : Type 1} → statement M
-count-told-spec =
+pub qm-count-spec : {M : Type 1} → statement M
+qm-count-spec =
     tie.close
     (tie.spec
     returns
