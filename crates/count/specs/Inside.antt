@@ -43,12 +43,6 @@ abbrev pub surveyOf : Listed → Surveyed
 surveyOf (whole es) = many (length es)
 surveyOf (broken es n) = surveyed.Refused n
 
--- by the step that ended it after n entries
-abbrev pub surveyEnd : Step → ℕ → Surveyed
-surveyEnd (step.Found e) n = surveyed.Entries n
-surveyEnd step.End n = many n
-surveyEnd (step.Refused k) n = surveyed.Refused k
-
 -- ---- the totals
 
 abbrev pub totalsOf : List Reply → ℕ → Totals

@@ -14,7 +14,7 @@ ghost use Rattle.counting.specs.Marks.{PitList};
 ghost use Rattle.counting.specs.Report.{report};
 ghost use Rattle.pit_marks.specs.Sets.{Has};
 ghost use Rattle.count.specs.Counts.{counted, Counts};
-ghost use Rattle.count.specs.Inside.{surveyOf, surveyEnd, Few, oneMore, toldOf, ran, noTotals, noSizes, TakesList, TakesPayload, TakesAnswer, TakesEntry, Begins, Whole, Walks, reportWith};
+ghost use Rattle.count.specs.Inside.{many, surveyOf, Few, oneMore, toldOf, ran, noTotals, noSizes, TakesList, TakesPayload, TakesAnswer, TakesEntry, Begins, Whole, Walks, reportWith};
 use lmcp::Found;
 use log::EntryAt;
 use log::Step;
@@ -89,20 +89,14 @@ struct Ran {
 
 // ---- the whole log
 
-// By the step that ended the reading after n entries.
-fn ended(step: Step, n: u64) -> Surveyed
-    ensures { λ r. ⌜ r ≡ surveyEnd step n ⌝ }
+// So many entries, or too many.
+fn many_entries(n: u64) -> Surveyed
+    ensures { λ r. ⌜ r ≡ many n ⌝ }
 {
-    match step {
-        Step::Found(_) => Surveyed::Entries(n),
-        Step::Refused(e) => Surveyed::Refused(e),
-        Step::End => {
-            if MAX_ENTRIES < n {
-                return Surveyed::Refused(TOO_MANY);
-            }
-            Surveyed::Entries(n)
-        }
+    if MAX_ENTRIES < n {
+        return Surveyed::Refused(TOO_MANY);
     }
+    Surveyed::Entries(n)
 }
 
 fn survey(log: &[u8]) -> Surveyed
@@ -112,11 +106,14 @@ fn survey(log: &[u8]) -> Surveyed
     let mut n: u64 = 0;
     loop {
         let step = log::read_on(log, place);
-        let Step::Found(entry) = step else {
-            return ended(step, n);
-        };
-        place = entry.next;
-        n += 1;
+        match step {
+            Step::Found(entry) => {
+                place = entry.next;
+                n += 1;
+            }
+            Step::Refused(e) => return Surveyed::Refused(e),
+            Step::End => return many_entries(n),
+        }
     }
 }
 
@@ -166,6 +163,17 @@ fn told(t: Totals, answer: Told) -> Totals
 
 // ---- one list, one payload
 
+// Nothing more.
+fn idle(totals: Totals, sizes: Sizes) -> Ran
+    ensures { λ r. ⌜ r ≡ ran 0 totals sizes ⌝ }
+{
+    Ran {
+        fault: 0,
+        totals,
+        sizes,
+    }
+}
+
 // One list more, of those numbers, if they are a list's.
 fn one_list(
     list: &[i64],
@@ -175,15 +183,11 @@ fn one_list(
     totals: Totals,
     sizes: Sizes,
 ) -> Ran
-    requires { ⌜ Few totals ⌝ }
+    requires { ⌜ totals .lists < 2 ^ 32 ⌝ }
     ensures { λ r. ⌜ TakesList (now (list .entry)) (now (tiles .entry)) (now (pits .entry)) (now (sure .entry)) totals sizes r (now (tiles .exit)) (now (pits .exit)) (now (sure .exit)) ⌝ }
 {
     if !pit_marks::is_list(list) {
-        return Ran {
-            fault: 0,
-            totals,
-            sizes,
-        };
+        return idle(totals, sizes);
     }
     let taken = pit_marks::enter_list(list, tiles, pits, sure, sizes);
     match taken {
@@ -221,7 +225,7 @@ fn one_payload(
     totals: Totals,
     sizes: Sizes,
 ) -> Ran
-    requires { ⌜ Few totals ⌝ }
+    requires { ⌜ totals .lists < 2 ^ 32 ⌝ }
     ensures { λ r. ⌜ TakesPayload (now (payload .entry)) (now (numbers .entry)) (now (tiles .entry)) (now (pits .entry)) (now (sure .entry)) totals sizes r (now (numbers .exit)) (now (tiles .exit)) (now (pits .exit)) (now (sure .exit)) ⌝ }
 {
     let found = lmcp_reader::read_message(payload, &mut *numbers);
@@ -249,35 +253,33 @@ fn one_answer(
     totals: Totals,
     sizes: Sizes,
 ) -> Ran
-    requires { ⌜ Few totals ⌝ }
+    requires { ⌜ totals .lists < 2 ^ 32 ⌝ }
     ensures { λ r. ⌜ TakesAnswer (reply (now (d .entry)) (now (store .entry)) answer) (now (numbers .entry)) (now (tiles .entry)) (now (pits .entry)) (now (sure .entry)) totals sizes r (now (numbers .exit)) (now (tiles .exit)) (now (pits .exit)) (now (sure .exit)) ⌝ }
 {
-    let Told::Delivered(place, n) = answer else {
-        return Ran {
-            fault: 0,
-            totals,
-            sizes,
-        };
-    };
-    match place {
-        PayloadAt::InDatagram(at) => one_payload(
-            wire::part(d, at, n),
-            numbers,
-            tiles,
-            pits,
-            sure,
-            totals,
-            sizes,
-        ),
-        PayloadAt::InStore(at) => one_payload(
-            wire::part(store, at, n),
-            numbers,
-            tiles,
-            pits,
-            sure,
-            totals,
-            sizes,
-        ),
+    match answer {
+        Told::Refused(_) => idle(totals, sizes),
+        Told::Kept => idle(totals, sizes),
+        Told::Repeat => idle(totals, sizes),
+        Told::Delivered(place, n) => match place {
+            PayloadAt::InDatagram(at) => one_payload(
+                wire::part(d, at, n),
+                numbers,
+                tiles,
+                pits,
+                sure,
+                totals,
+                sizes,
+            ),
+            PayloadAt::InStore(at) => one_payload(
+                wire::part(store, at, n),
+                numbers,
+                tiles,
+                pits,
+                sure,
+                totals,
+                sizes,
+            ),
+        },
     }
 }
 
@@ -349,28 +351,31 @@ fn walk(
     let mut done = nothing();
     loop {
         let step = log::read_on(log, place);
-        let Step::Found(entry) = step else {
-            return done;
-        };
-        place = entry.next;
-        let totals = done.totals;
-        let sizes = done.sizes;
-        done = one_entry(
-            log,
-            entry,
-            &mut *state,
-            &mut *names,
-            &mut *store,
-            &mut *ledger,
-            &mut *numbers,
-            &mut *tiles,
-            &mut *pits,
-            &mut *sure,
-            totals,
-            sizes,
-        );
-        if done.fault != 0 {
-            return done;
+        match step {
+            Step::Refused(_) => return done,
+            Step::End => return done,
+            Step::Found(entry) => {
+                place = entry.next;
+                let totals = done.totals;
+                let sizes = done.sizes;
+                done = one_entry(
+                    log,
+                    entry,
+                    &mut *state,
+                    &mut *names,
+                    &mut *store,
+                    &mut *ledger,
+                    &mut *numbers,
+                    &mut *tiles,
+                    &mut *pits,
+                    &mut *sure,
+                    totals,
+                    sizes,
+                );
+                if done.fault != 0 {
+                    return done;
+                }
+            }
         }
     }
 }
