@@ -12,12 +12,13 @@ use Rattle.wire.specs.Choice.{pick}
 use Rattle.steps.specs.declared.Answer.{Answer}
 use Rattle.steps.specs.declared.Answer.the-variants.{Refused, Kept, Repeat, Delivered}
 use Rattle.steps.specs.Search.{one}
-use Rattle.steps.specs.Receive.{After, step}
+use Rattle.steps.specs.Receive.{After}
 use Rattle.steps.specs.Answers.{Reply, refusedBy, kept, repeat, delivered, reply}
 use Rattle.receiver_state.specs.View.{stateWords, nameBytes, view, shaped}
 use Rattle.receiver_state.specs.Inside.{Shaped}
 use Rattle.receiver.specs.declared.Outcome.{Outcome}
-use Rattle.receiver.specs.Calls.{received, Receives}
+use Rattle.bounded.specs.Within.{stepWithin, receivedWithin, ReceivesWithin}
+use Rattle.log.specs.declared.reader.Limits.{Limits}
 use Rattle.log.specs.Entries.{Entry}
 use Rattle.words.specs.Builds.{build}
 use Rattle.words.proofs.Builds.{getD-build}
@@ -115,28 +116,28 @@ seen-more seen (delivered b) =
 
 -- ---- the call
 
-module _ (h : Held) (w n : List ℕ) (e : Entry) (shape : Shaped w n) (m : view w n ≡ h .world .machine) (store ledger : List ℕ) (es : store ≡ h .world .store) (el : ledger ≡ h .world .ledger) where
+module _ (l : Limits) (h : Held) (w n : List ℕ) (e : Entry) (shape : Shaped w n) (m : view w n ≡ h .world .machine) (store ledger : List ℕ) (es : store ≡ h .world .store) (el : ledger ≡ h .world .ledger) where
   is-shaped : shaped w n ≡ true
   is-shaped = rw (eq-eqb _ _ (shape .words), eq-eqb _ _ (shape .bytes))
 
-  call-is : received w n store ledger (e .sender) (e .datagram) ≡ called (h .world) e
-  unfolding received called
-  call-is = rw is-shaped (λ i. step (m i) (es i) (el i) (e .sender) (e .datagram))
+  call-is : receivedWithin l w n store ledger (e .sender) (e .datagram) ≡ called l (h .world) e
+  unfolding receivedWithin called
+  call-is = rw is-shaped (λ i. stepWithin l (m i) (es i) (el i) (e .sender) (e .datagram))
 
 -- what the receiver answered and left is what the step list says of the entry
-record Called (h : Held) (e : Entry) (outcome : Outcome) (w′ n′ store′ ledger′ : List ℕ) : Type 0 where
-  answered : outcome .answer ≡ called (h .world) e .answer
-  stored : store′ ≡ called (h .world) e .store
-  wrote : ledger′ ≡ called (h .world) e .ledger
-  shows : view w′ n′ ≡ called (h .world) e .machine
+record Called (l : Limits) (h : Held) (e : Entry) (outcome : Outcome) (w′ n′ store′ ledger′ : List ℕ) : Type 0 where
+  answered : outcome .answer ≡ called l (h .world) e .answer
+  stored : store′ ≡ called l (h .world) e .store
+  wrote : ledger′ ≡ called l (h .world) e .ledger
+  shows : view w′ n′ ≡ called l (h .world) e .machine
   shape : Shaped w′ n′
 
-module _ (h : Held) (e : Entry) (w n store ledger : List ℕ) (list : List ℤ) (t p s : List ℕ) (totals : Totals) (sizes : Sizes) (seen : List PitList) (rs : List Reply)
+module _ (l : Limits) (h : Held) (e : Entry) (w n store ledger : List ℕ) (list : List ℤ) (t p s : List ℕ) (totals : Totals) (sizes : Sizes) (seen : List PitList) (rs : List Reply)
     (a : At h seen rs w n store ledger list t p s totals sizes)
-    (outcome : Outcome) (w′ n′ store′ ledger′ : List ℕ) (R : Receives w n store ledger (e .sender) (e .datagram) outcome w′ n′ store′ ledger′) where
-  is-called : Called h e outcome w′ n′ store′ ledger′
+    (outcome : Outcome) (w′ n′ store′ ledger′ : List ℕ) (R : ReceivesWithin l w n store ledger (e .sender) (e .datagram) outcome w′ n′ store′ ledger′) where
+  is-called : Called l h e outcome w′ n′ store′ ledger′
   is-called =
-      let q : received w n store ledger (e .sender) (e .datagram) ≡ called (h .world) e = call-is h w n e (a .shape) (a .machine) store ledger (a .store-is) (a .ledger-is) in
+      let q : receivedWithin l w n store ledger (e .sender) (e .datagram) ≡ called l (h .world) e = call-is l h w n e (a .shape) (a .machine) store ledger (a .store-is) (a .ledger-is) in
       record {
         answered = R .leaves .answer ∙ ap (λ (x : After). x .answer) q;
         stored = R .leaves .store ∙ ap (λ (x : After). x .store) q;
@@ -145,26 +146,26 @@ module _ (h : Held) (e : Entry) (w n store ledger : List ℕ) (list : List ℤ) 
         shape = record { words = R .words ∙ a .shape .words; bytes = R .bytes ∙ a .shape .bytes };
       }
 
-  reply-is : reply (e .datagram) store′ (outcome .answer) ≡ answerTo (h .world) e
+  reply-is : reply (e .datagram) store′ (outcome .answer) ≡ answerTo l (h .world) e
   reply-is = λ i. reply (e .datagram) (is-called .stored i) (is-called .answered i)
 
   number : (k : ℕ) → outcome .answer ≡ Refused k → k < refusals
-  number k q = omega (arith, called-number (h .world) e k (sym (is-called .answered) ∙ q) .1)
+  number k q = omega (arith, called-number l (h .world) e k (sym (is-called .answered) ∙ q) .1)
 
 -- ---- the entry
 
-module _ (e : Entry) (w n store ledger : List ℕ) (list : List ℤ) (t p s : List ℕ) (totals : Totals) (sizes : Sizes) (outcome : Outcome) (w′ n′ store′ ledger′ : List ℕ)
-    (R : Receives w n store ledger (e .sender) (e .datagram) outcome w′ n′ store′ ledger′) (after : Totals) (ea : after ≡ toldOf totals (outcome .answer))
+module _ (l : Limits) (e : Entry) (w n store ledger : List ℕ) (list : List ℤ) (t p s : List ℕ) (totals : Totals) (sizes : Sizes) (outcome : Outcome) (w′ n′ store′ ledger′ : List ℕ)
+    (R : ReceivesWithin l w n store ledger (e .sender) (e .datagram) outcome w′ n′ store′ ledger′) (after : Totals) (ea : after ≡ toldOf totals (outcome .answer))
     (r : Ran) (list′ : List ℤ) (t′ p′ s′ : List ℕ) (T : TakesAnswer (reply (e .datagram) store′ (outcome .answer)) list t p s after sizes r list′ t′ p′ s′) where
-  goes : TakesEntry e w n store ledger list t p s totals sizes r w′ n′ store′ ledger′ list′ t′ p′ s′
+  goes : TakesEntry l e w n store ledger list t p s totals sizes r w′ n′ store′ ledger′ list′ t′ p′ s′
   goes h seen rs a =
-      let x : Reply = answerTo (h .world) e in
-      let c : Called h e outcome w′ n′ store′ ledger′ = is-called h e w n store ledger list t p s totals sizes seen rs a outcome w′ n′ store′ ledger′ R in
-      let q : reply (e .datagram) store′ (outcome .answer) ≡ x = reply-is h e w n store ledger list t p s totals sizes seen rs a outcome w′ n′ store′ ledger′ R in
-      let f = number h e w n store ledger list t p s totals sizes seen rs a outcome w′ n′ store′ ledger′ R in
+      let x : Reply = answerTo l (h .world) e in
+      let c : Called l h e outcome w′ n′ store′ ledger′ = is-called l h e w n store ledger list t p s totals sizes seen rs a outcome w′ n′ store′ ledger′ R in
+      let q : reply (e .datagram) store′ (outcome .answer) ≡ x = reply-is l h e w n store ledger list t p s totals sizes seen rs a outcome w′ n′ store′ ledger′ R in
+      let f = number l h e w n store ledger list t p s totals sizes seen rs a outcome w′ n′ store′ ledger′ R in
       let u : TakesAnswer x list t p s after sizes r list′ t′ p′ s′ = subst (λ (y : Reply). TakesAnswer y list t p s after sizes r list′ t′ p′ s′) q T in
       let v : Answered (length list) x after seen r t′ p′ s′ = u .took seen (a .has) in
-      let left : list′ ≡ listAt (h .list) x = u .list-left ∙ ap (λ (l : List ℤ). listAt l x) (a .list-is) in
+      let left : list′ ≡ listAt (h .list) x = u .list-left ∙ ap (λ (z : List ℤ). listAt z x) (a .list-is) in
       let told : after ≡ totalsOf (rs ++ x ∷ []) (length seen) =
       ea
       ∙ (ap (λ (z : Totals). toldOf z (outcome .answer)) (a .totals-are)
@@ -187,10 +188,10 @@ module _ (e : Entry) (w n store ledger : List ℕ) (list : List ℤ) (t p s : Li
       }
 
 -- whose datagram is d
-module _ (e : Entry) (w n store ledger : List ℕ) (list : List ℤ) (t p s : List ℕ) (totals : Totals) (sizes : Sizes) (d : List ℕ) (ed : d ≡ e .datagram) (outcome : Outcome)
-    (w′ n′ store′ ledger′ : List ℕ) (R : Receives w n store ledger (e .sender) d outcome w′ n′ store′ ledger′) (after : Totals) (ea : after ≡ toldOf totals (outcome .answer))
+module _ (l : Limits) (e : Entry) (w n store ledger : List ℕ) (list : List ℤ) (t p s : List ℕ) (totals : Totals) (sizes : Sizes) (d : List ℕ) (ed : d ≡ e .datagram) (outcome : Outcome)
+    (w′ n′ store′ ledger′ : List ℕ) (R : ReceivesWithin l w n store ledger (e .sender) d outcome w′ n′ store′ ledger′) (after : Totals) (ea : after ≡ toldOf totals (outcome .answer))
     (r : Ran) (list′ : List ℤ) (t′ p′ s′ : List ℕ) (T : TakesAnswer (reply d store′ (outcome .answer)) list t p s after sizes r list′ t′ p′ s′) where
-  pub entry-goes : TakesEntry e w n store ledger list t p s totals sizes r w′ n′ store′ ledger′ list′ t′ p′ s′
+  pub entry-goes : TakesEntry l e w n store ledger list t p s totals sizes r w′ n′ store′ ledger′ list′ t′ p′ s′
   entry-goes =
-      goes e w n store ledger list t p s totals sizes outcome w′ n′ store′ ledger′ (subst (λ (x : List ℕ). Receives w n store ledger (e .sender) x outcome w′ n′ store′ ledger′) ed R)
+      goes l e w n store ledger list t p s totals sizes outcome w′ n′ store′ ledger′ (subst (λ (x : List ℕ). ReceivesWithin l w n store ledger (e .sender) x outcome w′ n′ store′ ledger′) ed R)
       after ea r list′ t′ p′ s′ (subst (λ (x : List ℕ). TakesAnswer (reply x store′ (outcome .answer)) list t p s after sizes r list′ t′ p′ s′) ed T)

@@ -15,6 +15,7 @@ use Rattle.receiver_state.specs.Inside.{Shaped}
 use Rattle.lmcp.specs.Message.{listed}
 use Rattle.lmcp.specs.Lists.{readList}
 use Rattle.log.specs.declared.reader.EntryAt.{EntryAt}
+use Rattle.log.specs.declared.reader.Limits.{Limits}
 use Rattle.log.specs.declared.reader.Step.{Step}
 use Rattle.log.specs.declared.reader.Step.the-variants as step
 use Rattle.log.specs.Entries.{Entry}
@@ -126,19 +127,19 @@ pub record At (h : Held) (seen : List PitList) (rs : List Reply) (w n store ledg
   pub totals-are : totals ≡ totalsOf rs (length seen)
 
 -- with one entry more
-pub record Went (room : ℕ) (h : Held) (seen : List PitList) (rs : List Reply) (e : Entry) (r : Ran) (w′ n′ store′ ledger′ : List ℕ) (list′ : List ℤ) (t′ p′ s′ : List ℕ) : Type 0 where
-  pub found : r .fault ≡ faultAt room seen (answerTo (h .world) e)
-  pub store-left : store′ ≡ heldAfter h e .world .store
-  pub ledger-left : ledger′ ≡ heldAfter h e .world .ledger
-  pub list-left : list′ ≡ heldAfter h e .list
+pub record Went (l : Limits) (room : ℕ) (h : Held) (seen : List PitList) (rs : List Reply) (e : Entry) (r : Ran) (w′ n′ store′ ledger′ : List ℕ) (list′ : List ℤ) (t′ p′ s′ : List ℕ) : Type 0 where
+  pub found : r .fault ≡ faultAt room seen (answerTo l (h .world) e)
+  pub store-left : store′ ≡ heldAfter l h e .world .store
+  pub ledger-left : ledger′ ≡ heldAfter l h e .world .ledger
+  pub list-left : list′ ≡ heldAfter l h e .list
   pub on : r .fault ≡ 0
-      → At (heldAfter h e) (seenAt seen (answerTo (h .world) e)) (rs ++ answerTo (h .world) e ∷ []) w′ n′ store′ ledger′ list′ t′ p′ s′ (r .totals) (r .sizes)
+      → At (heldAfter l h e) (seenAt seen (answerTo l (h .world) e)) (rs ++ answerTo l (h .world) e ∷ []) w′ n′ store′ ledger′ list′ t′ p′ s′ (r .totals) (r .sizes)
 
-abbrev pub TakesEntry : Entry → List ℕ → List ℕ → List ℕ → List ℕ → List ℤ → List ℕ → List ℕ → List ℕ → Totals → Sizes
+abbrev pub TakesEntry : Limits → Entry → List ℕ → List ℕ → List ℕ → List ℕ → List ℤ → List ℕ → List ℕ → List ℕ → Totals → Sizes
     → Ran → List ℕ → List ℕ → List ℕ → List ℕ → List ℤ → List ℕ → List ℕ → List ℕ → Type 0
-TakesEntry e w n store ledger list t p s totals sizes r w′ n′ store′ ledger′ list′ t′ p′ s′ =
+TakesEntry l e w n store ledger list t p s totals sizes r w′ n′ store′ ledger′ list′ t′ p′ s′ =
     (h : Held) (seen : List PitList) (rs : List Reply)
-    → At h seen rs w n store ledger list t p s totals sizes → Went (length list) h seen rs e r w′ n′ store′ ledger′ list′ t′ p′ s′
+    → At h seen rs w n store ledger list t p s totals sizes → Went l (length list) h seen rs e r w′ n′ store′ ledger′ list′ t′ p′ s′
 
 -- ---- all entries
 
@@ -161,14 +162,14 @@ pub record Begins (log w n store ledger : List ℕ) (list : List ℤ) (t p s : L
   pub log-whole : Whole log size
   pub at-first : At (atFirst store ledger list) [] [] w n store ledger list t p s noTotals noSizes
 
-pub record Walks (store ledger : List ℕ) (list : List ℤ) (es : List Entry) (r : Ran) (store′ ledger′ : List ℕ) (list′ : List ℤ) (t′ p′ s′ : List ℕ) : Type 0 where
-  pub found : r .fault ≡ walkEntries store ledger list es .fault
-  pub store-left : store′ ≡ walkEntries store ledger list es .held .world .store
-  pub ledger-left : ledger′ ≡ walkEntries store ledger list es .held .world .ledger
-  pub list-left : list′ ≡ walkEntries store ledger list es .held .list
+pub record Walks (l : Limits) (store ledger : List ℕ) (list : List ℤ) (es : List Entry) (r : Ran) (store′ ledger′ : List ℕ) (list′ : List ℤ) (t′ p′ s′ : List ℕ) : Type 0 where
+  pub found : r .fault ≡ walkEntries l store ledger list es .fault
+  pub store-left : store′ ≡ walkEntries l store ledger list es .held .world .store
+  pub ledger-left : ledger′ ≡ walkEntries l store ledger list es .held .world .ledger
+  pub list-left : list′ ≡ walkEntries l store ledger list es .held .list
   pub on : r .fault ≡ 0
-      → (r .totals ≡ totalsOf (answersTo store ledger es) (length (seenAfter [] (payloads (answersTo store ledger es)))))
-      × Has t′ p′ s′ (r .sizes) (seenAfter [] (payloads (answersTo store ledger es)))
+      → (r .totals ≡ totalsOf (answersTo l store ledger es) (length (seenAfter [] (payloads (answersTo l store ledger es)))))
+      × Has t′ p′ s′ (r .sizes) (seenAfter [] (payloads (answersTo l store ledger es)))
 
 -- the report of so many entries, by their totals and the tile lines
 abbrev pub reportWith : ℕ → Totals → List Line → Report

@@ -6,6 +6,7 @@ ghost use lib.Dec.{eqb};
 ghost use lib.ListN.{getD};
 ghost use Rattle.wire.specs.Choice.{pick};
 ghost use Rattle.steps.specs.Answers.{reply};
+ghost use Rattle.log.specs.Editions.{limitsIn};
 ghost use Rattle.log.specs.Listed.{entriesIn, whole};
 ghost use Rattle.log.specs.Entries.{Entry};
 ghost use Rattle.log.specs.Told.{entrySaid};
@@ -17,6 +18,7 @@ ghost use Rattle.count.specs.Counts.{counted, Counts};
 ghost use Rattle.count.specs.Inside.{many, surveyOf, Few, oneMore, toldOf, ran, noTotals, noSizes, TakesList, TakesPayload, TakesAnswer, TakesEntry, Begins, Whole, Walks, reportWith};
 use lmcp::Found;
 use log::EntryAt;
+use log::Limits;
 use log::Step;
 use pit_marks::Sizes;
 use pit_marks::Taken;
@@ -283,10 +285,11 @@ fn one_answer(
     }
 }
 
-// One entry more: its datagram is received from its sender.
+// One entry more: its datagram is received from its sender, within the log's limits.
 fn one_entry(
     log: &[u8],
     entry: EntryAt,
+    limits: Limits,
     state: &mut [u64],
     names: &mut [u8],
     store: &mut [u8],
@@ -299,11 +302,19 @@ fn one_entry(
     sizes: Sizes,
 ) -> Ran
     requires { ⌜ Few totals ⌝ }
-    ensures { λ r. ⌜ TakesEntry (entrySaid (now (log .entry)) entry) (now (state .entry)) (now (names .entry)) (now (store .entry)) (now (ledger .entry)) (now (numbers .entry)) (now (tiles .entry)) (now (pits .entry)) (now (sure .entry)) totals sizes r
+    ensures { λ r. ⌜ TakesEntry limits (entrySaid (now (log .entry)) entry) (now (state .entry)) (now (names .entry)) (now (store .entry)) (now (ledger .entry)) (now (numbers .entry)) (now (tiles .entry)) (now (pits .entry)) (now (sure .entry)) totals sizes r
         (now (state .exit)) (now (names .exit)) (now (store .exit)) (now (ledger .exit)) (now (numbers .exit)) (now (tiles .exit)) (now (pits .exit)) (now (sure .exit)) ⌝ }
 {
     let d = wire::part(log, entry.at, entry.len);
-    let outcome = receiver::receive(state, names, &mut *store, ledger, entry.sender, d);
+    let outcome = bounded::receive_within(
+        state,
+        names,
+        &mut *store,
+        ledger,
+        limits,
+        entry.sender,
+        d,
+    );
     let answer = outcome.answer;
     let after = told(totals, answer);
     one_answer(answer, &*store, d, numbers, tiles, pits, sure, after, sizes)
@@ -344,10 +355,11 @@ fn walk(
     sure: &mut [u64],
 ) -> Ran
     requires { ⌜ Begins (now log) (now state) (now names) (now store) (now ledger) (now numbers) (now tiles) (now pits) (now sure) ⌝ }
-    ensures { λ r. ⌜ ((es : List Entry) → entriesIn (now (log .entry)) ≡ whole es → Walks (now (store .entry)) (now (ledger .entry)) (now (numbers .entry)) es r
+    ensures { λ r. ⌜ ((es : List Entry) → entriesIn (now (log .entry)) ≡ whole es → Walks (limitsIn (now (log .entry))) (now (store .entry)) (now (ledger .entry)) (now (numbers .entry)) es r
         (now (store .exit)) (now (ledger .exit)) (now (numbers .exit)) (now (tiles .exit)) (now (pits .exit)) (now (sure .exit))) ⌝ }
 {
     let mut place: usize = 0;
+    let limits = log::limits_in(log);
     let mut done = nothing();
     loop {
         let step = log::read_on(log, place);
@@ -361,6 +373,7 @@ fn walk(
                 done = one_entry(
                     log,
                     entry,
+                    limits,
                     &mut *state,
                     &mut *names,
                     &mut *store,

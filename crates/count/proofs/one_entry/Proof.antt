@@ -12,8 +12,8 @@ use Rattle.count.proofs.one_entry.Tie as tie
 part-requires : tie.Need-part-requires
 part-requires c κs = search needs
 
-receive-requires : tie.Need-receive-requires
-receive-requires c κs = search needs
+receive-within-requires : tie.Need-receive-within-requires
+receive-within-requires c κs = search needs
 
 told-requires : tie.Need-told-requires
 told-requires c κs = search needs
@@ -22,7 +22,7 @@ one-answer-requires : tie.Need-one-answer-requires
 one-answer-requires c κs =
     let k = c .before .before .before .before .before in
     let a = k .before .before .before .before .before .before .before .before .before .before .before .before .before .before .before .before .before .before .before .before .before .before .before in
-    omega (arith, ap (λ (t : Totals). t .lists) (k .told .ensures), lists-stay (a .args .totals) (k .before .before .before .before .before .before .before .before .before .receive .result .answer), a .pre .lists)
+    omega (arith, ap (λ (t : Totals). t .lists) (k .told .ensures), lists-stay (a .args .totals) (k .before .before .before .before .before .before .before .before .before .receive-within .result .answer), a .pre .lists)
 
 same-length : tie.Need-same-length
 same-length c =
@@ -56,15 +56,15 @@ returns c =
     let r = k .before .before .before .before .before .before .before .before .before in
     let d = r .before .before .before .before .before in
     let a = d .before .before .before .before .before .before .before .before .before .args in
-    entry-goes (entrySaid (a .log .now) (a .entry)) (a .state .now) (a .names .now) (a .store .now) (a .ledger .now) (a .numbers .now) (a .tiles .now) (a .pits .now) (a .sure .now) (a .totals) (a .sizes)
-    _ (d .part .ensures) (r .receive .result) _ _ _ _ (r .receive .ensures) (k .told .result) (k .told .ensures) (o .one-answer .result) _ _ _ _ (o .one-answer .ensures)
+    entry-goes (a .limits) (entrySaid (a .log .now) (a .entry)) (a .state .now) (a .names .now) (a .store .now) (a .ledger .now) (a .numbers .now) (a .tiles .now) (a .pits .now) (a .sure .now) (a .totals) (a .sizes)
+    _ (d .part .ensures) (r .receive-within .result) _ _ _ _ (r .receive-within .ensures) (k .told .result) (k .told .ensures) (o .one-answer .result) _ _ _ _ (o .one-answer .ensures)
 
 pub one-entry-spec : {M : Type 1} → statement M
 one-entry-spec =
     tie.close
     (tie.spec
     part-requires
-    receive-requires
+    receive-within-requires
     told-requires
     one-answer-requires
     same-length
