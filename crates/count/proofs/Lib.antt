@@ -1,3 +1,4 @@
+pub mod Far
 pub mod Goes
 pub mod Passing
 pub mod Takes
