@@ -12,6 +12,7 @@ use Rattle.wire.specs.Choice.{pick}
 use Rattle.wire.proofs.Choices.{pick-all}
 use Rattle.steps.specs.Answers.{Reply, refusedBy, kept, repeat, delivered}
 use Rattle.steps.specs.Runs.{World}
+use Rattle.log.specs.declared.reader.Limits.{Limits}
 use Rattle.log.specs.Entries.{Entry}
 use Rattle.tally.specs.Lists.{gather}
 use Rattle.lmcp.specs.Run.{got, refused}
@@ -59,12 +60,12 @@ lists-few (kept ∷ rs) = omega (arith, lists-few rs)
 lists-few (repeat ∷ rs) = omega (arith, lists-few rs)
 lists-few (delivered b ∷ rs) = omega (arith, lists-few rs, one-list b, length-append (listIn b) (listsRead (payloads rs)))
 
-answers-long : (w : World) (es : List Entry) → length (answers w es) ≡ length es
+answers-long : (l : Limits) (w : World) (es : List Entry) → length (answers l w es) ≡ length es
 unfolding answers
-answers-long w [] = refl
-answers-long w (e ∷ es) = ap suc (answers-long (leftBy w e) es)
+answers-long l w [] = refl
+answers-long l w (e ∷ es) = ap suc (answers-long l (leftBy l w e) es)
 
-module _ (store₀ ledger₀ : List ℕ) (list₀ : List ℤ) where
+module _ (lim : Limits) (store₀ ledger₀ : List ℕ) (list₀ : List ℤ) where
   abbrev first : Held
   first = atFirst store₀ ledger₀ list₀
 
@@ -73,41 +74,41 @@ module _ (store₀ ledger₀ : List ℕ) (list₀ : List ℤ) where
 
   -- after the entries ds: what is held, the answers, the lists seen
   abbrev pub heldBy : List Entry → Held
-  heldBy ds = heldAll first ds
+  heldBy ds = heldAll lim first ds
 
   abbrev pub answersBy : List Entry → List Reply
-  answersBy ds = answersTo store₀ ledger₀ ds
+  answersBy ds = answersTo lim store₀ ledger₀ ds
 
   abbrev pub seenBy : List Entry → List PitList
   seenBy ds = seenAfter [] (payloads (answersBy ds))
 
   -- nothing was found against the entries ds, and all is as they left it
   pub record Far (ds : List Entry) (w n store ledger : List ℕ) (list : List ℤ) (t p s : List ℕ) (r : Ran) : Type 0 where
-    pub clean : walk room [] first ds .fault ≡ 0
+    pub clean : walk lim room [] first ds .fault ≡ 0
     pub going : r .fault ≡ 0
     pub at : At (heldBy ds) (seenBy ds) (answersBy ds) w n store ledger list t p s (r .totals) (r .sizes)
 
   -- ---- one entry more
 
-  held-more : (h : Held) (ds : List Entry) (e : Entry) → heldAll h (ds ++ e ∷ []) ≡ heldAfter (heldAll h ds) e
+  held-more : (h : Held) (ds : List Entry) (e : Entry) → heldAll lim h (ds ++ e ∷ []) ≡ heldAfter lim (heldAll lim h ds) e
   held-more h [] e = refl
-  held-more h (d ∷ ds) e = held-more (heldAfter h d) ds e
+  held-more h (d ∷ ds) e = held-more (heldAfter lim h d) ds e
 
   module _ (ds : List Entry) (e : Entry) where
     abbrev x : Reply
-    x = answerTo (heldBy ds .world) e
+    x = answerTo lim (heldBy ds .world) e
 
     answers-more : answersBy (ds ++ e ∷ []) ≡ answersBy ds ++ x ∷ []
     unfolding answers
-    answers-more = answers-append first ds (e ∷ [])
+    answers-more = answers-append lim first ds (e ∷ [])
 
     seen-more : seenBy (ds ++ e ∷ []) ≡ seenAt (seenBy ds) x
     seen-more = ap (λ (rs : List Reply). seenAfter [] (payloads rs)) answers-more ∙ seen-then [] (answersBy ds) x
 
-    walk-more : (es : List Entry) → walk room [] first ds .fault ≡ 0 → walk room [] first (ds ++ e ∷ es)
-        ≡ pick (eqb (faultAt room (seenBy ds) x) 0) (walk room (seenAt (seenBy ds) x) (heldAfter (heldBy ds) e) es) (record { fault = faultAt room (seenBy ds) x; held = heldAfter (heldBy ds) e })
+    walk-more : (es : List Entry) → walk lim room [] first ds .fault ≡ 0 → walk lim room [] first (ds ++ e ∷ es)
+        ≡ pick (eqb (faultAt room (seenBy ds) x) 0) (walk lim room (seenAt (seenBy ds) x) (heldAfter lim (heldBy ds) e) es) (record { fault = faultAt room (seenBy ds) x; held = heldAfter lim (heldBy ds) e })
     unfolding walk
-    walk-more es q = walk-on room [] first ds (e ∷ es) q
+    walk-more es q = walk-on lim room [] first ds (e ∷ es) q
 
   pub far-first : (w n t p s : List ℕ) → At first [] [] w n store₀ ledger₀ list₀ t p s noTotals noSizes → (r : Ran) → r ≡ ran 0 noTotals noSizes → Far [] w n store₀ ledger₀ list₀ t p s r
   unfolding walk answers
@@ -120,16 +121,16 @@ module _ (store₀ ledger₀ : List ℕ) (list₀ : List ℤ) where
   module _ (ds : List Entry) (w n store ledger : List ℕ) (list : List ℤ) (t p s : List ℕ) (r₀ : Ran) (f : Far ds w n store ledger list t p s r₀) where
     pub far-few : length ds < 2 ^ 32 → Few (r₀ .totals)
     far-few o =
-        let a : length (answersBy ds) ≡ length ds = answers-long _ ds in
+        let a : length (answersBy ds) ≡ length ds = answers-long lim _ ds in
         let b : length (seenBy ds) ≡ length (listsRead (payloads (answersBy ds))) + 0 = seen-long [] (payloads (answersBy ds)) in
         let c : length (listsRead (payloads (answersBy ds))) ≤ length (answersBy ds) = lists-few (answersBy ds) in
         subst Few (sym (f .at .totals-are)) (few (answersBy ds) (length (seenBy ds)) (omega arith) (omega arith))
 
     -- all entries
-    pub far-all : Walks store₀ ledger₀ list₀ ds r₀ store ledger list t p s
+    pub far-all : Walks lim store₀ ledger₀ list₀ ds r₀ store ledger list t p s
     unfolding walkEntries
     far-all =
-        let e : walk room [] first ds .held ≡ heldBy ds = walk-whole room [] first ds (f .clean) in
+        let e : walk lim room [] first ds .held ≡ heldBy ds = walk-whole lim room [] first ds (f .clean) in
         record {
           found = f .going ∙ sym (f .clean);
           store-left = f .at .store-is ∙ ap (λ (h : Held). h .world .store) (sym e);
@@ -139,7 +140,7 @@ module _ (store₀ ledger₀ : List ℕ) (list₀ : List ℤ) where
         }
 
     module _ (e : Entry) (r : Ran) (w′ n′ store′ ledger′ : List ℕ) (list′ : List ℤ) (t′ p′ s′ : List ℕ) (same : length list ≡ room)
-        (W : Went (length list) (heldBy ds) (seenBy ds) (answersBy ds) e r w′ n′ store′ ledger′ list′ t′ p′ s′) where
+        (W : Went lim (length list) (heldBy ds) (seenBy ds) (answersBy ds) e r w′ n′ store′ ledger′ list′ t′ p′ s′) where
       found-is : r .fault ≡ faultAt room (seenBy ds) (x ds e)
       found-is = W .found ∙ ap (λ (k : ℕ). faultAt k (seenBy ds) (x ds e)) same
 
@@ -154,12 +155,12 @@ module _ (store₀ ledger₀ : List ℕ) (list₀ : List ℤ) where
           }
 
       -- refused
-      pub far-ends : (r .fault ≡ 0 → ⊥) → (es rest : List Entry) → es ≡ (ds ++ e ∷ []) ++ rest → Walks store₀ ledger₀ list₀ es r store′ ledger′ list′ t′ p′ s′
+      pub far-ends : (r .fault ≡ 0 → ⊥) → (es rest : List Entry) → es ≡ (ds ++ e ∷ []) ++ rest → Walks lim store₀ ledger₀ list₀ es r store′ ledger′ list′ t′ p′ s′
       unfolding walkEntries
       far-ends z es rest q =
           let o : faultAt room (seenBy ds) (x ds e) ≡ 0 → ⊥ = λ u. z (found-is ∙ u) in
-          let k : walk room [] first es ≡ record { fault = faultAt room (seenBy ds) (x ds e); held = heldAfter (heldBy ds) e } =
-          ap (walk room [] first) (q ∙ append-assoc ds (e ∷ []) rest) ∙ (walk-more ds e rest (f .clean) ∙ rw (ne-eqb _ _ o)) in
+          let k : walk lim room [] first es ≡ record { fault = faultAt room (seenBy ds) (x ds e); held = heldAfter lim (heldBy ds) e } =
+          ap (walk lim room [] first) (q ∙ append-assoc ds (e ∷ []) rest) ∙ (walk-more ds e rest (f .clean) ∙ rw (ne-eqb _ _ o)) in
           record {
             found = found-is ∙ ap (λ (v : Walked). v .fault) (sym k);
             store-left = W .store-left ∙ ap (λ (v : Walked). v .held .world .store) (sym k);

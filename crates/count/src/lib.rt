@@ -6,7 +6,6 @@ ghost use lib.Dec.{eqb};
 ghost use lib.ListN.{getD};
 ghost use Rattle.wire.specs.Choice.{pick};
 ghost use Rattle.steps.specs.Answers.{reply};
-ghost use Rattle.log.specs.Editions.{limitsIn};
 ghost use Rattle.log.specs.Listed.{entriesIn, whole};
 ghost use Rattle.log.specs.Entries.{Entry};
 ghost use Rattle.log.specs.Told.{entrySaid};
@@ -345,6 +344,7 @@ fn nothing() -> Ran
 // Entry by entry, to the end of the log or to a refusal.
 fn walk(
     log: &[u8],
+    limits: Limits,
     state: &mut [u64],
     names: &mut [u8],
     store: &mut [u8],
@@ -355,11 +355,10 @@ fn walk(
     sure: &mut [u64],
 ) -> Ran
     requires { ⌜ Begins (now log) (now state) (now names) (now store) (now ledger) (now numbers) (now tiles) (now pits) (now sure) ⌝ }
-    ensures { λ r. ⌜ ((es : List Entry) → entriesIn (now (log .entry)) ≡ whole es → Walks (limitsIn (now (log .entry))) (now (store .entry)) (now (ledger .entry)) (now (numbers .entry)) es r
+    ensures { λ r. ⌜ ((es : List Entry) → entriesIn (now (log .entry)) ≡ whole es → Walks limits (now (store .entry)) (now (ledger .entry)) (now (numbers .entry)) es r
         (now (store .exit)) (now (ledger .exit)) (now (numbers .exit)) (now (tiles .exit)) (now (pits .exit)) (now (sure .exit))) ⌝ }
 {
     let mut place: usize = 0;
-    let limits = log::limits_in(log);
     let mut done = nothing();
     loop {
         let step = log::read_on(log, place);
@@ -466,8 +465,10 @@ fn afresh(
     let mut pits = [0u64; MAX_PITS];
     let mut sure = [0u64; MAX_PITS];
     receiver::open(&mut state, &mut names, store.len());
+    let limits = log::limits_in(log);
     let done = walk(
         log,
+        limits,
         &mut state,
         &mut names,
         store,

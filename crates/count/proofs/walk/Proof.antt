@@ -6,6 +6,7 @@ use native.Mathlib.Omega.{arith}
 use lib.IntN.{ℤ}
 use lib.ListN.{length, length-append}
 use Rattle.wire.specs.Bytes.{Bytes}
+use Rattle.log.specs.declared.reader.Limits.{Limits}
 use Rattle.log.specs.Entries.{Entry}
 use Rattle.log.specs.Listed.{Listed, whole, broken}
 use Rattle.log.specs.Told.{entrySaid}
@@ -18,10 +19,10 @@ use borrow.Author.Needs.{needs}
 use Rattle.count.proofs.walk.Statement.{statement}
 use Rattle.count.proofs.walk.Tie as tie
 
-record Walking (log state₀ names₀ store₀ ledger₀ : List ℕ) (numbers₀ : List ℤ) (tiles₀ pits₀ sure₀ state names store ledger : List ℕ) (numbers : List ℤ) (tiles pits sure : List ℕ) (place : ℕ) (done : Ran) : Type 0 where
+record Walking (log : List ℕ) (lim : Limits) (state₀ names₀ store₀ ledger₀ : List ℕ) (numbers₀ : List ℤ) (tiles₀ pits₀ sure₀ state names store ledger : List ℕ) (numbers : List ℤ) (tiles pits sure : List ℕ) (place : ℕ) (done : Ran) : Type 0 where
   entries : List Entry
   passed : Passed log entries place
-  far : Far store₀ ledger₀ numbers₀ entries state names store ledger numbers tiles pits sure done
+  far : Far lim store₀ ledger₀ numbers₀ entries state names store ledger numbers tiles pits sure done
   state-long : length state ≡ length state₀
   names-long : length names ≡ length names₀
   store-long : length store ≡ length store₀
@@ -43,11 +44,11 @@ less : (len place next : ℕ) → place < next → next ≤ len → len - next <
 less len place next h g = omega arith
 
 abbrev Inv-loop : tie.InvT-loop
-Inv-loop log state₀ names₀ store₀ ledger₀ numbers₀ tiles₀ pits₀ sure₀ place₀ done₀ state names store ledger numbers tiles pits sure place done =
-    Walking log state₀ names₀ store₀ ledger₀ numbers₀ tiles₀ pits₀ sure₀ state names store ledger numbers tiles pits sure place done
+Inv-loop log lim state₀ names₀ store₀ ledger₀ numbers₀ tiles₀ pits₀ sure₀ place₀ done₀ state names store ledger numbers tiles pits sure place done =
+    Walking log lim state₀ names₀ store₀ ledger₀ numbers₀ tiles₀ pits₀ sure₀ state names store ledger numbers tiles pits sure place done
 
 abbrev μ-loop : tie.MeasureT-loop
-μ-loop log state₀ names₀ store₀ ledger₀ numbers₀ tiles₀ pits₀ sure₀ place₀ done₀ state names store ledger numbers tiles pits sure place done = length log - place
+μ-loop log lim state₀ names₀ store₀ ledger₀ numbers₀ tiles₀ pits₀ sure₀ place₀ done₀ state names store ledger numbers tiles pits sure place done = length log - place
 
 nothing-requires : tie.Need-nothing-requires Inv-loop μ-loop
 nothing-requires c κs = search needs
@@ -60,7 +61,7 @@ loop-holds c =
     record {
       entries = [];
       passed = passed-none (a .log .now) b;
-      far = far-first (a .store .now) (a .ledger .now) (a .numbers .now) (a .state .now) (a .names .now) (a .tiles .now) (a .pits .now) (a .sure .now) (p .at-first) (c .nothing .result) (c .nothing .ensures);
+      far = far-first (a .limits) (a .store .now) (a .ledger .now) (a .numbers .now) (a .state .now) (a .names .now) (a .tiles .now) (a .pits .now) (a .sure .now) (p .at-first) (c .nothing .result) (c .nothing .ensures);
       state-long = refl;
       names-long = refl;
       store-long = refl;
@@ -147,8 +148,8 @@ returns-2 c =
     λ es e.
     let w : whole (v .entries) ≡ whole es = sym (passed-all (a .log .now) b (v .entries) (l .loop .place) (v .passed) q) ∙ e in
     let u : v .entries ≡ es = cc in
-    subst (λ (x : List Entry). Walks (a .store .now) (a .ledger .now) (a .numbers .now) x (l .loop .done) (l .loop .store) (l .loop .ledger) (l .loop .numbers) (l .loop .tiles) (l .loop .pits) (l .loop .sure)) u
-    (far-all (a .store .now) (a .ledger .now) (a .numbers .now) (v .entries) _ _ _ _ _ _ _ _ _ (v .far))
+    subst (λ (x : List Entry). Walks (a .limits) (a .store .now) (a .ledger .now) (a .numbers .now) x (l .loop .done) (l .loop .store) (l .loop .ledger) (l .loop .numbers) (l .loop .tiles) (l .loop .pits) (l .loop .sure)) u
+    (far-all (a .limits) (a .store .now) (a .ledger .now) (a .numbers .now) (v .entries) _ _ _ _ _ _ _ _ _ (v .far))
 
 enum-known-step : tie.Need-enum-known-step Inv-loop μ-loop
 enum-known-step c = search needs
@@ -161,7 +162,7 @@ one-entry-requires c κs =
     let p = s .before .before .before .before .before .before .before .before .before .pre in
     let v = l .loop .inv in
     let z = to-come (a .log .now) (v .entries) (l .loop .place) (v .passed) (p .log-whole .entries) (p .log-whole .is) in
-    far-few (a .store .now) (a .ledger .now) (a .numbers .now) (v .entries) _ _ _ _ _ _ _ _ _ (v .far)
+    far-few (a .limits) (a .store .now) (a .ledger .now) (a .numbers .now) (v .entries) _ _ _ _ _ _ _ _ _ (v .far)
     (so-few (v .entries) (z .rest) (p .log-whole .entries) (z .joined) (p .size) (p .log-whole .size) (p .log-whole .few))
 
 same-length-17 : tie.Need-same-length-17 Inv-loop μ-loop
@@ -205,12 +206,12 @@ returns-3 c =
     let g = c .before .before .before .before .before .before .before .before .before .before .before .before .before .before .before .before .before .before .before .before .before .before .before .before .before .before .before .before .before .step .given in
     let q = sym (c .before .before .before .before .before .before .before .before .before .before .before .before .before .before .before .before .before .before .before .before .before .before .before .before .before .before .before .before .before .before .before .read-on .ensures) ∙ g .1 in
     let o = c .before .before .before .before .before .before .before .before .before .before .before .before .before .before .before .before .before in
-    let W = o .one-entry .ensures (heldBy (a .store .now) (a .ledger .now) (a .numbers .now) (v .entries)) (seenBy (a .store .now) (a .ledger .now) (a .numbers .now) (v .entries)) (answersBy (a .store .now) (a .ledger .now) (a .numbers .now) (v .entries)) (v .far .at) in
+    let W = o .one-entry .ensures (heldBy (a .limits) (a .store .now) (a .ledger .now) (a .numbers .now) (v .entries)) (seenBy (a .limits) (a .store .now) (a .ledger .now) (a .numbers .now) (v .entries)) (answersBy (a .limits) (a .store .now) (a .ledger .now) (a .numbers .now) (v .entries)) (v .far .at) in
     let e = entrySaid (a .log .now) (g .0 .0) in
     let P = passed-more (a .log .now) b (v .entries) (l .loop .place) (v .passed) (g .0 .0) q in
     λ es i.
     let z = to-come (a .log .now) (v .entries ++ e ∷ []) (g .0 .0 .next) P es i in
-    far-ends (a .store .now) (a .ledger .now) (a .numbers .now) (v .entries) _ _ _ _ _ _ _ _ _ (v .far) e (o .one-entry .result) _ _ _ _ _ _ _ _ (v .numbers-long) W (c .if1 .taken) es (z .rest) (z .joined)
+    far-ends (a .limits) (a .store .now) (a .ledger .now) (a .numbers .now) (v .entries) _ _ _ _ _ _ _ _ _ (v .far) e (o .one-entry .result) _ _ _ _ _ _ _ _ (v .numbers-long) W (c .if1 .taken) es (z .rest) (z .joined)
 
 loop-less : tie.Need-loop-less Inv-loop μ-loop
 loop-less c =
@@ -234,13 +235,13 @@ loop-again c =
     let g = c .before .before .before .before .before .before .before .before .before .before .before .before .before .before .before .before .before .before .before .before .before .before .before .before .before .before .before .before .before .step .given in
     let q = sym (c .before .before .before .before .before .before .before .before .before .before .before .before .before .before .before .before .before .before .before .before .before .before .before .before .before .before .before .before .before .before .before .read-on .ensures) ∙ g .1 in
     let o = c .before .before .before .before .before .before .before .before .before .before .before .before .before .before .before .before .before in
-    let W = o .one-entry .ensures (heldBy (a .store .now) (a .ledger .now) (a .numbers .now) (v .entries)) (seenBy (a .store .now) (a .ledger .now) (a .numbers .now) (v .entries)) (answersBy (a .store .now) (a .ledger .now) (a .numbers .now) (v .entries)) (v .far .at) in
+    let W = o .one-entry .ensures (heldBy (a .limits) (a .store .now) (a .ledger .now) (a .numbers .now) (v .entries)) (seenBy (a .limits) (a .store .now) (a .ledger .now) (a .numbers .now) (v .entries)) (answersBy (a .limits) (a .store .now) (a .ledger .now) (a .numbers .now) (v .entries)) (v .far .at) in
     let e = entrySaid (a .log .now) (g .0 .0) in
     let P = passed-more (a .log .now) b (v .entries) (l .loop .place) (v .passed) (g .0 .0) q in
     record {
       entries = v .entries ++ e ∷ [];
       passed = P;
-      far = far-more (a .store .now) (a .ledger .now) (a .numbers .now) (v .entries) _ _ _ _ _ _ _ _ _ (v .far) e (o .one-entry .result) _ _ _ _ _ _ _ _ (v .numbers-long) W (c .if1 .left);
+      far = far-more (a .limits) (a .store .now) (a .ledger .now) (a .numbers .now) (v .entries) _ _ _ _ _ _ _ _ _ (v .far) e (o .one-entry .result) _ _ _ _ _ _ _ _ (v .numbers-long) W (c .if1 .left);
       state-long = c .before .before .before .before .before .before .before .before .before .before .before .before .before .before .before .before .state .given ∙ v .state-long;
       names-long = c .before .before .before .before .before .before .before .before .before .before .before .before .before .before .names .given ∙ v .names-long;
       store-long = c .before .before .before .before .before .before .before .before .before .before .before .before .store .given ∙ v .store-long;
