@@ -1,4 +1,5 @@
 pub mod Far
+pub mod Gives
 pub mod Goes
 pub mod Passing
 pub mod Takes
