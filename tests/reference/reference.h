@@ -61,6 +61,18 @@ u32 ref_cut(const u8 *name, u64 c, const u8 *payload, u64 p, u32 sequence, u64 m
 u32 ref_log_begin(u8 *out, u64 room, u64 limit, u64 *written);
 u32 ref_log_append(u8 *out, u64 room, u64 at, u64 sender, u64 tick, const u8 *d, u64 length, u64 *written);
 
+/* ---- the index of a log: 0, and its rows sorted, or the refusal */
+
+enum { INDEXED = 4096 };
+
+struct ref_row {
+    u64 sender;
+    u32 sequence;
+    u64 place;   /* of the entry's first byte in the log */
+};
+
+u32 ref_index(const u8 *log, u64 length, struct ref_row *rows, u64 *count);
+
 /* ---- the receiver */
 
 enum { SLOTS = 8, SENDERS_KNOWN = 16, KEYS_EACH = 32, LEDGER = SLOTS * MAX_FRAGMENTS * 2 };

@@ -1,0 +1,82 @@
+-- The loop: the digits so far and those to come are the number. Assumes nothing.
+use mathlib.Core.Path.{_≡_, sym, ap, _∙_}
+use Prim.Native.Nat.{_-_, _≤_}
+use native.Mathlib.Omega.{arith}
+use lib.ListN.{length, drop}
+use Rattle.find.specs.Numbers.{digitsFrom, numberIn, says}
+use Rattle.find.proofs.Digits.{no-digits, some-digits, digits-next, digits-none, digits-end}
+use borrow.Author.Needs.{needs}
+use Rattle.find.proofs.number_in.Statement.{statement}
+use Rattle.find.proofs.number_in.Tie as tie
+
+abbrev Inv-loop : tie.InvT-loop
+Inv-loop text most v₀ i₀ v i = (i ≤ length text) × (digitsFrom most v (drop i text) ≡ numberIn most text)
+
+abbrev μ-loop : tie.MeasureT-loop
+μ-loop text most v₀ i₀ v i = length text - i
+
+returns : tie.Need-returns Inv-loop μ-loop
+returns c =
+    let a = c .before .before .args in
+    no-digits (a .most) (a .text .now) (c .if1 .taken)
+
+loop-holds : tie.Need-loop-holds Inv-loop μ-loop
+loop-holds c =
+    let a = c .before .before .args in
+    (omega arith, some-digits (a .most) (a .text .now) (c .if1 .left))
+
+shared-slice-read-with-digit : tie.Need-shared-slice-read-with-digit Inv-loop μ-loop
+shared-slice-read-with-digit c = search needs
+
+with-digit-requires : tie.Need-with-digit-requires Inv-loop μ-loop
+with-digit-requires c κs = search needs
+
+enum-known-next : tie.Need-enum-known-next Inv-loop μ-loop
+enum-known-next c = search needs
+
+enum-told : tie.Need-enum-told Inv-loop μ-loop
+enum-told c = search needs
+
+returns-2 : tie.Need-returns-2 Inv-loop μ-loop
+returns-2 c =
+    let a = c .before .before .before .before .before .before .before .before .args in
+    let l = c .before .before .before .before .before .loop in
+    let e = sym (ap says (c .enum-told .given .1)) ∙ c .before .before .with-digit .ensures in
+    digits-none (a .most) (l .v) (a .text .now) (l .i) (c .before .before .before .before .loop-test .taken) e ∙ l .inv .1
+
+add-i : tie.Need-add-i Inv-loop μ-loop
+add-i c = search needs
+
+loop-less : tie.Need-loop-less Inv-loop μ-loop
+loop-less c = search needs
+
+loop-again : tie.Need-loop-again Inv-loop μ-loop
+loop-again c =
+    let a = c .before .before .before .before .before .before .before .before .before .args in
+    let l = c .before .before .before .before .before .before .loop in
+    let e = sym (ap says (c .before .next .given .1)) ∙ c .before .before .before .with-digit .ensures in
+    (omega arith, digits-next (a .most) (l .v) (a .text .now) (l .i) (c .before .before .before .before .before .loop-test .taken) _ e ∙ l .inv .1)
+
+returns-3 : tie.Need-returns-3 Inv-loop μ-loop
+returns-3 c =
+    let a = c .before .before .before .before .args in
+    let l = c .before .loop in
+    digits-end (a .most) (l .v) (a .text .now) (l .i) (c .loop-test .left) ∙ l .inv .1
+
+pub number-in-spec : {M : Type 1} → statement M
+number-in-spec =
+    tie.close
+    (tie.spec
+    Inv-loop
+    μ-loop
+    returns
+    loop-holds
+    shared-slice-read-with-digit
+    with-digit-requires
+    enum-known-next
+    enum-told
+    returns-2
+    add-i
+    loop-less
+    loop-again
+    returns-3)

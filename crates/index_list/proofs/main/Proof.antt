@@ -1,0 +1,28 @@
+-- Nothing is asked of the buffers but their lengths, which are those written. Assumes nothing.
+use mathlib.Core.Path.{_≡_, sym}
+use Prim.Native.Nat.{ℕ}
+use lib.ListN.{length, replicate, length-replicate}
+use Rattle.index_list.proofs.main.Statement.{statement}
+use Rattle.index_list.proofs.main.Tie as tie
+
+-- over any length, so that no list of that many zeros is written out
+zeros : (n : ℕ) → n ≡ length {A = ℕ} (replicate n 0)
+zeros n = sym (length-replicate {A = ℕ} n 0)
+
+slice-aggregate-run : tie.Need-slice-aggregate-run
+slice-aggregate-run c = zeros _
+
+slice-aggregate-run-2 : tie.Need-slice-aggregate-run-2
+slice-aggregate-run-2 c = zeros _
+
+slice-aggregate-run-3 : tie.Need-slice-aggregate-run-3
+slice-aggregate-run-3 c = zeros _
+
+run-requires : tie.Need-run-requires
+run-requires c κs = tt
+
+returns : tie.Need-returns
+returns c = tt
+
+pub main-spec : {M : Type 1} → statement M
+main-spec = tie.close (tie.spec slice-aggregate-run slice-aggregate-run-2 slice-aggregate-run-3 run-requires returns)

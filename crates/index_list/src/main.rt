@@ -1,0 +1,67 @@
+// The index of a log. Standard input is a log; a line tells each row in order, and the last line how many there are, or the refusal alone.
+ghost use Prim.Native.Nat.{_*_, _+_, _≤_};
+ghost use lib.ListN.{length};
+ghost use Rattle.output.specs.Output.{Pours};
+ghost use Rattle.log_index.specs.Words.{rowAt};
+ghost use Rattle.index_lines.specs.Lines.{rowLine};
+use indexing::Indexed;
+use stream::All;
+
+// The line of row i.
+fn pour_one(out: &mut [u8], at: usize, index: &[u64], i: usize) -> usize
+    requires { ⌜ 3 * i + 3 ≤ length (now index) ⌝ }
+    ensures { λ r. ⌜ Pours (now (out .entry)) at (rowLine (rowAt (now (index .entry)) i)) (now (out .exit)) r ⌝ }
+{
+    let k = 3 * i;
+    index_lines::pour_row(out, at, index[k], index[k + 1], index[k + 2])
+}
+
+// The last line, and all that is not written out yet.
+fn finish(out: &mut [u8], at: usize, n: u64) {
+    let end = output::pour_counted_line(out, at, b"end ", n);
+    output::write_out(out, end);
+}
+
+// One line a row, and the last line.
+fn listed(index: &[u64], n: usize, out: &mut [u8])
+    requires { ⌜ 3 * n ≤ length (now index) ⌝ }
+{
+    let mut at: usize = 0;
+    let mut i: usize = 0;
+    while i < n {
+        at = pour_one(out, at, index, i);
+        i += 1;
+    }
+    finish(out, at, n as u64);
+}
+
+// Indexes a log, or says why not.
+fn indexed(log: &[u8], index: &mut [u64], out: &mut [u8]) {
+    let answer = indexing::index_log(log, &mut *index);
+    match answer {
+        Indexed::Entries(n) => listed(index, n, out),
+        Indexed::Refused(number) => {
+            let end = index_lines::pour_refused(out, 0, number);
+            output::write_out(out, end);
+        }
+    }
+}
+
+// Indexes the whole input, or says that it is longer than the buffer.
+fn run(buf: &mut [u8], index: &mut [u64], out: &mut [u8]) {
+    let all = stream::read_all(buf);
+    match all {
+        All::Whole(n) => indexed(wire::part(buf, 0, n), index, out),
+        All::Longer => {
+            let end = log_lines::pour_longer(out, 0, buf.len() as u64);
+            output::write_out(out, end);
+        }
+    }
+}
+
+fn main() {
+    let mut buf = [0u8; log_lines::HOLDS];
+    let mut index = [0u64; index_lines::WORDS];
+    let mut out = [0u8; 65536];
+    run(&mut buf, &mut index, &mut out);
+}

@@ -1,0 +1,48 @@
+-- The rows behind the head, or its refusal. Assumes nothing.
+use mathlib.Core.Path.{refl, sym, _∙_}
+use Rattle.log_index.specs.Index.{rowsIn}
+use Rattle.indexing.proofs.Answers.{head-rows, head-stops, indexes, stops}
+use borrow.Author.Needs.{needs}
+use Rattle.indexing.proofs.index_log.Statement.{statement}
+use Rattle.indexing.proofs.index_log.Tie as tie
+
+-- The rows behind the head, or its refusal. Assumes nothing.
+
+first-entry-requires : tie.Need-first-entry-requires
+first-entry-requires c κs = search needs
+
+enum-known-first : tie.Need-enum-known-first
+enum-known-first c = search needs
+
+add-requires : tie.Need-add-requires
+add-requires c κs = search needs
+
+enum-known-first-2 : tie.Need-enum-known-first-2
+enum-known-first-2 c = search needs
+
+same-length : tie.Need-same-length
+same-length c = search needs
+
+returns : tie.Need-returns
+returns c =
+    let a = c .before .before .before .before .before .before .before .before .before .before .args in
+    let f = c .before .before .before .before .before in
+    indexes (a .log .now) (a .index .now) _ _ _ (head-rows (a .log .now) _ _ (sym (f .before .before .first-entry .ensures) ∙ f .first .given .1)) (c .before .before .add .ensures)
+
+returns-2 : tie.Need-returns-2
+returns-2 c =
+    let a = c .before .before .before .before .before .before .args in
+    let e = head-stops (a .log .now) _ (sym (c .before .before .before .first-entry .ensures) ∙ c .before .first2 .given .1) in
+    indexes (a .log .now) (a .index .now) _ _ _ refl (stops (rowsIn (a .log .now)) (a .index .now) 0 _ e)
+
+pub index-log-spec : {M : Type 1} → statement M
+index-log-spec =
+    tie.close
+    (tie.spec
+    first-entry-requires
+    enum-known-first
+    add-requires
+    enum-known-first-2
+    same-length
+    returns
+    returns-2)

@@ -1,0 +1,36 @@
+-- A row goes in where there are words for it. Assumes nothing.
+use mathlib.Core.Path.{_≡_, refl, ap, sym, _∙_}
+use Prim.Native.Nat.{ℕ}
+use native.Mathlib.Omega.{arith}
+use borrow.Author.Tests.{lt-ltb, le-ltb}
+use Rattle.log_index.specs.Rows.{rowOf}
+use Rattle.log_index.specs.Words.{inserted, entered}
+use borrow.Author.Needs.{needs}
+use Rattle.log_index.proofs.enter.Statement.{statement}
+use Rattle.log_index.proofs.enter.Tie as tie
+
+-- A row goes in where there are words for it. Assumes nothing.
+
+rank-requires : tie.Need-rank-requires
+rank-requires c κs = search needs
+
+insert-requires : tie.Need-insert-requires
+insert-requires c κs = search needs
+
+same-length : tie.Need-same-length
+same-length c = search needs
+
+returns : tie.Need-returns
+unfolding entered
+returns c =
+    let a = c .before .before .before .before .before .before .before .before .args in
+    rw (lt-ltb _ _ (c .before .before .before .before .before .before .if1 .taken))
+    (c .before .before .insert .ensures ∙ ap (λ (k : ℕ). inserted (a .index .now) k (a .n) (rowOf (a .sender) (a .sequence) (a .place))) (c .before .before .before .before .rank .ensures .0))
+
+returns-2 : tie.Need-returns-2
+unfolding entered
+returns-2 c =
+    rw (le-ltb _ _ (c .if1 .left)) refl
+
+pub enter-spec : {M : Type 1} → statement M
+enter-spec = tie.close (tie.spec rank-requires insert-requires same-length returns returns-2)

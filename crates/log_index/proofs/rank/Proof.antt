@@ -1,0 +1,81 @@
+-- The loop: between low and high the row has the place that it has among all. Assumes nothing.
+use mathlib.Core.Path.{_≡_, refl, sym, _∙_}
+use Prim.Native.Nat.{ℕ, _-_, _*_, _≤_}
+use native.Mathlib.Omega.{arith}
+use lib.ListN.{length}
+use Rattle.log_index.specs.Rows.{rowOf, earlier}
+use Rattle.log_index.specs.Words.{rowAt, halve, rankIn}
+use Rattle.log_index.proofs.Halves.{starts, goes-behind, goes-before, ends}
+use borrow.Author.Needs.{needs}
+use Rattle.log_index.proofs.rank.Statement.{statement}
+use Rattle.log_index.proofs.rank.Tie as tie
+
+-- The loop: between low and high the row has the place that it has among all. Assumes nothing.
+
+-- The loop: between low and high the row has the place that it has among all. Assumes nothing.
+
+abbrev Inv-loop : tie.InvT-loop
+Inv-loop index n sender sequence place low₀ high₀ low high =
+    (low ≤ high)
+    × ((high ≤ n)
+    × (halve (high - low) (λ (k : ℕ). earlier (rowAt index k) (rowOf sender sequence place)) low high ≡ rankIn index n (rowOf sender sequence place)))
+
+abbrev μ-loop : tie.MeasureT-loop
+μ-loop index n sender sequence place low₀ high₀ low high = high - low
+
+loop-holds : tie.Need-loop-holds Inv-loop μ-loop
+unfolding rankIn
+loop-holds c =
+    (omega arith, (omega arith, starts _ (c .before .args .n)))
+
+sub-mid : tie.Need-sub-mid Inv-loop μ-loop
+sub-mid c = search needs
+
+add-mid : tie.Need-add-mid Inv-loop μ-loop
+add-mid c = search needs
+
+is-before-requires : tie.Need-is-before-requires Inv-loop μ-loop
+is-before-requires c κs = omega (arith, c .before .before .before .pre)
+
+add-low : tie.Need-add-low Inv-loop μ-loop
+add-low c = search needs
+
+loop-less : tie.Need-loop-less Inv-loop μ-loop
+loop-less c = search needs
+
+loop-again : tie.Need-loop-again Inv-loop μ-loop
+loop-again c =
+    let l = c .before .before .before .loop in
+    let e = sym (c .before .is-before .ensures) ∙ c .if1 .taken in
+    (omega arith, (omega arith, goes-behind _ (l .low) (l .high) (omega arith) e ∙ l .inv .1 .1))
+
+loop-less-2 : tie.Need-loop-less-2 Inv-loop μ-loop
+loop-less-2 c = search needs
+
+loop-again-2 : tie.Need-loop-again-2 Inv-loop μ-loop
+loop-again-2 c =
+    let l = c .before .before .before .loop in
+    let e = sym (c .before .is-before .ensures) ∙ c .if1 .left in
+    (omega arith, (omega arith, goes-before _ (l .low) (l .high) (omega arith) e ∙ l .inv .1 .1))
+
+returns : tie.Need-returns Inv-loop μ-loop
+returns c =
+    let l = c .before .loop in
+    (sym (ends _ (l .low) (l .high) (omega arith)) ∙ l .inv .1 .1, omega arith)
+
+pub rank-spec : {M : Type 1} → statement M
+rank-spec =
+    tie.close
+    (tie.spec
+    Inv-loop
+    μ-loop
+    loop-holds
+    sub-mid
+    add-mid
+    is-before-requires
+    add-low
+    loop-less
+    loop-again
+    loop-less-2
+    loop-again-2
+    returns)

@@ -1,0 +1,4 @@
+pub mod Limits
+pub mod Rows
+pub mod Index
+pub mod Words

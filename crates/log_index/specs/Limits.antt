@@ -1,0 +1,10 @@
+-- The numbers of an index: document 02, L11. Definitions only.
+use Prim.Native.Nat.{ℕ}
+
+-- "At most 4,096 entries"
+abbrev pub maxIndex : ℕ
+maxIndex = 4_096
+
+-- index full
+abbrev pub full : ℕ
+full = 44

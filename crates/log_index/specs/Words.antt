@@ -1,0 +1,71 @@
+-- An index in lent words, three a row. For words that are no index this says what comes of them all the same. Definitions only.
+use mathlib.Core.Bool.{Bool, _&&_}
+use mathlib.Core.Option.{Option, none, some}
+use mathlib.Core.List.{List, [], _∷_, _++_}
+use Prim.Native.Nat.{ℕ, zero, suc, _+_, _-_, _*_, _/_, min}
+use lib.Dec.{ltb}
+use lib.ListN.{length, getD, take, drop}
+use Rattle.wire.specs.Choice.{pick}
+use Rattle.wire.specs.Overlay.{overlay}
+use Rattle.log_index.specs.Rows.{Row, rowOf, earlier, isOf}
+use Rattle.log_index.specs.declared.Found.{Found}
+use Rattle.log_index.specs.declared.Found.the-variants.{At, Nowhere}
+
+unfoldable pub wordsOf : List Row → List ℕ
+wordsOf [] = []
+wordsOf (r ∷ rs) = r .sender ∷ r .sequence ∷ r .place ∷ wordsOf rs
+
+abbrev pub rowAt : List ℕ → ℕ → Row
+rowAt w i = rowOf (getD w (3 * i) 0) (getD w (3 * i + 1) 0) (getD w (3 * i + 2) 0)
+
+-- ---- by halving
+
+abbrev pub middle : ℕ → ℕ → ℕ
+middle low high = low + (high - low) / 2
+
+-- between low and high, the half where a test changes from true to false is looked at next
+unfoldable pub halve : ℕ → (ℕ → Bool) → ℕ → ℕ → ℕ
+halve zero p low high = low
+halve (suc k) p low high =
+    pick (ltb low high)
+    (halve k p (pick (p (middle low high)) (middle low high + 1) low) (pick (p (middle low high)) high (middle low high)))
+    low
+
+-- the place of a row among the first n; as many turns as there are rows are enough
+unfoldable pub rankIn : List ℕ → ℕ → Row → ℕ
+rankIn w n r = halve n (λ i. earlier (rowAt w i) r) 0 n
+
+-- ---- a row goes in: those behind its place move up by one
+
+-- the words from a place up to another, three further up
+abbrev pub movedUp : List ℕ → ℕ → ℕ → List ℕ
+movedUp w from to = overlay w (from + 3) (take (to - from) (drop from w))
+
+unfoldable pub inserted : List ℕ → ℕ → ℕ → Row → List ℕ
+inserted w at n r = overlay w (3 * at) (r .sender ∷ r .sequence ∷ r .place ∷ take (3 * n - 3 * at) (drop (3 * at) w))
+
+-- where there are words for it
+unfoldable pub entered : List ℕ → ℕ → Row → List ℕ
+entered w n r = pick (ltb n (length w / 3)) (inserted w (rankIn w n r) n r) w
+
+-- one row after another
+unfoldable pub enteredAll : List ℕ → ℕ → List Row → List ℕ
+enteredAll w n [] = w
+enteredAll w n (r ∷ rs) = enteredAll (entered w n r) (n + 1) rs
+
+-- ---- a key is found: the first row that is not before it is one of its own, or there is none
+
+-- no more rows than there are words for
+abbrev pub held : List ℕ → ℕ → ℕ
+held w n = min n (length w / 3)
+
+abbrev pub atRank : List ℕ → ℕ → ℕ → ℕ → ℕ → Option ℕ
+atRank w n s q i = pick (ltb i n && isOf s q (rowAt w i)) (some (rowAt w i .place)) none
+
+unfoldable pub foundIn : List ℕ → ℕ → ℕ → ℕ → Option ℕ
+foundIn w n s q = atRank w (held w n) s q (rankIn w (held w n) (rowOf s q 0))
+
+-- the code's answer, in the paper's values
+abbrev pub says : Found → Option ℕ
+says (At place) = some place
+says Nowhere = none

@@ -1,0 +1,117 @@
+// An index of a log in lent words: three a row, its sender, its sequence and its place in the log, sorted in that order. A row's place among the
+// others, and a key, are found by halving.
+ghost use mathlib.Core.Path.{_≡_};
+ghost use mathlib.Core.Bool.{_&&_};
+ghost use Prim.Native.Nat.{_+_, _*_, _/_, _≤_, _<_};
+ghost use lib.Dec.{ltb};
+ghost use lib.ListN.{length};
+ghost use Rattle.log_index.specs.Limits.{maxIndex};
+ghost use Rattle.log_index.specs.Rows.{rowOf, earlier, isOf};
+ghost use Rattle.log_index.specs.Words.{rowAt, rankIn, movedUp, inserted, entered, held, foundIn, says};
+
+// The most rows of an index.
+pub const MAX_INDEX: usize = 4096;
+
+// Index full.
+pub const FULL: u32 = 44;
+
+// Where the first entry of a key begins in the log.
+pub enum Found {
+    At(u64),
+    Nowhere,
+}
+
+// Row i comes before a row of these numbers.
+fn is_before(index: &[u64], i: usize, sender: u64, sequence: u64, place: u64) -> bool
+    requires { ⌜ 3 * i + 3 ≤ length (now index) ⌝ }
+    ensures { λ r. ⌜ r ≡ earlier (rowAt (now (index .entry)) i) (rowOf sender sequence place) ⌝ }
+{
+    let at = 3 * i;
+    let s = index[at];
+    if s != sender {
+        return s < sender;
+    }
+    let q = index[at + 1];
+    if q != sequence {
+        return q < sequence;
+    }
+    index[at + 2] < place
+}
+
+// The place of a row of these numbers among the first n rows: how many come before it, where they are sorted.
+fn rank(index: &[u64], n: usize, sender: u64, sequence: u64, place: u64) -> usize
+    requires { ⌜ 3 * n ≤ length (now index) ⌝ }
+    ensures { λ r. ⌜ (r ≡ rankIn (now (index .entry)) n (rowOf sender sequence place)) × (r ≤ n) ⌝ }
+{
+    let mut low: usize = 0;
+    let mut high = n;
+    while low < high {
+        let mid = low + (high - low) / 2;
+        if is_before(index, mid, sender, sequence, place) {
+            low = mid + 1;
+        } else {
+            high = mid;
+        }
+    }
+    low
+}
+
+// The words from a place up to the end of the n rows move up by a row's three.
+fn move_up(index: &mut [u64], from: usize, to: usize)
+    requires { ⌜ (from ≤ to) × (to + 3 ≤ length (now index)) ⌝ }
+    ensures { λ _. ⌜ now (index .exit) ≡ movedUp (now (index .entry)) from to ⌝ }
+{
+    let mut i = to;
+    while from < i {
+        index[i + 2] = index[i - 1];
+        i -= 1;
+    }
+}
+
+// A row goes to its place among the first n.
+fn insert(index: &mut [u64], at: usize, n: usize, sender: u64, sequence: u64, place: u64)
+    requires { ⌜ (at ≤ n) × (3 * n + 3 ≤ length (now index)) ⌝ }
+    ensures { λ _. ⌜ now (index .exit) ≡ inserted (now (index .entry)) at n (rowOf sender sequence place) ⌝ }
+{
+    let from = 3 * at;
+    move_up(&mut *index, from, 3 * n);
+    index[from + 2] = place;
+    index[from + 1] = sequence;
+    index[from] = sender;
+}
+
+// A row enters an index of n rows, where there are words for it.
+pub fn enter(index: &mut [u64], n: usize, sender: u64, sequence: u64, place: u64)
+    ensures { λ _. ⌜ now (index .exit) ≡ entered (now (index .entry)) n (rowOf sender sequence place) ⌝ }
+{
+    if n < index.len() / 3 {
+        let at = rank(&*index, n, sender, sequence, place);
+        insert(index, at, n, sender, sequence, place);
+    }
+}
+
+// Row i, of those before n, has a key.
+fn is_of(index: &[u64], n: usize, i: usize, sender: u64, sequence: u64) -> bool
+    requires { ⌜ 3 * n ≤ length (now index) ⌝ }
+    ensures { λ r. ⌜ r ≡ (ltb i n && isOf sender sequence (rowAt (now (index .entry)) i)) ⌝ }
+{
+    if n <= i {
+        return false;
+    }
+    if index[3 * i] != sender {
+        return false;
+    }
+    index[3 * i + 1] == sequence
+}
+
+// Where the first entry of a key begins in the log, by an index of n rows.
+pub fn find(index: &[u64], n: usize, sender: u64, sequence: u64) -> Found
+    ensures { λ r. ⌜ says r ≡ foundIn (now (index .entry)) n sender sequence ⌝ }
+{
+    let m = wire::least(n, index.len() / 3);
+    let i = rank(index, m, sender, sequence, 0);
+    if is_of(index, m, i, sender, sequence) {
+        return Found::At(index[3 * i + 2]);
+    }
+    Found::Nowhere
+}
