@@ -76,11 +76,11 @@ module _ (entries : ℕ) (totals : Totals) (sizes : Sizes) (t p s : List ℕ) (s
   unfolding report
   given-is =
       let x : a ≡ columnOf (λ (l : Line). l .tile) (report seen) =
-          column (λ n. n) (λ (l : Line). l .tile) (λ n. refl) a (L .numbers ∙ ap (overlay (zeros maxTiles) 0) (tiles-told t p s sizes seen h ∙ sym (map-same (tiles seen)))) in
+      column (λ n. n) (λ (l : Line). l .tile) (λ n. refl) a (L .numbers ∙ ap (overlay (zeros maxTiles) 0) (tiles-told t p s sizes seen h ∙ sym (map-same (tiles seen)))) in
       let y : b ≡ columnOf (λ (l : Line). l .pits) (report seen) =
-          column (λ n. length (pits seen n)) (λ (l : Line). l .pits) (λ n. refl) b (L .pits-of ∙ ap (overlay (zeros maxTiles) 0) (pits-told t p s sizes seen h)) in
+      column (λ n. length (pits seen n)) (λ (l : Line). l .pits) (λ n. refl) b (L .pits-of ∙ ap (overlay (zeros maxTiles) 0) (pits-told t p s sizes seen h)) in
       let z : c ≡ columnOf (λ (l : Line). l .sure) (report seen) =
-          column (λ n. length (surePits seen n)) (λ (l : Line). l .sure) (λ n. refl) c (L .sure-of ∙ ap (overlay (zeros maxTiles) 0) (sure-told t p s sizes seen h)) in
+      column (λ n. length (surePits seen n)) (λ (l : Line). l .sure) (λ n. refl) c (L .sure-of ∙ ap (overlay (zeros maxTiles) 0) (sure-told t p s sizes seen h)) in
       let n : sizes .tiles ≡ length (report seen) = sym many ∙ sym (length-map (tiles seen) (line seen)) in
       λ i. record {
         answer = Given;

@@ -1,3 +1,4 @@
+pub mod Ends
 pub mod Far
 pub mod Gives
 pub mod Goes
