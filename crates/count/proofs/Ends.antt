@@ -16,6 +16,8 @@ use Rattle.receiver_state.specs.View.{stateWords, nameBytes, view, shaped}
 use Rattle.receiver_state.specs.Inside.{Shaped}
 use Rattle.receiver.specs.declared.Call.{Call}
 use Rattle.receiver.specs.Calls.{Opens}
+use Rattle.log.specs.declared.reader.Limits.{Limits}
+use Rattle.log.specs.Editions.{limitsIn}
 use Rattle.log.specs.Entries.{Entry}
 use Rattle.log.specs.Listed.{Listed, whole, broken, entriesIn}
 use Rattle.counting.specs.Marks.{PitList}
@@ -40,15 +42,15 @@ use Rattle.count.specs.Inside.{many, surveyOf, totalsOf, At, Whole, Begi
 
 module _ (log store ledger : List ℕ) (list : List ℤ) where
   -- the count of a log that is listed so
-  by-listed : (X : Listed) → entriesIn log ≡ X → (n : ℕ) → countListed (length list) store ledger X ≡ noReport n → leftAfter store ledger list X ≡ atFirst store ledger list
+  by-listed : (X : Listed) → entriesIn log ≡ X → (n : ℕ) → countListed (limitsIn log) (length list) store ledger X ≡ noReport n → leftAfter (limitsIn log) store ledger list X ≡ atFirst store ledger list
       → (c : Counted) → c ≡ counted (noReport n) → Counts log store ledger list c store ledger list
   unfolding countLog heldBy
   by-listed X e n q h c g =
-      let k : heldBy store ledger list log ≡ atFirst store ledger list = ap (leftAfter store ledger list) e ∙ h in
+      let k : heldBy store ledger list log ≡ atFirst store ledger list = ap (leftAfter (limitsIn log) store ledger list) e ∙ h in
       record {
         outcome = noReport n;
         says = record {
-          gave = sym (ap (countListed (length list) store ledger) e ∙ q);
+          gave = sym (ap (countListed (limitsIn log) (length list) store ledger) e ∙ q);
           store-left = ap (λ (x : Held). x .world .store) (sym k);
           ledger-left = ap (λ (x : Held). x .world .ledger) (sym k);
           list-left = ap (λ (x : Held). x .list) (sym k);
@@ -109,30 +111,30 @@ begins log store ledger list n W w names call w′ names′ O lw ln t p s lt lp 
 
 -- ---- after the walk
 
-module _ (log store ledger : List ℕ) (list : List ℤ) (n : ℕ) (W : Whole log n) (r : Ran) (store′ ledger′ : List ℕ) (list′ : List ℤ) (t p s : List ℕ)
-    (w : (es : List Entry) → entriesIn log ≡ whole es → Walks store ledger list es r store′ ledger′ list′ t p s) where
+module _ (log store ledger : List ℕ) (list : List ℤ) (n : ℕ) (W : Whole log n) (l : Limits) (own : l ≡ limitsIn log) (r : Ran) (store′ ledger′ : List ℕ) (list′ : List ℤ) (t p s : List ℕ)
+    (w : (es : List Entry) → entriesIn log ≡ whole es → Walks l store ledger list es r store′ ledger′ list′ t p s) where
   abbrev es : List Entry
   es = W .entries
 
   abbrev rs : List Reply
-  rs = answersTo store ledger es
+  rs = answersTo (limitsIn log) store ledger es
 
-  walks : Walks store ledger list es r store′ ledger′ list′ t p s
-  walks = w es (W .is)
+  walks : Walks (limitsIn log) store ledger list es r store′ ledger′ list′ t p s
+  walks = subst (λ (x : Limits). Walks x store ledger list es r store′ ledger′ list′ t p s) own (w es (W .is))
 
   within : ltb maxEntries (length es) ≡ false
   within = le-ltb maxEntries (length es) (let a = W .few in omega (arith, W .size))
 
   faults : firstFault (length list) [] (payloads rs) ≡ r .fault
-  faults = sym (walk-agrees store ledger list es .same-fault) ∙ sym (walks .found)
+  faults = sym (walk-agrees (limitsIn log) store ledger list es .same-fault) ∙ sym (walks .found)
 
   count-is : countLog (length list) store ledger log ≡ unless (r .fault) (reportOf es rs)
   unfolding countLog countEntries
-  count-is = ap (countListed (length list) store ledger) (W .is) ∙ rw (within, faults)
+  count-is = ap (countListed (limitsIn log) (length list) store ledger) (W .is) ∙ rw (within, faults)
 
-  held-is : heldBy store ledger list log ≡ walkEntries store ledger list es .held
+  held-is : heldBy store ledger list log ≡ walkEntries (limitsIn log) store ledger list es .held
   unfolding heldBy
-  held-is = ap (leftAfter store ledger list) (W .is) ∙ rw within
+  held-is = ap (leftAfter (limitsIn log) store ledger list) (W .is) ∙ rw within
 
   counts : (o : Outcome) → o ≡ unless (r .fault) (reportOf es rs) → (c : Counted) → c ≡ counted o → Counts log store ledger list c store′ ledger′ list′
   counts o e c g = record {

@@ -18,6 +18,9 @@ slice-aggregate-open-2 c = search needs
 open-requires : tie.Need-open-requires
 open-requires c κs = search needs
 
+limits-in-requires : tie.Need-limits-in-requires
+limits-in-requires c κs = search needs
+
 slice-aggregate-walk : tie.Need-slice-aggregate-walk
 slice-aggregate-walk c = search needs
 
@@ -35,7 +38,7 @@ slice-aggregate-walk-5 c = search needs
 
 walk-requires : tie.Need-walk-requires
 walk-requires c κs =
-    let o = c .before .before .before .before .before .before .before .before .before .before in
+    let o = c .before .before .before .before .before .before .before .before .before .before .before in
     let st = o .before .before .before .before .before .before in
     let a = st .args in
     begins (a .log .now) (a .store .now) (a .ledger .now) (a .numbers .now) (a .entries) (st .pre) _ _ (o .«open» .result) _ _ (o .«open» .ensures)
@@ -57,9 +60,10 @@ same-length-3 c = search needs
 returns : tie.Need-returns
 returns c =
     let w = c .before .before .before .before .before .before .before .before .before .before .before .before .before in
-    let st = w .before .before .before .before .before .before .before .before .before .before .before .before .before .before .before .before .before in
+    let own = w .before .before .before .before .before .before .before .before .before in
+    let st = own .before .before .before .before .before .before .before .before .before in
     let a = st .args in
-    refused-then (a .log .now) (a .store .now) (a .ledger .now) (a .numbers .now) (a .entries) (st .pre) (w .walk .result) _ _ _ _ _ _ (w .walk .ensures) (c .before .if1 .taken) _ (c .refused .ensures)
+    refused-then (a .log .now) (a .store .now) (a .ledger .now) (a .numbers .now) (a .entries) (st .pre) _ (own .limits-in .ensures) (w .walk .result) _ _ _ _ _ _ (w .walk .ensures) (c .before .if1 .taken) _ (c .refused .ensures)
 
 slice-aggregate-given : tie.Need-slice-aggregate-given
 slice-aggregate-given c = search needs
@@ -85,9 +89,10 @@ same-length-6 c = search needs
 returns-2 : tie.Need-returns-2
 returns-2 c =
     let w = c .before .before .before .before .before .before .before .before .before .before .before .before .before .before .before .before .before .before in
-    let st = w .before .before .before .before .before .before .before .before .before .before .before .before .before .before .before .before .before in
+    let own = w .before .before .before .before .before .before .before .before .before in
+    let st = own .before .before .before .before .before .before .before .before .before in
     let a = st .args in
-    given-then (a .log .now) (a .store .now) (a .ledger .now) (a .numbers .now) (a .entries) (st .pre) (w .walk .result) _ _ _ _ _ _ (w .walk .ensures) (c .before .before .before .before .before .before .if1 .left) _ (c .given .ensures)
+    given-then (a .log .now) (a .store .now) (a .ledger .now) (a .numbers .now) (a .entries) (st .pre) _ (own .limits-in .ensures) (w .walk .result) _ _ _ _ _ _ (w .walk .ensures) (c .before .before .before .before .before .before .if1 .left) _ (c .given .ensures)
 
 pub afresh-spec : {M : Type 1} → statement M
 afresh-spec =
@@ -96,6 +101,7 @@ afresh-spec =
     slice-aggregate-open
     slice-aggregate-open-2
     open-requires
+    limits-in-requires
     slice-aggregate-walk
     slice-aggregate-walk-2
     slice-aggregate-walk-3
