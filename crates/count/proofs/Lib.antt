@@ -4,3 +4,4 @@ pub mod Gives
 pub mod Goes
 pub mod Passing
 pub mod Takes
+pub mod Once
