@@ -1,12 +1,14 @@
-/* Quartzmitten for a C host: the checksum, the datagram reader, the cutter and the log's writer.
+/* Quartzmitten for a C host: the checksum, the datagram reader, the cutter, the log's writer and the count of a log.
 
-   Link the archive libhost.a, which the toolchain's `rt staticlib host` writes (x86-64 Linux). No other header is needed.
+   Link the archives libhost.a and libhost_count.a, or the one whose functions are called (qm_count is the second's): the toolchain's
+   `rt staticlib host` and `rt staticlib host_count` write them (x86-64 Linux). No other header is needed.
 
    What holds for all of them:
    - They end for any bytes and any lengths, keep no state, ask the system for nothing, and may be called from any thread.
-   - They read and write only the bytes lent in the call. A refusal writes nothing.
+   - They read and write only the memory lent in the call. A refusal writes nothing, but for what qm_count says of three of its own.
    - Lent memory is a pointer and how many elements stand there. The pointer is never null, also where the length is 0, and
-     a list of 32-bit numbers is aligned to 4 bytes. What is written to must not overlap what is read.
+     a list of 32-bit numbers is aligned to 4 bytes, one of 64-bit numbers to 8. What is written to must not overlap anything else
+     that is lent.
    - All numbers in datagrams are big-endian; the numbers here are the host's own. */
 
 #ifndef QUARTZMITTEN_H
@@ -19,6 +21,7 @@ extern "C" {
 typedef unsigned char qm_byte;
 typedef unsigned int qm_u32;
 typedef unsigned long long qm_u64;
+typedef long long qm_i64;
 typedef unsigned long long qm_size; /* a length, a place or a number of elements: 64 bits, unsigned */
 
 /* The refusals that these functions give. docs/REFUSALS.md has every number, and what to do about it. */
@@ -33,8 +36,14 @@ typedef unsigned long long qm_size; /* a length, a place or a number of elements
 #define QM_TOO_MANY_FRAGMENTS 11 /* more than 1,024 fragments */
 #define QM_NO_SUCH_DATAGRAM 12  /* the datagram asked for is not below the number of datagrams */
 #define QM_TOO_SHORT 13         /* output or list too short */
-#define QM_KEPT_TOO_LONG 42     /* a datagram to keep over 65,535 bytes */
+#define QM_EDITION 40           /* a log of no edition that is known: it begins with neither 1 nor 2 */
+#define QM_NOT_SHORTEST 41      /* a number of a log's entry not in its shortest form, or a tenth byte above 1 */
+#define QM_KEPT_TOO_LONG 42     /* a datagram to keep, or kept, over 65,535 bytes */
+#define QM_LOG_CUT 43           /* a log that is empty, or ends inside an entry */
 #define QM_LOG_LIMIT 45         /* a log's payload limit over 1,048,576 */
+#define QM_TOO_MANY_TILES 60    /* a 257th tile */
+#define QM_TOO_MANY_PITS 61     /* an 8,193rd pit, over all tiles */
+#define QM_TOO_MANY_ENTRIES 62  /* a log of more than 4,096 entries */
 
 /* The sum of all `length` bytes modulo 2^32. Of no bytes it is 0. Nothing is written. */
 qm_u32 qm_checksum(const qm_byte *bytes, qm_size length);
@@ -97,6 +106,50 @@ qm_u64 qm_log_append(qm_byte *out, qm_size out_length, qm_size at, qm_u64 sender
                      qm_size length);
 
 #define QM_LOG_LENGTH(answer) ((qm_size) ((answer) >> 32))
+
+/* The count of a flight: how often each answer was given, and for each tile its distinct pits. */
+
+/* What a host lends for it: a store of eight slots of the largest payload, the ledger of two numbers for each fragment of each slot,
+   and as many numbers as the longest message can have. */
+#define QM_SLOTS 8
+#define QM_MAX_PAYLOAD 1048576
+#define QM_MAX_FRAGMENTS 1024
+#define QM_MAX_MESSAGE 1048576
+#define QM_STORE (QM_SLOTS * QM_MAX_PAYLOAD)
+#define QM_LEDGER (QM_SLOTS * QM_MAX_FRAGMENTS * 2)
+#define QM_NUMBERS QM_MAX_MESSAGE
+
+#define QM_MAX_TILES 256
+#define QM_REFUSALS 10
+
+/* The places of the numbers of a report. */
+enum {
+    QM_ENTRIES,                             /* entries of the log: the sum of the next three and of the ten refusals */
+    QM_KEPT,                                /* how many were answered Kept */
+    QM_REPEATED,                            /* Repeat */
+    QM_DELIVERED,                           /* Delivered */
+    QM_REFUSED,                             /* ten numbers: refused by 0 (never), by 1, and so on to 9 */
+    QM_LISTS = QM_REFUSED + QM_REFUSALS,    /* how many delivered payloads were an accepted PitList, of either version */
+    QM_TILES,                               /* how many tiles these name */
+    QM_TILE,                                /* the tiles' numbers, rising; after the last one zeros up to 256 */
+    QM_PITS = QM_TILE + QM_MAX_TILES,       /* of each tile, in the same order, how many distinct pits its lists mark */
+    QM_SURE = QM_PITS + QM_MAX_TILES,       /* and how many of these are sure in any of its lists */
+    QM_REPORT = QM_SURE + QM_MAX_TILES      /* 784 numbers */
+};
+
+/* Goes through a log of `length` bytes, which may have been mapped from a file, with a receiver of its own, fresh, over the lent store and
+   ledger; reads each delivered payload that is a survey message to the start of `numbers`; and counts.
+
+   Answers 0 and writes the 784 numbers above to the start of `report`; what stands in `report` after them stays. Otherwise answers a
+   refusal, and `report` stays as it is: 13 where `report` has room for fewer than 784 numbers; then the log's own over the whole log, 43,
+   40, 41, 42, 45 in byte order; then 62. After these nothing at all was written. Then, entry by entry, 13 where `numbers` is too short for a
+   message, 60, 61, a list's tile before its pits: these leave store, ledger and numbers as the entries up to that one left them.
+
+   Slot size is the store's length divided by eight, 1,048,576 at most: with a store shorter than QM_STORE more is refused by 6. The log's own
+   limits bind beside it, by 5 and 6: 256 fragments and 262,144 bytes in edition 1, in edition 2 the payload limit that it says. With a ledger
+   of another length than QM_LEDGER each entry is refused by 9, and counted so. */
+qm_u32 qm_count(const qm_byte *log, qm_size length, qm_byte *store, qm_size store_length, qm_u32 *ledger, qm_size ledger_length,
+                qm_i64 *numbers, qm_size numbers_length, qm_u64 *report, qm_size report_length);
 
 #ifdef __cplusplus
 }

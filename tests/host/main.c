@@ -4,13 +4,14 @@
 #include "../../include/quartzmitten.h"
 #include "../reference/random.h"
 #include "lent.h"
+#include "tests.h"
 
 void (*signal(int number, void (*handler)(int)))(int);
 void _exit(int code);
 int fflush(void *stream);
 
-static u64 passed, failed;
-static const char *doing = "nothing";
+u64 passed, failed;
+const char *doing = "nothing";
 
 static void on_fault(int number) {
     (void) number;
@@ -20,13 +21,13 @@ static void on_fault(int number) {
     _exit(1);
 }
 
-static int told(int good, const char *what, const char *why) {
+int told(int good, const char *what, const char *why) {
     if (good) return 1;
     if (failed < 20) printf("host: %s: %s\n", what, why);
     return 0;
 }
 
-static void count(int good) {
+void count(int good) {
     if (good) passed++;
     else failed++;
 }
@@ -595,6 +596,7 @@ int main(void) {
     joins();
     appends(20000);
     flights(200);
+    counts(1500);
     all_met("qm_read_datagram", reader_gave, (const int[]) {0, 1, 2, 3, 4, 5, 6, 7, 13, -1});
     all_met("qm_cut", cutter_gave, (const int[]) {0, 4, 6, 10, 11, 12, 13, -1});
     all_met("qm_log_begin and qm_log_append", flight_gave, (const int[]) {0, 13, 42, 45, -1});

@@ -61,6 +61,20 @@ u32 ref_cut(const u8 *name, u64 c, const u8 *payload, u64 p, u32 sequence, u64 m
 u32 ref_log_begin(u8 *out, u64 room, u64 limit, u64 *written);
 u32 ref_log_append(u8 *out, u64 room, u64 at, u64 sender, u64 tick, const u8 *d, u64 length, u64 *written);
 
+/* ---- the log's reader: 0, or the refusal with the place as it was. There is an entry more where the place is not the log's end. */
+
+struct ref_entry {
+    u64 sender, tick, place, length;   /* of the datagram in the log */
+};
+
+/* The limits of a log's fragments: those of edition 1, or what edition 2 says. */
+struct ref_limits {
+    u64 payload, fragments;
+};
+
+u32 ref_log_open(const u8 *log, u64 length, u64 *at, struct ref_limits *limits);
+u32 ref_log_next(const u8 *log, u64 length, u64 *at, struct ref_entry *e);
+
 /* ---- the index of a log: 0, and its rows sorted, or the refusal */
 
 enum { INDEXED = 4096 };
@@ -160,5 +174,39 @@ u32 ref_write_message(const i64 *list, u64 numbers, int calculate, u8 *out, u64 
 
 /* The fields of a type of a version, a letter or two each; lmcp.c says which. */
 extern const char *const ref_fields[VERSIONS + 1][TYPES + 1];
+
+/* ---- the count of a log */
+
+enum { MOST_ENTRIES = 4096, MOST_TILES = 256, MOST_PITS = 8192, REFUSAL_NUMBERS = 10 };
+
+struct ref_report {
+    u64 entries, kept, repeated, delivered;
+    u64 refused[REFUSAL_NUMBERS];   /* under each number */
+    u64 lists, tiles;
+    u64 tile[MOST_TILES], pits[MOST_TILES], sure[MOST_TILES];   /* in rising tile number, the rest zero */
+};
+
+/* Answers 0 and the report, or the refusal with a report all of zeros. Store, ledger and numbers are left as the calls made by then
+   left them. */
+u32 ref_count(const u8 *log, u64 length, u8 *store, u64 store_length, u32 *ledger, u64 ledger_length, i64 *numbers, u64 room,
+              struct ref_report *report);
+
+/* ---- logs to count: each call makes one, in flight_log */
+
+enum { FLIGHT_ROOM = 1 << 20 };
+extern u8 flight_log[FLIGHT_ROOM];
+extern u64 flight_length;
+
+void flight_seed(u64 seed);
+/* So many messages: lists of few tiles and pits in either version and others, cut, late, doubled, damaged, with strangers about. */
+void flight_world(u64 messages);
+/* That many lists without marks, each of another tile. */
+void flight_tiles(u64 tiles);
+/* That many pits, in lists of at most 2,000, on two tiles. */
+void flight_pits(u64 pits);
+/* That many entries. */
+void flight_entries(u64 entries);
+/* Cuts or damages the log that was made. */
+void flight_damage(void);
 
 #endif

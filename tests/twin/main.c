@@ -27,6 +27,7 @@ static const struct program programs[] = {
     {"gaps", gaps_stream, begin_gaps, give_datagram, {"first", "forward", "same", "late", "restarted"}, {1, 2, 4, 5, 6, 7}},
     {"lmcp_list", list_stream, 0, give_message, {"list"}, {13, 20, 21, 22, 23, 24, 25, 26, 27, 28}},
     {"lmcp_bytes", bytes_stream, 0, give_list, {"bytes"}, {21, 23, 24, 25, 26, 27, 28, 29}},
+    {"count_pits", count_stream, 0, 0, {"kept", "repeated", "delivered", "lists", "tiles"}, {1, 2, 4, 5, 6, 7, 8}},
 };
 
 static void *file_of(const char *folder, int which, const char *kind, const char *how) {
@@ -190,6 +191,6 @@ int main(int n, char **words) {
     if (n == 3 && strcmp(words[1], "compare") == 0) return compare(words[2]);
     for (u64 i = 0; n == 4 && strcmp(words[1], "make") == 0 && i < sizeof programs / sizeof *programs; i++)
         if (strcmp(programs[i].name, words[2]) == 0) return make(&programs[i], words[3]);
-    printf("usage: twin make replay|gaps|lmcp_list|lmcp_bytes FOLDER, or twin compare FOLDER\n");
+    printf("usage: twin make replay|gaps|lmcp_list|lmcp_bytes|count_pits FOLDER, or twin compare FOLDER\n");
     return 2;
 }

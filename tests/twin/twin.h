@@ -30,6 +30,7 @@ void replay_stream(struct stream *s, int which);
 void gaps_stream(struct stream *s, int which);
 void list_stream(struct stream *s, int which);
 void bytes_stream(struct stream *s, int which);
+void count_stream(struct stream *s, int which);
 
 /* A receiver and a watch as new, for replay or for gaps. */
 void begin_replay(void);

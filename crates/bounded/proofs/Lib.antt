@@ -1,3 +1,4 @@
 pub mod Readers
 pub mod Withins
+pub mod Admits
 pub mod Once

@@ -18,7 +18,7 @@ use Rattle.log.specs.declared.reader.Limits.{Limits}
 use Rattle.bounded.specs.Within.{readWithin}
 
 -- what is accepted was not refused first
-passed : (t : Bool) (k : ℕ) (r : Read) (h : Header) → pick t (Refused k) r ≡ Good h → (t ≡ false) × (r ≡ Good h)
+pub passed : (t : Bool) (k : ℕ) (r : Read) (h : Header) → pick t (Refused k) r ≡ Good h → (t ≡ false) × (r ≡ Good h)
 passed true k r h e = absurd (let z : _≡_ {A = ℕ} 0 1 = cc in omega arith)
 passed false k r h e = (refl, e)
 

@@ -1,0 +1,72 @@
+-- The loop's invariant: the lines of the i numbers passed went out. Assumes nothing.
+use mathlib.Core.Path.{_≡_, refl, ap, _∙_, subst}
+use mathlib.Core.List.{List, _++_}
+use Prim.Native.Nat.{ℕ, _≤_, _-_, _+_}
+use native.Mathlib.Omega.{arith}
+use lib.ListN.{length, getD}
+use borrow.Author.Needs.{needs}
+use Rattle.output.specs.Output.{Pours}
+use Rattle.output.proofs.Sending.{sends-none, pours-then, pours-is}
+use Rattle.count_lines.specs.Lines.{refusedLine, refusedLines}
+use Rattle.count_lines.proofs.More.{refused-more}
+use Rattle.count_lines.proofs.pour_refusals.Statement.{statement}
+use Rattle.count_lines.proofs.pour_refusals.Tie as tie
+
+abbrev Inv-loop : tie.InvT-loop
+Inv-loop out₀ at refused next₀ i₀ out next i = (i ≤ length refused) × (length out ≡ length out₀) × Pours out₀ at (refusedLines i refused) out next
+
+abbrev μ-loop : tie.MeasureT-loop
+μ-loop out₀ at refused next₀ i₀ out next i = length refused - i
+
+loop-holds : tie.Need-loop-holds Inv-loop μ-loop
+loop-holds c = let a = c .before .before .args in (omega arith, refl, λ l h. sends-none (a .out .now) (a .at) h)
+
+word-requires : tie.Need-word-requires Inv-loop μ-loop
+word-requires c κs = search needs
+
+pour-refused-requires : tie.Need-pour-refused-requires Inv-loop μ-loop
+pour-refused-requires c κs = search needs
+
+add-i : tie.Need-add-i Inv-loop μ-loop
+add-i c = search needs
+
+loop-less : tie.Need-loop-less Inv-loop μ-loop
+loop-less c = search needs
+
+loop-again : tie.Need-loop-again Inv-loop μ-loop
+loop-again c =
+    let p = c .before .before in
+    let w = p .before in
+    let l = w .before .before .before in
+    let refused = l .before .before .before .args .refused .now in
+    let i = l .loop .i in
+    let line = subst (λ (n : ℕ). Pours (l .loop .out) (l .loop .next) (refusedLine i n) (p .pour-refused .last .0) (p .pour-refused .result)) (w .word .ensures) (p .pour-refused .ensures) in (
+      omega arith,
+      c .before .out .given ∙ l .loop .inv .1,
+      pours-is (pours-then (l .loop .inv .2) line) (refused-more i refused),
+    )
+
+same-length : tie.Need-same-length Inv-loop μ-loop
+same-length c = search needs
+
+returns : tie.Need-returns Inv-loop μ-loop
+returns c =
+    let l = c .before in
+    let refused = l .before .before .before .args .refused .now in
+    let e : l .loop .i ≡ length refused = omega arith in
+    pours-is (l .loop .inv .2) (ap (λ (k : ℕ). refusedLines k refused) e)
+
+pub pour-refusals-spec : {M : Type 1} → statement M
+pour-refusals-spec =
+    tie.close
+    (tie.spec
+    Inv-loop
+    μ-loop
+    loop-holds
+    word-requires
+    pour-refused-requires
+    add-i
+    loop-less
+    loop-again
+    same-length
+    returns)

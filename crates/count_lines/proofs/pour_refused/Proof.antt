@@ -1,0 +1,46 @@
+-- No line for none, else its pieces. Assumes nothing.
+use Rattle.output.proofs.Sending.{sends-none, sends-is, pours-is, pours-then}
+use Rattle.count_lines.proofs.More.{refused-none, refused-some}
+use borrow.Author.Needs.{needs}
+use Rattle.count_lines.proofs.pour_refused.Statement.{statement}
+use Rattle.count_lines.proofs.pour_refused.Tie as tie
+
+returns : tie.Need-returns
+returns c =
+    let a = c .before .before .args in
+    λ room within. sends-is (sends-none (a .out .now) (a .at) within) (refused-none (a .number) (a .n) (c .if1 .taken))
+
+slice-aggregate-pour-counted : tie.Need-slice-aggregate-pour-counted
+slice-aggregate-pour-counted c = search needs
+
+pour-counted-requires : tie.Need-pour-counted-requires
+pour-counted-requires c κs = search needs
+
+slice-aggregate-pour-counted-line : tie.Need-slice-aggregate-pour-counted-line
+slice-aggregate-pour-counted-line c = search needs
+
+pour-counted-line-requires : tie.Need-pour-counted-line-requires
+pour-counted-line-requires c κs = search needs
+
+same-length : tie.Need-same-length
+same-length c = search needs
+
+returns-2 : tie.Need-returns-2
+returns-2 c =
+    let t = c .before .before in
+    let first = t .before .before .before .before .before in
+    let test = first .before .before .before in
+    let a = test .before .before .args in
+    pours-is (pours-then (first .pour-counted .ensures) (t .pour-counted-line .ensures)) (refused-some (a .number) (a .n) (test .if1 .left))
+
+pub pour-refused-spec : {M : Type 1} → statement M
+pour-refused-spec =
+    tie.close
+    (tie.spec
+    returns
+    slice-aggregate-pour-counted
+    pour-counted-requires
+    slice-aggregate-pour-counted-line
+    pour-counted-line-requires
+    same-length
+    returns-2)

@@ -1,0 +1,88 @@
+-- The loop's invariant: the lines of the i tiles passed went out. Assumes nothing.
+use mathlib.Core.Path.{_≡_, refl, ap, _∙_, subst}
+use mathlib.Core.List.{List, _++_}
+use Prim.Native.Nat.{ℕ, _≤_, _-_, _+_}
+use native.Mathlib.Omega.{arith}
+use lib.ListN.{length, getD}
+use borrow.Author.Needs.{needs}
+use Rattle.output.specs.Output.{Pours}
+use Rattle.output.proofs.Sending.{sends-none, pours-then, pours-is}
+use Rattle.count_lines.specs.Lines.{tileLine, tileLines}
+use Rattle.count_lines.proofs.More.{tile-more}
+use Rattle.count_lines.proofs.pour_tiles.Statement.{statement}
+use Rattle.count_lines.proofs.pour_tiles.Tie as tie
+
+-- the line of what was looked up
+line-of : {t t′ p p′ s s′ : ℕ} → t ≡ t′ → p ≡ p′ → s ≡ s′ → tileLine t p s ≡ tileLine t′ p′ s′
+line-of {t} {t′} {p} {p′} {s} {s′} x y z =
+    ap (λ (n : ℕ). tileLine n p s) x ∙ ap (λ (n : ℕ). tileLine t′ n s) y ∙ ap (λ (n : ℕ). tileLine t′ p′ n) z
+
+abbrev Inv-loop : tie.InvT-loop
+Inv-loop out₀ at n tile pits sure next₀ i₀ out next i = (i ≤ n) × (length out ≡ length out₀) × Pours out₀ at (tileLines i tile pits sure) out next
+
+abbrev μ-loop : tie.MeasureT-loop
+μ-loop out₀ at n tile pits sure next₀ i₀ out next i = n - i
+
+loop-holds : tie.Need-loop-holds Inv-loop μ-loop
+loop-holds c = let a = c .before .before .before .before .args in (omega arith, refl, λ l h. sends-none (a .out .now) (a .at) h)
+
+word-requires : tie.Need-word-requires Inv-loop μ-loop
+word-requires c κs = search needs
+
+word-requires-2 : tie.Need-word-requires-2 Inv-loop μ-loop
+word-requires-2 c κs = search needs
+
+word-requires-3 : tie.Need-word-requires-3 Inv-loop μ-loop
+word-requires-3 c κs = search needs
+
+pour-tile-requires : tie.Need-pour-tile-requires Inv-loop μ-loop
+pour-tile-requires c κs = search needs
+
+add-i : tie.Need-add-i Inv-loop μ-loop
+add-i c = search needs
+
+loop-less : tie.Need-loop-less Inv-loop μ-loop
+loop-less c = search needs
+
+loop-again : tie.Need-loop-again Inv-loop μ-loop
+loop-again c =
+    let p = c .before .before in
+    let w = p .before in
+    let l = w .before .before .before .before .before in
+    let a = l .before .before .before .before .before .args in
+    let i = l .loop .i in
+    let t = w .before .before .word .ensures in
+    let q = w .before .word2 .ensures in
+    let s = w .word3 .ensures in
+    let line = pours-is (p .pour-tile .ensures) (line-of t q s) in (
+      omega arith,
+      c .before .out .given ∙ l .loop .inv .1,
+      pours-is (pours-then (l .loop .inv .2) line) (tile-more i (a .tile .now) (a .pits .now) (a .sure .now)),
+    )
+
+same-length : tie.Need-same-length Inv-loop μ-loop
+same-length c = search needs
+
+returns : tie.Need-returns Inv-loop μ-loop
+returns c =
+    let l = c .before in
+    let a = l .before .before .before .before .before .args in
+    let e : l .loop .i ≡ a .n = omega arith in
+    pours-is (l .loop .inv .2) (ap (λ (k : ℕ). tileLines k (a .tile .now) (a .pits .now) (a .sure .now)) e)
+
+pub pour-tiles-spec : {M : Type 1} → statement M
+pour-tiles-spec =
+    tie.close
+    (tie.spec
+    Inv-loop
+    μ-loop
+    loop-holds
+    word-requires
+    word-requires-2
+    word-requires-3
+    pour-tile-requires
+    add-i
+    loop-less
+    loop-again
+    same-length
+    returns)

@@ -1,0 +1,1 @@
+// The count of a flight: theorems only, in `specs/` (the definitions and the promise) and `proofs/`.
