@@ -9,3 +9,4 @@ pub mod Gathers
 pub mod Fresh
 pub mod Added
 pub mod Once
+pub mod Merges
