@@ -10,3 +10,4 @@ pub mod Fresh
 pub mod Added
 pub mod Once
 pub mod Merges
+pub mod Batches

@@ -103,9 +103,9 @@ module _ (l : List Row) (gap tail : List ℕ) (j k : ℕ) (r : Row) (h : k ≤ l
       let n : 3 * (k + j) + length b ≡ length (wordsOf l ++ gap) = omega (arith, e, g, words-length l, length-append (wordsOf l) gap) in
       let i : 3 * (k + j) ≡ 3 * k + 3 * j = omega arith in
       let front : take (3 * (k + j)) w ≡ wordsOf (take k l) ++ left =
-          ap (λ (m : ℕ). take m w) i ∙ take-add (3 * k) (3 * j) w ∙ ap (λ (v : List ℕ). v ++ left) (take-words l (gap ++ tail) k h) in
+      ap (λ (m : ℕ). take m w) i ∙ take-add (3 * k) (3 * j) w ∙ ap (λ (v : List ℕ). v ++ left) (take-words l (gap ++ tail) k h) in
       let back : drop (3 * (k + j) + length b) w ≡ tail =
-          (λ m. drop (n m) (sym (append-assoc (wordsOf l) gap tail) m)) ∙ drop-at (wordsOf l ++ gap) tail (length (wordsOf l ++ gap)) refl in
+      (λ m. drop (n m) (sym (append-assoc (wordsOf l) gap tail) m)) ∙ drop-at (wordsOf l ++ gap) tail (length (wordsOf l ++ gap)) refl in
       ap (λ (u : List ℕ). overlay w (3 * (k + j)) (r .sender ∷ r .sequence ∷ r .place ∷ u)) (moved l (gap ++ tail) r k h)
       ∙ overlay-eq w (3 * (k + j)) b f
       ∙ (λ m. front m ++ b ++ back m)

@@ -49,7 +49,7 @@ moved-row w at n k r =
     let a : 3 * at + (3 * k + 3) ≡ f + 2 + 1 = omega arith in
     let b : f + 2 ≡ f + 1 + 1 = omega arith in
     let x : set (overlay w (3 * at + (3 * k + 3)) t) (f + 2) (r .place) ≡ overlay w (f + 1 + 1) (r .place ∷ t) =
-        (λ j. set (overlay w (a j) t) (f + 2) (r .place)) ∙ front w t (f + 2) (r .place) ∙ (λ j. overlay w (b j) (r .place ∷ t)) in
+    (λ j. set (overlay w (a j) t) (f + 2) (r .place)) ∙ front w t (f + 2) (r .place) ∙ (λ j. overlay w (b j) (r .place ∷ t)) in
     let y = ap (λ (v : List ℕ). set v (f + 1) (r .sequence)) x ∙ front w (r .place ∷ t) (f + 1) (r .sequence) in
     ap (λ (v : List ℕ). set v f (r .sender)) y ∙ front w (r .sequence ∷ r .place ∷ t) f (r .sender)
 

@@ -8,7 +8,8 @@ use lib.Dec.{ltb, leb}
 use lib.ListN.{length, getD, take, drop}
 use Rattle.wire.specs.Choice.{pick}
 use Rattle.wire.specs.Overlay.{overlay}
-use Rattle.log_index.specs.Rows.{Row, rowOf, earlier, isOf}
+use Rattle.log_index.specs.Limits.{batchRows}
+use Rattle.log_index.specs.Rows.{Row, rowOf, earlier, sorted, isOf}
 use Rattle.log_index.specs.declared.Found.{Found}
 use Rattle.log_index.specs.declared.Found.the-variants.{At, Nowhere}
 
@@ -71,6 +72,19 @@ pub record MergesOne (w : List ℕ) (n : ℕ) (batch : List ℕ) (j at : ℕ) (w
 -- the first m rows of a batch, where both have words for them
 unfoldable pub merged : List ℕ → ℕ → List ℕ → ℕ → List ℕ
 merged w n batch m = pick (leb m (length batch / 3) && leb (n + m) (length w / 3)) (mergedBy m batch w n) w
+
+-- ---- rows go in a batch at a time, sorted among themselves and then merged
+
+unfoldable pub mergedRows : List ℕ → ℕ → List Row → List ℕ
+mergedRows w n rs = merged w n (wordsOf (sorted rs)) (length rs)
+
+unfoldable pub addedBy : ℕ → List ℕ → ℕ → List Row → List ℕ
+addedBy zero w n rs = w
+addedBy (suc k) w n rs = addedBy k (mergedRows w n (take batchRows rs)) (n + length (take batchRows rs)) (drop batchRows rs)
+
+-- there are no more batches than rows
+unfoldable pub added : List ℕ → ℕ → List Row → List ℕ
+added w n rs = addedBy (length rs) w n rs
 
 -- ---- a key is found: the first row that is not before it is one of its own, or there is none
 

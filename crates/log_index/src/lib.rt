@@ -12,6 +12,9 @@ ghost use Rattle.log_index.specs.Words.{rowAt, rankIn, movedUp, inserted
 // The most rows of an index.
 pub const MAX_INDEX: usize = 4096;
 
+// How many rows are sorted among themselves before they are merged.
+pub const BATCH: usize = 64;
+
 // Index full.
 pub const FULL: u32 = 44;
 
