@@ -50,7 +50,10 @@ same-length c = search needs
 returns-3 : tie.Need-returns-3
 returns-3 c =
     let a = c .before .before .before .before .before .before .before .before .before .before .before .before .before .before .before .before .before .before .args in
-    adds-all _ _ _ _ _ (a .index .now) (a .n) _ (c .before .before .before .before .before .before .before .before .before .before .before .before .before .walk .ensures) (c .before .before .before .before .before .before .before .before .before .counted .given .1) (sym (c .before .before .before .before .before .before .before .no-room .ensures) ∙ c .before .before .before .before .before .before .if1 .left) _ _ _ (omega (arith, length-replicate {A = ℕ} 192 0)) (c .before .before .before .walk2 .ensures)
+    let k = c .before .before .before .before .before .before .before in
+    let room = sym (k .no-room .ensures) ∙ c .before .before .before .before .before .before .if1 .left in
+    let n = k .before .before in
+    adds-all _ _ _ _ _ (a .index .now) (a .n) _ (n .before .before .before .before .walk .ensures) (n .counted .given .1) room _ _ _ (omega (arith, length-replicate {A = ℕ} 192 0)) (c .before .before .before .walk2 .ensures)
 
 pub add-spec : {M : Type 1} → statement M
 add-spec =
