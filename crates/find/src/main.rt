@@ -4,9 +4,8 @@ ghost use mathlib.Core.Path.{_≡_};
 ghost use Prim.Native.Nat.{_≤_};
 ghost use lib.ListN.{length};
 ghost use Rattle.output.specs.Output.{Pours};
-ghost use Rattle.log_index.specs.Index.{rowsIn, firstEntry, answerOf};
-ghost use Rattle.index_lines.specs.Lines.{answerLine};
 ghost use Rattle.find.specs.Numbers.{withDigit, numberIn, says};
+ghost use Rattle.find.specs.Said.{keyLine};
 use indexing::Indexed;
 use stream::All;
 
@@ -62,7 +61,7 @@ fn number_in(text: &[u8], most: u64) -> Number
 
 // What is said of a key.
 fn answer(log: &[u8], index: &mut [u64], out: &mut [u8], sender: u64, sequence: u64) -> usize
-    ensures { λ r. ⌜ Pours (now (out .entry)) 0 (answerLine (answerOf (length (now (index .entry))) 0 (rowsIn (now (log .entry)))) (firstEntry (now (log .entry)) sender sequence)) (now (out .exit)) r ⌝ }
+    ensures { λ r. ⌜ Pours (now (out .entry)) 0 (keyLine (length (now (index .entry))) (now (log .entry)) sender sequence) (now (out .exit)) r ⌝ }
 {
     let indexed = indexing::index_log(log, &mut *index);
     match indexed {

@@ -16,11 +16,11 @@ use Rattle.log.specs.Told.{firstOf, firstIn}
 use Rattle.log.specs.declared.reader.Limits.{Limits}
 use Rattle.log.specs.declared.reader.First.{First}
 use Rattle.log.specs.declared.reader.First.the-variants as first
-use Rattle.log_index.specs.Limits.{maxIndex, full}
+use Rattle.log_index.specs.Limits.{maxIndex, batchRows, full}
 use Rattle.log_index.specs.Rows.{Row, sorted}
 use Rattle.log_index.specs.Index.{Gathered, gathered, stopped, rowsFrom, rowsBehind, rowsIn, rowsAfter, rowsAdded, Answer, holds, refuses, noRoom, answerOf}
-use Rattle.log_index.specs.Words.{wordsOf, enteredAll}
-use Rattle.log_index.proofs.Fresh.{entered-sorted}
+use Rattle.log_index.specs.Words.{wordsOf}
+use Rattle.log_index.proofs.Batches.{added-fresh}
 use Rattle.indexing.specs.declared.Indexed.{Indexed}
 use Rattle.indexing.specs.declared.Indexed.the-variants.{Entries, Refused}
 use Rattle.indexing.specs.Adds.{says, indexWords, extendedWords, Indexes, Adds}
@@ -54,15 +54,15 @@ unfolding answerOf
 answer-stopped words n k = refl
 
 -- a walk without words told how many rows there are, or the refusal
-module _ (v v′ : List ℕ) (r : Indexed) where
-  pub adds-refused : (g : Gathered) (w : List ℕ) (n k : ℕ) → Walked g v 0 r v′ → r ≡ Refused k → Adds g w n r w
+module _ (v v′ : List ℕ) (room : ℕ) (r : Indexed) where
+  pub adds-refused : (g : Gathered) (w : List ℕ) (n k : ℕ) → Walked g v 0 room r v′ → r ≡ Refused k → Adds g w n r w
   unfolding answerOf
   adds-refused (gathered rs) w n k f e =
       let q : refuses k ≡ holds (0 + length rs) = sym (ap says e) ∙ f .answer in
       absurd (let z : _≡_ {A = ℕ} 0 1 = cc in omega arith)
   adds-refused (stopped i) w n k f e = record { answer = f .answer; index = refl }
 
-  pub adds-full : (g : Gathered) (w : List ℕ) (n k : ℕ) → Walked g v 0 r v′ → r ≡ Entries k → noRoom (length w) (n + k) ≡ true → Adds g w n (Refused full) w
+  pub adds-full : (g : Gathered) (w : List ℕ) (n k : ℕ) → Walked g v 0 room r v′ → r ≡ Entries k → noRoom (length w) (n + k) ≡ true → Adds g w n (Refused full) w
   adds-full (stopped i) w n k f e h =
       let q : holds k ≡ refuses i = sym (ap says e) ∙ f .answer in
       absurd (let z : _≡_ {A = ℕ} 0 1 = cc in omega arith)
@@ -73,17 +73,17 @@ module _ (v v′ : List ℕ) (r : Indexed) where
       let a = answer-full (length w) n rs (ap (λ (i : ℕ). noRoom (length w) (n + i)) (sym d) ∙ h) in
       record { answer = sym a; index = ap (λ (x : Answer). extendedWords x (gathered rs) w n) (sym a) }
 
-  pub adds-all : (g : Gathered) (w : List ℕ) (n k : ℕ) → Walked g v 0 r v′ → r ≡ Entries k → noRoom (length w) (n + k) ≡ false
-      → (s : Indexed) (w′ : List ℕ) → Walked g w n s w′ → Adds g w n s w′
-  adds-all (stopped i) w n k f e h s w′ l =
+  pub adds-all : (g : Gathered) (w : List ℕ) (n k : ℕ) → Walked g v 0 room r v′ → r ≡ Entries k → noRoom (length w) (n + k) ≡ false
+      → (s : Indexed) (w′ : List ℕ) (b : ℕ) → 3 * batchRows ≤ b → Walked g w n b s w′ → Adds g w n s w′
+  adds-all (stopped i) w n k f e h s w′ b o l =
       let q : holds k ≡ refuses i = sym (ap says e) ∙ f .answer in
       absurd (let z : _≡_ {A = ℕ} 0 1 = cc in omega arith)
-  adds-all (gathered rs) w n k f e h s w′ l =
+  adds-all (gathered rs) w n k f e h s w′ b o l =
       let q : holds k ≡ holds (0 + length rs) = sym (ap says e) ∙ f .answer in
       let c : k ≡ 0 + length rs = cc in
       let d : k ≡ length rs = omega arith in
       let a = answer-holds (length w) n rs (ap (λ (i : ℕ). noRoom (length w) (n + i)) (sym d) ∙ h) in
-      record { answer = l .answer ∙ sym a; index = l .words rs refl ∙ ap (λ (x : Answer). extendedWords x (gathered rs) w n) (sym a) }
+      record { answer = l .answer ∙ sym a; index = l .words o rs refl ∙ ap (λ (x : Answer). extendedWords x (gathered rs) w n) (sym a) }
 
 -- ---- the head
 
@@ -133,7 +133,7 @@ fresh-words w rs true e =
 fresh-words w rs false e =
     let a = answer-holds (length w) 0 rs e in
     ap (λ (x : Answer). extendedWords x (gathered rs) w 0) a
-    ∙ entered-sorted w [] rs (none-sorted w) (room-for (length w) (0 + length rs) e)
+    ∙ added-fresh w [] rs (none-sorted w) (room-for (length w) (0 + length rs) e)
     ∙ ap (λ (x : Answer). indexWords x (gathered rs) w) (sym a)
 
 pub fresh : (g : Gathered) (w : List ℕ) → extendedWords (answerOf (length w) 0 g) g w 0 ≡ indexWords (answerOf (length w) 0 g) g w

@@ -15,12 +15,12 @@ use Rattle.wire.proofs.Overlays.{overlay-at}
 use Rattle.log_index.specs.Limits.{full}
 use Rattle.log_index.specs.Rows.{Row, sorted, firstOf}
 use Rattle.log_index.specs.Index.{Gathered, gathered, stopped, rowsIn, rowsAdded, firstTo, firstEntry, Answer, holds, refuses, noRoom, answerOf}
-use Rattle.log_index.specs.Words.{wordsOf, enteredAll, foundIn}
+use Rattle.log_index.specs.Words.{wordsOf, foundIn}
 use Rattle.log_index.proofs.Gathers.{ahead}
 use Rattle.log_index.proofs.Added.{rows-added, rows-rising}
 use Rattle.log_index.proofs.Sorts.{sorted-length}
 use Rattle.log_index.proofs.Wordings.{words-length}
-use Rattle.log_index.proofs.Fresh.{entered-sorted}
+use Rattle.log_index.proofs.Batches.{added-fresh}
 use Rattle.log_index.proofs.Looks.{found-first}
 use Rattle.indexing.specs.declared.Indexed.{Indexed}
 use Rattle.indexing.specs.declared.Indexed.the-variants.{Entries, Refused}
@@ -57,7 +57,7 @@ words-ahead w xs e (gathered ys) = by-room (noRoom (length w) (length xs + lengt
         let a = answer-holds (length w) (length xs) ys h in
         let b = answer-holds (length w) 0 (xs ++ ys) (ap (noRoom (length w)) (sym same) ∙ h) in
         ap (λ (x : Answer). extendedWords x (gathered ys) w (length xs)) a
-        ∙ entered-sorted w xs ys e (room-for (length w) (length xs + length ys) h)
+        ∙ added-fresh w xs ys e (room-for (length w) (length xs + length ys) h)
         ∙ ap (λ (x : Answer). indexWords x (gathered (xs ++ ys)) w) (sym b)
 
 -- an index of a log, extended by what was added behind it, is the index of all worked out afresh, refusals too

@@ -2,86 +2,184 @@
 use mathlib.Core.Path.{_≡_, refl, sym, ap, _∙_}
 use mathlib.Core.Logic.{inl, inr}
 use mathlib.Core.Bool.{true}
-use mathlib.Core.List.{List, [], _∷_, _++_}
+use mathlib.Core.List.{List, [], _∷_, _++_, append-nil}
 use Prim.Native.Nat.{ℕ, suc, _+_, _-_, _*_, _/_, _≤_, _<_}
 use native.Mathlib.Omega.{arith}
+use native.Mathlib.Decide.{decLe}
 use lib.Dec.{ltb}
-use lib.ListN.{length, take, drop, length-append}
+use lib.ListN.{length, take, drop, length-append, take-append-drop}
 use borrow.Author.Tests.{lt-ltb, le-ltb}
 use Rattle.wire.proofs.Choices.{either}
-use Rattle.wire.proofs.Overlays.{length-overlay}
+use Rattle.wire.proofs.Overlays.{overlay-at}
 use Rattle.datagram.specs.declared.Read.{Read}
 use Rattle.datagram.specs.declared.Read.the-variants.{Good, Refused}
 use Rattle.datagram.specs.declared.Header.{Header}
-use Rattle.log_index.specs.Limits.{maxIndex}
-use Rattle.log_index.specs.Rows.{Row, rowOf}
+use Rattle.log_index.specs.Limits.{maxIndex, batchRows}
+use Rattle.log_index.specs.Rows.{Row, rowOf, sorted}
 use Rattle.log_index.specs.Index.{rowFor, Gathered, gathered, stopped, Answer, holds, refuses, noRoom}
-use Rattle.log_index.specs.Words.{rankIn, inserted, entered, enteredAll}
+use Rattle.log_index.specs.Words.{wordsOf, rankIn, inserted, entered, enteredAll, merged, mergedRows, added}
+use Rattle.log_index.proofs.Sorts.{sorted-length}
+use Rattle.log_index.proofs.Wordings.{words-length}
+use Rattle.log_index.proofs.Fresh.{entered-sorted}
+use Rattle.log_index.proofs.Batches.{merged-batch, added-next, added-last}
+use Rattle.log_index.proofs.Moves.{inserted-length}
 use Rattle.log_index.proofs.Gathers.{ahead}
-use Rattle.indexing.specs.Walk.{totalOf, Takes}
+use Rattle.log_index.proofs.Added.{ahead-none, ahead-both}
+use Rattle.indexing.specs.declared.Indexed.{Indexed}
+use Rattle.indexing.specs.Walk.{totalOf, Walked, Settles, Finishes, Takes}
 
 -- ---- the words stay as many
 
 pub entered-length : (w : List ℕ) (n : ℕ) (r : Row) → length (entered w n r) ≡ length w
-unfolding entered inserted
+unfolding entered
 entered-length w n r = elim (either (ltb n (length w / 3))) [
-  | inl e ↦ rw e (length-overlay w (3 * rankIn w n r) (r .sender ∷ r .sequence ∷ r .place ∷ take (3 * n - 3 * rankIn w n r) (drop (3 * rankIn w n r) w)))
+  | inl e ↦ rw e (inserted-length w (rankIn w n r) n 0 r)
   | inr e ↦ rw e refl
 ]
 
--- ---- some rows and then others
+-- ---- the rows to come
 
-pub entered-append : (w : List ℕ) (n : ℕ) (a b : List Row) → enteredAll w n (a ++ b) ≡ enteredAll (enteredAll w n a) (n + length a) b
-unfolding enteredAll
-entered-append w n [] b = let e : n ≡ n + 0 = omega arith in ap (λ (k : ℕ). enteredAll w k b) e
-entered-append w n (r ∷ a) b =
-    let e : n + 1 + length a ≡ n + suc (length a) = omega arith in
-    entered-append (entered w n r) (n + 1) a b ∙ ap (λ (k : ℕ). enteredAll (enteredAll (entered w n r) (n + 1) a) k b) e
-
-abbrev pub wordsTo : List ℕ → ℕ → Gathered → List ℕ
-wordsTo w n (gathered rs) = enteredAll w n rs
-wordsTo w n (stopped k) = []
+abbrev pub addedTo : List ℕ → ℕ → Gathered → List ℕ
+addedTo w n (gathered rs) = added w n rs
+addedTo w n (stopped k) = []
 
 total-ahead : (n : ℕ) (rs : List Row) (g : Gathered) → totalOf n (ahead rs g) ≡ totalOf (n + length rs) g
 total-ahead n rs (gathered more) = let e : n + length (rs ++ more) ≡ n + length rs + length more = omega (arith, length-append rs more) in ap holds e
 total-ahead n rs (stopped k) = refl
 
-words-ahead : (w : List ℕ) (n : ℕ) (rs : List Row) (g : Gathered) → wordsTo w n (ahead rs g) ≡ wordsTo (enteredAll w n rs) (n + length rs) g
-words-ahead w n rs (gathered more) = entered-append w n rs more
-words-ahead w n rs (stopped k) = refl
+-- a full batch and then the rest
+added-ahead : (w : List ℕ) (n : ℕ) (ps : List Row) (g : Gathered) → length ps ≡ batchRows → addedTo w n (ahead ps g) ≡ addedTo (mergedRows w n ps) (n + length ps) g
+added-ahead w n ps (gathered more) e = added-next w n ps more e
+added-ahead w n ps (stopped k) e = refl
 
--- from n rows in the words w, with g to come, to m in v, with h to come
-pub record Going (w : List ℕ) (n : ℕ) (g : Gathered) (v : List ℕ) (m : ℕ) (h : Gathered) : Type 0 where
-  pub total : totalOf m h ≡ totalOf n g
+-- ---- a batch
+
+-- the rows that wait, sorted at the start of the batch, and some more
+batch-more : (batch : List ℕ) (ps rs : List Row) → take (3 * length ps) batch ≡ wordsOf (sorted ps) → 3 * (length ps + length rs) ≤ length batch
+    → take (3 * length (ps ++ rs)) (enteredAll batch (length ps) rs) ≡ wordsOf (sorted (ps ++ rs))
+batch-more batch ps rs e room =
+    let s : List ℕ = wordsOf (sorted (ps ++ rs)) in
+    let a = length-append ps rs in
+    let l : length s ≡ 3 * length (ps ++ rs) = words-length (sorted (ps ++ rs)) ∙ ap (λ (k : ℕ). 3 * k) (sorted-length (ps ++ rs)) in
+    let f : 0 + length s ≤ length batch = omega (arith, l, a) in
+    (λ j. take (sym l j) (entered-sorted batch ps rs e room j)) ∙ overlay-at batch 0 s f
+
+-- it is merged as its rows are
+batch-merged : (w : List ℕ) (n : ℕ) (batch : List ℕ) (ps : List Row) → take (3 * length ps) batch ≡ wordsOf (sorted ps) → merged w n batch (length ps) ≡ mergedRows w n ps
+batch-merged w n batch ps e =
+    ap (λ (b : List ℕ). merged w n b (length ps)) (sym (take-append-drop (3 * length ps) batch) ∙ ap (λ (b : List ℕ). b ++ drop (3 * length ps) batch) e)
+    ∙ merged-batch w n ps (drop (3 * length ps) batch)
+
+-- ---- from n rows in the words w, with g to come, to so many in v and some that wait, with h to come
+
+pub record Going (w : List ℕ) (n : ℕ) (g : Gathered) (room : ℕ) (v : List ℕ) (rows : ℕ) (batch : List ℕ) (waiting : ℕ) (h : Gathered) : Type 0 where
+  pub wait : List Row
+  pub number : waiting ≡ length wait
+  pub few : length wait < batchRows
+  pub total : totalOf (rows + waiting) h ≡ totalOf n g
   pub size : length v ≡ length w
-  pub words : wordsTo v m h ≡ wordsTo w n g
+  pub held : length batch ≡ room
+  pub sort : 3 * batchRows ≤ room → take (3 * length wait) batch ≡ wordsOf (sorted wait)
+  pub words : 3 * batchRows ≤ room → addedTo v rows (ahead wait h) ≡ addedTo w n g
 
-pub going-start : (w : List ℕ) (n : ℕ) (g : Gathered) → Going w n g w n g
-going-start w n g = record { total = refl; size = refl; words = refl }
+pub going-start : (w : List ℕ) (n : ℕ) (g : Gathered) (batch : List ℕ) → Going w n g (length batch) w n batch 0 g
+unfolding wordsOf sorted
+going-start w n g batch = record {
+  wait = [];
+  number = refl;
+  few = omega arith;
+  total = let e : n + 0 ≡ n = omega arith in ap (λ (k : ℕ). totalOf k g) e;
+  size = refl;
+  held = refl;
+  sort = λ h. refl;
+  words = λ h. ap (addedTo w n) (ahead-none g);
+}
 
-module _ (w : List ℕ) (n : ℕ) (g : Gathered) (v : List ℕ) (m : ℕ) (h : Gathered) (f : Going w n g v m h) where
-  pub going-next : (rs : List Row) (k : Gathered) (u : List ℕ) (i : ℕ) → h ≡ ahead rs k → Takes rs v m i u → Going w n g u i k
-  going-next rs k u i e t = record {
-    total = ap (λ (j : ℕ). totalOf j k) (t .next) ∙ sym (total-ahead m rs k) ∙ ap (totalOf m) (sym e) ∙ f .total;
-    size = t .size ∙ f .size;
-    words = (λ j. wordsTo (t .words j) (t .next j) k) ∙ sym (words-ahead v m rs k) ∙ ap (wordsTo v m) (sym e) ∙ f .words;
-  }
+module _ (w : List ℕ) (n : ℕ) (g : Gathered) (room : ℕ) (v : List ℕ) (rows : ℕ) (batch : List ℕ) (waiting : ℕ) (h : Gathered) (f : Going w n g room v rows batch waiting h) where
+  module _ (rs : List Row) (k : Gathered) (e : h ≡ ahead rs k) (batch′ : List ℕ) (m : ℕ) (t : Takes rs batch waiting m batch′) (v′ : List ℕ) (rows′ waiting′ : ℕ) (s : Settles v rows batch′ m rows′ waiting′ v′) where
+    abbrev all : List Row
+    all = f .wait ++ rs
 
-  pub going-ended : h ≡ gathered [] → holds m ≡ totalOf n g
-  going-ended e = let z : m ≡ m + 0 = omega arith in ap holds z ∙ ap (totalOf m) (sym e) ∙ f .total
+    count : m ≡ length all
+    count = t .next ∙ (let a = length-append (f .wait) rs in let b = f .number in omega (arith, a, b))
 
-  pub going-words : h ≡ gathered [] → (rs : List Row) → g ≡ gathered rs → v ≡ enteredAll w n rs
-  unfolding enteredAll
-  going-words e rs d = ap (wordsTo v m) (sym e) ∙ f .words ∙ ap (wordsTo w n) d
+    most : length all ≤ batchRows
+    most = let a = length-append (f .wait) rs in let b = f .few in let c = t .few in omega (arith, a, b, c)
+
+    total′ : totalOf (rows′ + waiting′) k ≡ totalOf n g
+    total′ =
+        let i : rows′ + waiting′ ≡ rows + waiting + length rs = let a = s .sum in let b = t .next in omega (arith, a, b) in
+        ap (λ (j : ℕ). totalOf j k) i ∙ sym (total-ahead (rows + waiting) rs k) ∙ ap (totalOf (rows + waiting)) (sym e) ∙ f .total
+
+    sort′ : 3 * batchRows ≤ room → take (3 * length all) batch′ ≡ wordsOf (sorted all)
+    sort′ r =
+        let d = f .held in
+        let a = length-append (f .wait) rs in
+        (λ j. take (3 * length all) ((t .words ∙ ap (λ (i : ℕ). enteredAll batch i rs) (f .number)) j))
+        ∙ batch-more batch (f .wait) rs (f .sort r) (omega (arith, a, d, most))
+
+    words′ : 3 * batchRows ≤ room → addedTo v rows (ahead all k) ≡ addedTo w n g
+    words′ r = ap (addedTo v rows) (sym (ahead-both (f .wait) rs k) ∙ ap (ahead (f .wait)) (sym e)) ∙ f .words r
+
+    going-wait : m < batchRows → Going w n g room v′ rows′ batch′ waiting′ k
+    going-wait l =
+        let p = s .waits l in
+        let i : rows′ ≡ rows = let a = s .sum in let b = p .0 in omega (arith, a, b) in
+        record {
+          wait = all;
+          number = p .0 ∙ count;
+          few = omega (arith, count);
+          total = total′;
+          size = s .size ∙ f .size;
+          held = t .size ∙ f .held;
+          sort = sort′;
+          words = λ r. (λ j. addedTo (p .1 j) (i j) (ahead all k)) ∙ words′ r;
+        }
+
+    going-merge : batchRows ≤ m → Going w n g room v′ rows′ batch′ waiting′ k
+    unfolding wordsOf sorted
+    going-merge l =
+        let p = s .settles l in
+        let b : length all ≡ batchRows = omega (arith, count, most) in
+        let i : rows′ ≡ rows + length all = let a = s .sum in let c = p .0 in omega (arith, a, c, count) in
+        let x : 3 * batchRows ≤ room → v′ ≡ mergedRows v rows all = λ r. p .1 ∙ ap (merged v rows batch′) count ∙ batch-merged v rows batch′ all (sort′ r) in
+        record {
+          wait = [];
+          number = p .0;
+          few = omega arith;
+          total = total′;
+          size = s .size ∙ f .size;
+          held = t .size ∙ f .held;
+          sort = λ r. refl;
+          words = λ r. ap (addedTo v′ rows′) (ahead-none k) ∙ (λ j. addedTo (x r j) (i j) k) ∙ sym (added-ahead v rows all k b) ∙ words′ r;
+        }
+
+    pub going-next : Going w n g room v′ rows′ batch′ waiting′ k
+    going-next = elim (decLe batchRows m) [ yes l ↦ going-merge l | no l ↦ going-wait (omega (arith, l)) ]
 
   pub going-refused : (k : ℕ) → h ≡ stopped k → refuses k ≡ totalOf n g
-  going-refused k e = ap (totalOf m) (sym e) ∙ f .total
+  going-refused k e = ap (totalOf (rows + waiting)) (sym e) ∙ f .total
 
   pub going-none : (k : ℕ) → h ≡ stopped k → (rs : List Row) → g ≡ gathered rs → ⊥
   going-none k e rs d =
       let t : refuses k ≡ holds (n + length rs) = going-refused k e ∙ ap (totalOf n) d in
       let z : _≡_ {A = ℕ} 0 1 = cc in
       omega arith
+
+  pub going-done : h ≡ gathered [] → (r : Indexed) (v′ : List ℕ) → Finishes v rows batch waiting r v′ → Walked g w n room r v′
+  going-done e r v′ d = record {
+    answer = d .answer ∙ (let z : rows + waiting ≡ rows + waiting + 0 = omega arith in ap holds z) ∙ ap (totalOf (rows + waiting)) (sym e) ∙ f .total;
+    size = d .size ∙ f .size;
+    words = λ o rs q.
+        d .words
+        ∙ ap (merged v rows batch) (f .number)
+        ∙ batch-merged v rows batch (f .wait) (f .sort o)
+        ∙ sym (added-last v rows (f .wait) (omega (arith, f .few)))
+        ∙ ap (added v rows) (sym (append-nil (f .wait)))
+        ∙ ap (λ (x : Gathered). addedTo v rows (ahead (f .wait) x)) (sym e)
+        ∙ f .words o
+        ∙ ap (addedTo w n) q;
+  }
 
 -- ---- the row of a datagram
 

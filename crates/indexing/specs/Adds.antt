@@ -7,7 +7,7 @@ use lib.ListN.{length, take}
 use Rattle.wire.specs.Overlay.{overlay}
 use Rattle.log_index.specs.Rows.{Row, sorted}
 use Rattle.log_index.specs.Index.{Gathered, gathered, stopped, rowsIn, rowsAdded, Answer, holds, refuses, answerOf}
-use Rattle.log_index.specs.Words.{wordsOf, enteredAll}
+use Rattle.log_index.specs.Words.{wordsOf, added}
 use Rattle.indexing.specs.declared.Indexed.{Indexed}
 use Rattle.indexing.specs.declared.Indexed.the-variants.{Entries, Refused}
 
@@ -37,7 +37,7 @@ pub record IndexOf (log w : List ℕ) (n : ℕ) : Type 0 where
 -- ---- extended: to the first n rows of the lent words, whatever they are, those of the entries from a place on
 
 abbrev pub extendedWords : Answer → Gathered → List ℕ → ℕ → List ℕ
-extendedWords (holds m) (gathered rs) w n = enteredAll w n rs
+extendedWords (holds m) (gathered rs) w n = added w n rs
 extendedWords (holds m) (stopped k) w n = w
 extendedWords (refuses k) g w n = w
 

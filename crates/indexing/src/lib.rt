@@ -9,7 +9,7 @@ ghost use Rattle.datagram.specs.Read.{readDatagram};
 ghost use Rattle.log_index.specs.Limits.{maxIndex};
 ghost use Rattle.log_index.specs.Index.{rowFor, rowsFrom, noRoom};
 ghost use Rattle.indexing.specs.Adds.{Indexes, Adds, Extends};
-ghost use Rattle.indexing.specs.Walk.{Walked, Takes};
+ghost use Rattle.indexing.specs.Walk.{Walked, Settles, Finishes, Takes};
 use datagram::Read;
 use log::First;
 use log::Limits;
@@ -19,6 +19,12 @@ use log::Step;
 pub enum Indexed {
     Entries(usize),
     Refused(u32),
+}
+
+// The rows of an index, and those that wait in a batch.
+struct Held {
+    rows: usize,
+    waiting: usize,
 }
 
 // The row of a datagram enters, where the reader accepts it within the log's limits: how many rows there are then.
@@ -41,32 +47,70 @@ fn enter_datagram(
     n + 1
 }
 
-// Goes over the entries from a place on and enters the row of each, where there are words for it.
-fn walk(log: &[u8], from: usize, limits: Limits, index: &mut [u64], n: usize) -> Indexed
+// A full batch is merged into the index, and one that is not waits.
+fn settle(index: &mut [u64], n: usize, batch: &[u64], m: usize) -> Held
+    requires { ⌜ n + m < 2 ^ 64 ⌝ }
+    ensures { λ r. ⌜ Settles (now (index .entry)) n (now (batch .entry)) m (r .rows) (r .waiting) (now (index .exit)) ⌝ }
+{
+    if m < log_index::BATCH {
+        return Held {
+            rows: n,
+            waiting: m,
+        };
+    }
+    log_index::merge(index, n, batch, m);
+    Held {
+        rows: n + m,
+        waiting: 0,
+    }
+}
+
+// The last batch is merged into the index.
+fn finish(index: &mut [u64], n: usize, batch: &[u64], m: usize) -> Indexed
+    requires { ⌜ n + m < 2 ^ 64 ⌝ }
+    ensures { λ r. ⌜ Finishes (now (index .entry)) n (now (batch .entry)) m r (now (index .exit)) ⌝ }
+{
+    log_index::merge(index, n, batch, m);
+    Indexed::Entries(n + m)
+}
+
+// Goes over the entries from a place on. The row of each enters a batch, and full batches the index, where there are words for them.
+fn walk(
+    log: &[u8],
+    from: usize,
+    limits: Limits,
+    index: &mut [u64],
+    n: usize,
+    batch: &mut [u64],
+) -> Indexed
     requires { ⌜ n ≤ maxIndex ⌝ }
-    ensures { λ r. ⌜ Walked (rowsFrom limits (now (log .entry)) from) (now (index .entry)) n r (now (index .exit)) ⌝ }
+    ensures { λ r. ⌜ Walked (rowsFrom limits (now (log .entry)) from) (now (index .entry)) n (length (now (batch .entry))) r (now (index .exit)) ⌝ }
 {
     let mut at = from;
-    let mut m = n;
+    let mut rows = n;
+    let mut waiting: usize = 0;
     while at < log.len() {
         let step = log::next_entry(log, at);
         match step {
             Step::Found(entry) => {
-                m = enter_datagram(
+                let m = enter_datagram(
                     wire::part(log, entry.at, entry.len),
                     limits,
-                    &mut *index,
-                    m,
+                    &mut *batch,
+                    waiting,
                     entry.sender,
                     at,
                 );
+                let held = settle(&mut *index, rows, &*batch, m);
+                rows = held.rows;
+                waiting = held.waiting;
                 at = entry.next;
             }
-            Step::End => return Indexed::Entries(m),
+            Step::End => return finish(&mut *index, rows, &*batch, waiting),
             Step::Refused(number) => return Indexed::Refused(number),
         }
     }
-    Indexed::Entries(m)
+    finish(&mut *index, rows, &*batch, waiting)
 }
 
 // The lent words have no room for n rows and k more, or an index has none.
@@ -87,14 +131,16 @@ fn add(log: &[u8], from: usize, limits: Limits, index: &mut [u64], n: usize) -> 
     ensures { λ r. ⌜ Adds (rowsFrom limits (now (log .entry)) from) (now (index .entry)) n r (now (index .exit)) ⌝ }
 {
     let mut none = [0u64; 1];
-    let counted = walk(log, from, limits, &mut none, 0);
+    let mut no_batch = [0u64; 1];
+    let counted = walk(log, from, limits, &mut none, 0, &mut no_batch);
     let Indexed::Entries(k) = counted else {
         return counted;
     };
     if no_room(index.len(), n, k) {
         return Indexed::Refused(log_index::FULL);
     }
-    walk(log, from, limits, index, n)
+    let mut batch = [0u64; 3 * log_index::BATCH];
+    walk(log, from, limits, index, n, &mut batch)
 }
 
 // The index of a log, afresh.

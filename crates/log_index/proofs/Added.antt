@@ -47,11 +47,11 @@ list-front (suc k) (e ∷ es) a b h l =
 
 -- ---- and so do their rows
 
-ahead-none : (g : Gathered) → ahead [] g ≡ g
+pub ahead-none : (g : Gathered) → ahead [] g ≡ g
 ahead-none (gathered rs) = refl
 ahead-none (stopped n) = refl
 
-ahead-both : (a b : List Row) (g : Gathered) → ahead a (ahead b g) ≡ ahead (a ++ b) g
+pub ahead-both : (a b : List Row) (g : Gathered) → ahead a (ahead b g) ≡ ahead (a ++ b) g
 ahead-both a b (gathered rs) = ap gathered (sym (append-assoc a b rs))
 ahead-both a b (stopped n) = refl
 

@@ -9,3 +9,5 @@ pub mod Gathers
 pub mod Fresh
 pub mod Added
 pub mod Once
+pub mod Merges
+pub mod Batches

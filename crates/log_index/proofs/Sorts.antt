@@ -131,7 +131,7 @@ abbrev pub putAll : List Row → List Row → List Row
 putAll l [] = l
 putAll l (r ∷ rs) = putAll (put r l) rs
 
-put-first : (r : Row) (l rs : List Row) → putAll (put r l) rs ≡ put r (putAll l rs)
+pub put-first : (r : Row) (l rs : List Row) → putAll (put r l) rs ≡ put r (putAll l rs)
 put-first r l [] = refl
 put-first r l (x ∷ rs) = ap (λ (m : List Row). putAll m rs) (put-swap x r l) ∙ put-first r (put x l) rs
 

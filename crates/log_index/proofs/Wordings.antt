@@ -64,7 +64,7 @@ module _ (l : List Row) (t : List ℕ) (r : Row) where
   pub words-all : length w ≡ 3 * length l + length t
   words-all = length-append (wordsOf l) t ∙ ap (λ (k : ℕ). k + length t) (words-length l)
 
-  moved : (k : ℕ) → k ≤ length l → take (3 * length l - 3 * k) (drop (3 * k) w) ≡ wordsOf (drop k l)
+  pub moved : (k : ℕ) → k ≤ length l → take (3 * length l - 3 * k) (drop (3 * k) w) ≡ wordsOf (drop k l)
   moved k h =
       let a = wordsOf (drop k l) in
       let e : length a ≡ 3 * length l - 3 * k = words-length (drop k l) ∙ (let d = length-drop k l in omega (arith, d)) in
@@ -73,7 +73,7 @@ module _ (l : List Row) (t : List ℕ) (r : Row) where
   behind : (m : ℕ) → drop (3 * length l + m) w ≡ drop m t
   behind m = sym (drop-drop m (3 * length l) w) ∙ ap (drop m) (drop-at (wordsOf l) t (3 * length l) (words-length l))
 
-  pub inserted-words : (k : ℕ) → k ≤ length l → 3 ≤ length t → inserted w k (length l) r ≡ wordsOf (take k l ++ (r ∷ drop k l)) ++ drop 3 t
+  pub inserted-words : (k : ℕ) → k ≤ length l → 3 ≤ length t → inserted w k (length l) 0 r ≡ wordsOf (take k l ++ (r ∷ drop k l)) ++ drop 3 t
   unfolding inserted wordsOf
   inserted-words k h room =
       let b = wordsOf (r ∷ drop k l) in
@@ -81,7 +81,8 @@ module _ (l : List Row) (t : List ℕ) (r : Row) where
       let e : length b ≡ 3 * suc (length l - k) = words-length (r ∷ drop k l) ∙ (let q : 3 * suc (length (drop k l)) ≡ 3 * suc (length l - k) = omega (arith, d) in q) in
       let f : 3 * k + length b ≤ length w = omega (arith, e, words-all) in
       let g : 3 * k + length b ≡ 3 * length l + 3 = omega (arith, e) in
-      ap (λ (u : List ℕ). overlay w (3 * k) (r .sender ∷ r .sequence ∷ r .place ∷ u)) (moved k h)
+      let z : 3 * (k + 0) ≡ 3 * k = omega arith in
+      (λ j. overlay w (z j) (r .sender ∷ r .sequence ∷ r .place ∷ moved k h j))
       ∙ overlay-eq w (3 * k) b f
       ∙ (λ j. take-words l t k h j ++ b ++ drop (g j) w)
       ∙ (λ j. sym (words-append (take k l) (r ∷ drop k l)) j ++ behind 3 j)

@@ -8,3 +8,7 @@ maxIndex = 4_096
 -- index full
 abbrev pub full : ℕ
 full = 44
+
+-- how many rows are sorted among themselves before they are merged
+abbrev pub batchRows : ℕ
+batchRows = 64

@@ -1,13 +1,15 @@
 -- An index in lent words, three a row. For words that are no index this says what comes of them all the same. Definitions only.
+use mathlib.Core.Path.{_≡_}
 use mathlib.Core.Bool.{Bool, _&&_}
 use mathlib.Core.Option.{Option, none, some}
 use mathlib.Core.List.{List, [], _∷_, _++_}
-use Prim.Native.Nat.{ℕ, zero, suc, _+_, _-_, _*_, _/_, min}
-use lib.Dec.{ltb}
+use Prim.Native.Nat.{ℕ, zero, suc, _+_, _-_, _*_, _/_, _≤_, min}
+use lib.Dec.{ltb, leb}
 use lib.ListN.{length, getD, take, drop}
 use Rattle.wire.specs.Choice.{pick}
 use Rattle.wire.specs.Overlay.{overlay}
-use Rattle.log_index.specs.Rows.{Row, rowOf, earlier, isOf}
+use Rattle.log_index.specs.Limits.{batchRows}
+use Rattle.log_index.specs.Rows.{Row, rowOf, earlier, sorted, isOf}
 use Rattle.log_index.specs.declared.Found.{Found}
 use Rattle.log_index.specs.declared.Found.the-variants.{At, Nowhere}
 
@@ -35,23 +37,54 @@ halve (suc k) p low high =
 unfoldable pub rankIn : List ℕ → ℕ → Row → ℕ
 rankIn w n r = halve n (λ i. earlier (rowAt w i) r) 0 n
 
--- ---- a row goes in: those behind its place move up by one
+-- ---- a row goes in
 
--- the words from a place up to another, three further up
-abbrev pub movedUp : List ℕ → ℕ → ℕ → List ℕ
-movedUp w from to = overlay w (from + 3) (take (to - from) (drop from w))
+-- the words from a place up to another, so many further up
+abbrev pub movedUp : List ℕ → ℕ → ℕ → ℕ → List ℕ
+movedUp w from to by = overlay w (from + by) (take (to - from) (drop from w))
 
-unfoldable pub inserted : List ℕ → ℕ → ℕ → Row → List ℕ
-inserted w at n r = overlay w (3 * at) (r .sender ∷ r .sequence ∷ r .place ∷ take (3 * n - 3 * at) (drop (3 * at) w))
+-- k rows above a place, and those from the place up to the n-th behind it; so there is room for k rows that come before it
+unfoldable pub inserted : List ℕ → ℕ → ℕ → ℕ → Row → List ℕ
+inserted w at n k r = overlay w (3 * (at + k)) (r .sender ∷ r .sequence ∷ r .place ∷ take (3 * n - 3 * at) (drop (3 * at) w))
 
--- where there are words for it
+-- at its place, where there are words for it
 unfoldable pub entered : List ℕ → ℕ → Row → List ℕ
-entered w n r = pick (ltb n (length w / 3)) (inserted w (rankIn w n r) n r) w
+entered w n r = pick (ltb n (length w / 3)) (inserted w (rankIn w n r) n 0 r) w
 
 -- one row after another
 unfoldable pub enteredAll : List ℕ → ℕ → List Row → List ℕ
 enteredAll w n [] = w
 enteredAll w n (r ∷ rs) = enteredAll (entered w n r) (n + 1) rs
+
+-- ---- a batch of sorted rows goes in, from the last on: each at its place among the first n, and what stands behind it moves once
+
+unfoldable pub mergedBy : ℕ → List ℕ → List ℕ → ℕ → List ℕ
+mergedBy zero batch w n = w
+mergedBy (suc j) batch w n = mergedBy j batch (inserted w (rankIn w n (rowAt batch j)) n j (rowAt batch j)) (rankIn w n (rowAt batch j))
+
+-- a turn of it
+pub record MergesOne (w : List ℕ) (n : ℕ) (batch : List ℕ) (j at : ℕ) (w′ : List ℕ) : Type 0 where
+  pub place : at ≡ rankIn w n (rowAt batch j)
+  pub within : at ≤ n
+  pub size : length w′ ≡ length w
+  pub words : w′ ≡ inserted w (rankIn w n (rowAt batch j)) n j (rowAt batch j)
+
+-- the first m rows of a batch, where both have words for them
+unfoldable pub merged : List ℕ → ℕ → List ℕ → ℕ → List ℕ
+merged w n batch m = pick (leb m (length batch / 3) && leb (n + m) (length w / 3)) (mergedBy m batch w n) w
+
+-- ---- rows go in a batch at a time, sorted among themselves and then merged
+
+unfoldable pub mergedRows : List ℕ → ℕ → List Row → List ℕ
+mergedRows w n rs = merged w n (wordsOf (sorted rs)) (length rs)
+
+unfoldable pub addedBy : ℕ → List ℕ → ℕ → List Row → List ℕ
+addedBy zero w n rs = w
+addedBy (suc k) w n rs = addedBy k (mergedRows w n (take batchRows rs)) (n + length (take batchRows rs)) (drop batchRows rs)
+
+-- there are no more batches than rows
+unfoldable pub added : List ℕ → ℕ → List Row → List ℕ
+added w n rs = addedBy (length rs) w n rs
 
 -- ---- a key is found: the first row that is not before it is one of its own, or there is none
 

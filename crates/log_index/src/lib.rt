@@ -7,10 +7,13 @@ ghost use lib.Dec.{ltb};
 ghost use lib.ListN.{length};
 ghost use Rattle.log_index.specs.Limits.{maxIndex};
 ghost use Rattle.log_index.specs.Rows.{rowOf, earlier, isOf};
-ghost use Rattle.log_index.specs.Words.{rowAt, rankIn, movedUp, inserted, entered, held, foundIn, says};
+ghost use Rattle.log_index.specs.Words.{rowAt, rankIn, movedUp, inserted, entered, mergedBy, merged, MergesOne, held, foundIn, says};
 
 // The most rows of an index.
 pub const MAX_INDEX: usize = 4096;
+
+// How many rows are sorted among themselves before they are merged.
+pub const BATCH: usize = 64;
 
 // Index full.
 pub const FULL: u32 = 44;
@@ -56,28 +59,28 @@ fn rank(index: &[u64], n: usize, sender: u64, sequence: u64, place: u64) -> usiz
     low
 }
 
-// The words from a place up to the end of the n rows move up by a row's three.
-fn move_up(index: &mut [u64], from: usize, to: usize)
-    requires { ⌜ (from ≤ to) × (to + 3 ≤ length (now index)) ⌝ }
-    ensures { λ _. ⌜ now (index .exit) ≡ movedUp (now (index .entry)) from to ⌝ }
+// The words from a place up to another move up by so many.
+fn move_up(index: &mut [u64], from: usize, to: usize, by: usize)
+    requires { ⌜ (from ≤ to) × ((1 ≤ by) × (to + by ≤ length (now index))) ⌝ }
+    ensures { λ _. ⌜ now (index .exit) ≡ movedUp (now (index .entry)) from to by ⌝ }
 {
     let mut i = to;
     while from < i {
-        index[i + 2] = index[i - 1];
         i -= 1;
+        index[i + by] = index[i];
     }
 }
 
-// A row goes to its place among the first n.
-fn insert(index: &mut [u64], at: usize, n: usize, sender: u64, sequence: u64, place: u64)
-    requires { ⌜ (at ≤ n) × (3 * n + 3 ≤ length (now index)) ⌝ }
-    ensures { λ _. ⌜ now (index .exit) ≡ inserted (now (index .entry)) at n (rowOf sender sequence place) ⌝ }
+// A row goes k rows above a place, and those from the place up to the n-th behind it.
+fn insert(index: &mut [u64], at: usize, n: usize, k: usize, sender: u64, sequence: u64, place: u64)
+    requires { ⌜ (at ≤ n) × (3 * n + 3 * k + 3 ≤ length (now index)) ⌝ }
+    ensures { λ _. ⌜ now (index .exit) ≡ inserted (now (index .entry)) at n k (rowOf sender sequence place) ⌝ }
 {
-    let from = 3 * at;
-    move_up(&mut *index, from, 3 * n);
-    index[from + 2] = place;
-    index[from + 1] = sequence;
-    index[from] = sender;
+    let to = 3 * (at + k);
+    move_up(&mut *index, 3 * at, 3 * n, 3 * k + 3);
+    index[to + 2] = place;
+    index[to + 1] = sequence;
+    index[to] = sender;
 }
 
 // A row enters an index of n rows, where there are words for it.
@@ -86,8 +89,51 @@ pub fn enter(index: &mut [u64], n: usize, sender: u64, sequence: u64, place: u64
 {
     if n < index.len() / 3 {
         let at = rank(&*index, n, sender, sequence, place);
-        insert(index, at, n, sender, sequence, place);
+        insert(index, at, n, 0, sender, sequence, place);
     }
+}
+
+// Row j of a batch goes to its place among the first n rows, j rows above it; answers its place.
+fn merge_one(index: &mut [u64], n: usize, batch: &[u64], j: usize) -> usize
+    requires { ⌜ (3 * j + 3 ≤ length (now batch)) × (3 * n + 3 * j + 3 ≤ length (now index)) ⌝ }
+    ensures { λ r. ⌜ MergesOne (now (index .entry)) n (now (batch .entry)) j r (now (index .exit)) ⌝ }
+{
+    let k = 3 * j;
+    let sender = batch[k];
+    let sequence = batch[k + 1];
+    let place = batch[k + 2];
+    let at = rank(&*index, n, sender, sequence, place);
+    insert(index, at, n, j, sender, sequence, place);
+    at
+}
+
+// The sorted rows of a batch go in from the last on, so that what stands behind them moves once.
+fn merge_all(index: &mut [u64], n: usize, batch: &[u64], m: usize)
+    requires { ⌜ (3 * m ≤ length (now batch)) × (3 * n + 3 * m ≤ length (now index)) ⌝ }
+    ensures { λ _. ⌜ now (index .exit) ≡ mergedBy m (now (batch .entry)) (now (index .entry)) n ⌝ }
+{
+    let mut high = n;
+    let mut j = m;
+    while 0 < j {
+        j -= 1;
+        high = merge_one(index, high, batch, j);
+    }
+}
+
+// The first m rows of a batch go into an index of n rows, where both have words for them.
+pub fn merge(index: &mut [u64], n: usize, batch: &[u64], m: usize)
+    ensures { λ _. ⌜ now (index .exit) ≡ merged (now (index .entry)) n (now (batch .entry)) m ⌝ }
+{
+    if batch.len() / 3 < m {
+        return;
+    }
+    if index.len() / 3 < m {
+        return;
+    }
+    if index.len() / 3 - m < n {
+        return;
+    }
+    merge_all(index, n, batch, m);
 }
 
 // Row i, of those before n, has a key.

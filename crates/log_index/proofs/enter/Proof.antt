@@ -25,7 +25,7 @@ unfolding entered
 returns c =
     let a = c .before .before .before .before .before .before .before .before .args in
     rw (lt-ltb _ _ (c .before .before .before .before .before .before .if1 .taken))
-    (c .before .before .insert .ensures ∙ ap (λ (k : ℕ). inserted (a .index .now) k (a .n) (rowOf (a .sender) (a .sequence) (a .place))) (c .before .before .before .before .rank .ensures .0))
+    (c .before .before .insert .ensures ∙ ap (λ (k : ℕ). inserted (a .index .now) k (a .n) 0 (rowOf (a .sender) (a .sequence) (a .place))) (c .before .before .before .before .rank .ensures .0))
 
 returns-2 : tie.Need-returns-2
 unfolding entered

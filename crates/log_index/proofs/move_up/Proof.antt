@@ -14,18 +14,18 @@ use Rattle.log_index.proofs.move_up.Tie as tie
 -- The loop: the words from the place on have moved. Assumes nothing.
 
 abbrev Inv-loop : tie.InvT-loop
-Inv-loop index₀ from to i₀ index i = (from ≤ i) × ((i ≤ to) × ((length index ≡ length index₀) × (index ≡ movedUp index₀ i to)))
+Inv-loop index₀ from to by i₀ index i = (from ≤ i) × ((i ≤ to) × ((length index ≡ length index₀) × (index ≡ movedUp index₀ i to by)))
 
 abbrev μ-loop : tie.MeasureT-loop
-μ-loop index₀ from to i₀ index i = i
+μ-loop index₀ from to by i₀ index i = i
 
 loop-holds : tie.Need-loop-holds Inv-loop μ-loop
 loop-holds c =
     let a = c .args in
-    (omega arith, (omega arith, (refl, sym (moved-none (a .index .now) (a .to)))))
+    (omega arith, (omega arith, (refl, sym (moved-none (a .index .now) (a .to) (a .by)))))
 
-sub-index : tie.Need-sub-index Inv-loop μ-loop
-sub-index c = search needs
+sub-i : tie.Need-sub-i Inv-loop μ-loop
+sub-i c = search needs
 
 mul-index : tie.Need-mul-index Inv-loop μ-loop
 mul-index c = search needs
@@ -34,16 +34,15 @@ slice-read-index : tie.Need-slice-read-index Inv-loop μ-loop
 slice-read-index c = search needs
 
 add-index : tie.Need-add-index Inv-loop μ-loop
-add-index c = search needs
+add-index c = omega (arith, c .before .before .before .pre .1 .1)
 
 mul-index-2 : tie.Need-mul-index-2 Inv-loop μ-loop
 mul-index-2 c = search needs
 
 slice-write-index : tie.Need-slice-write-index Inv-loop μ-loop
-slice-write-index c = search needs
-
-sub-i : tie.Need-sub-i Inv-loop μ-loop
-sub-i c = search needs
+slice-write-index c =
+    let l = c .before .before .loop in
+    omega (arith, c .before .before .before .pre .1 .1, l .inv .1 .0, l .inv .1 .1 .0, c .before .loop-test .taken)
 
 loop-less : tie.Need-loop-less Inv-loop μ-loop
 loop-less c = search needs
@@ -52,9 +51,10 @@ loop-again : tie.Need-loop-again Inv-loop μ-loop
 loop-again c =
     let a = c .before .before .before .args in
     let l = c .before .before .loop in
+    let q = c .before .before .before .pre in
     let e = l .inv .1 .1 .1 in
-    let s = (λ j. set (e j) (l .i + 2) (getD (e j) (l .i - 1) 0)) ∙ moved-next (a .index .now) (l .i) (a .to) (omega arith) (omega arith) (omega arith) in
-    (omega arith, (omega arith, (ap length s ∙ moved-length (a .index .now) (l .i - 1) (a .to), s)))
+    let s = (λ j. set (e j) (l .i - 1 + a .by) (getD (e j) (l .i - 1) 0)) ∙ moved-next (a .index .now) (l .i) (a .to) (a .by) (omega (arith, c .before .loop-test .taken)) (l .inv .1 .0) (q .1 .0) (q .1 .1) in
+    (omega (arith, c .before .loop-test .taken), (omega (arith, l .inv .1 .0), (ap length s ∙ moved-length (a .index .now) (l .i - 1) (a .to) (a .by), s)))
 
 same-length : tie.Need-same-length Inv-loop μ-loop
 same-length c = search needs
@@ -64,7 +64,7 @@ returns c =
     let l = c .before .loop in
     let a = c .before .before .args in
     let e : l .i ≡ a .from = omega arith in
-    l .inv .1 .1 .1 ∙ ap (λ (k : ℕ). movedUp (a .index .now) k (a .to)) e
+    l .inv .1 .1 .1 ∙ ap (λ (k : ℕ). movedUp (a .index .now) k (a .to) (a .by)) e
 
 pub move-up-spec : {M : Type 1} → statement M
 move-up-spec =
@@ -73,13 +73,12 @@ move-up-spec =
     Inv-loop
     μ-loop
     loop-holds
-    sub-index
+    sub-i
     mul-index
     slice-read-index
     add-index
     mul-index-2
     slice-write-index
-    sub-i
     loop-less
     loop-again
     same-length

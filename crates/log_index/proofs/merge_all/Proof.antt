@@ -1,0 +1,62 @@
+-- The loop: what is merged and what is to be merged are all. Assumes nothing.
+use mathlib.Core.Path.{_≡_, refl, sym, ap, _∙_}
+use Prim.Native.Nat.{ℕ, _+_, _*_, _-_, _≤_}
+use native.Mathlib.Omega.{arith}
+use lib.ListN.{length}
+use Rattle.log_index.specs.Words.{mergedBy}
+use Rattle.log_index.proofs.Merges.{merged-turn, merged-end}
+use borrow.Author.Needs.{needs}
+use Rattle.log_index.proofs.merge_all.Statement.{statement}
+use Rattle.log_index.proofs.merge_all.Tie as tie
+
+-- The loop: what is merged and what is to be merged are all. Assumes nothing.
+
+abbrev Inv-loop : tie.InvT-loop
+Inv-loop index₀ n batch m high₀ j₀ index high j = (j ≤ m) × ((high ≤ n) × ((length index ≡ length index₀) × (mergedBy j batch index high ≡ mergedBy m batch index₀ n)))
+
+abbrev μ-loop : tie.MeasureT-loop
+μ-loop index₀ n batch m high₀ j₀ index high j = j
+
+loop-holds : tie.Need-loop-holds Inv-loop μ-loop
+loop-holds c = (omega arith, (omega arith, (refl, refl)))
+
+sub-j : tie.Need-sub-j Inv-loop μ-loop
+sub-j c = search needs
+
+merge-one-requires : tie.Need-merge-one-requires Inv-loop μ-loop
+merge-one-requires c κs =
+    let l = c .before .before .loop in
+    let p = c .before .before .before .before .before .pre in
+    (omega (arith, p .0, l .inv .0, c .before .loop-test .taken), omega (arith, p .1, l .inv .0, l .inv .1 .0, l .inv .1 .1 .0, c .before .loop-test .taken))
+
+loop-less : tie.Need-loop-less Inv-loop μ-loop
+loop-less c = search needs
+
+loop-again : tie.Need-loop-again Inv-loop μ-loop
+loop-again c =
+    let l = c .before .before .before .before .before .loop in
+    let m = c .before .before .merge-one .ensures in
+    let h = c .before .before .before .before .loop-test .taken in
+    (omega (arith, l .inv .0), (omega (arith, m .within, l .inv .1 .0), (m .size ∙ l .inv .1 .1 .0, merged-turn (l .j) (l .high) _ _ (l .index) _ h m ∙ l .inv .1 .1 .1)))
+
+same-length : tie.Need-same-length Inv-loop μ-loop
+same-length c = c .before .loop .inv .1 .1 .0
+
+returns : tie.Need-returns Inv-loop μ-loop
+returns c =
+    let l = c .before .loop in
+    merged-end (l .j) (l .high) _ (l .index) (c .loop-test .left) ∙ l .inv .1 .1 .1
+
+pub merge-all-spec : {M : Type 1} → statement M
+merge-all-spec =
+    tie.close
+    (tie.spec
+    Inv-loop
+    μ-loop
+    loop-holds
+    sub-j
+    merge-one-requires
+    loop-less
+    loop-again
+    same-length
+    returns)
