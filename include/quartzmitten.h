@@ -145,11 +145,13 @@ qm_u32 qm_log_next(const qm_byte *log, qm_size length, qm_size at, qm_u64 *entry
    A host lends a state, names, a store and a ledger, always the same, and changes nothing in them between calls. qm_open makes the state and the names;
    the store and the ledger need no beginning. Each sender has a number of the host's own choice. */
 
-#define QM_SLOTS 8                 /* how many messages may be open at once */
+/* How many messages may be open at once; the largest payload, in bytes; the most fragments of a message; the longest name, in bytes. */
+#define QM_SLOTS 8
 #define QM_MAX_PAYLOAD 262144
 #define QM_MAX_FRAGMENTS 256
 #define QM_MAX_NAME 63
-#define QM_MEMORY_SENDERS 16       /* for how many senders delivered keys are remembered, and how many keys of each */
+/* For how many senders delivered keys are remembered, and how many keys of each. */
+#define QM_MEMORY_SENDERS 16
 #define QM_MEMORY_KEYS 32
 
 /* Words (64 bits): the head, a block for each slot with its held fragments as bits, and the memory of keys. */
@@ -179,11 +181,8 @@ enum {
     QM_OUTCOME            /* seven */
 };
 
-#define QM_ANSWER_KEPT 1
-#define QM_ANSWER_REPEAT 2
-#define QM_ANSWER_DELIVERED 3
-#define QM_IN_DATAGRAM 1
-#define QM_IN_STORE 2
+enum { QM_ANSWER_KEPT = 1, QM_ANSWER_REPEAT, QM_ANSWER_DELIVERED };
+enum { QM_IN_DATAGRAM = 1, QM_IN_STORE };
 
 /* Receives one datagram of a sender.
 
@@ -201,14 +200,18 @@ qm_u32 qm_forget(qm_u64 *state, qm_size state_length, qm_byte *names, qm_size na
 /* The sequence watch: what a sender's number says about those between. Two lent lists are a watch: how many senders it has seen and the senders, and the
    last number of each. Filled with zeros they are a watch that has seen nobody. */
 
+/* The numbers of `lasts`, and those of `senders`. */
 #define QM_WATCH_SENDERS 16
-#define QM_WATCH (1 + QM_WATCH_SENDERS) /* numbers of `senders`; `lasts` has QM_WATCH_SENDERS */
+#define QM_WATCH (1 + QM_WATCH_SENDERS)
 
-#define QM_WATCH_FIRST 1       /* the sender's first number */
-#define QM_WATCH_FORWARD 2     /* so many are missing before it */
-#define QM_WATCH_SAME 3        /* its last number again */
-#define QM_WATCH_LATE 4        /* so many behind its last, 1,024 at most */
-#define QM_WATCH_RESTARTED 5   /* further behind: the sender began anew, at this number */
+/* What the watch says. */
+enum {
+    QM_WATCH_FIRST = 1,    /* the sender's first number */
+    QM_WATCH_FORWARD,      /* so many are missing before it */
+    QM_WATCH_SAME,         /* its last number again */
+    QM_WATCH_LATE,         /* so many behind its last, 1,024 at most */
+    QM_WATCH_RESTARTED     /* further behind: the sender began anew, at this number */
+};
 
 /* Asks what a sender's number says, and moves its watch there unless it is QM_WATCH_SAME or QM_WATCH_LATE.
 
