@@ -35,7 +35,7 @@ static void say_mark(u64 version, u64 pit, int sure, int place) {
     if (version == 2) say((i64) below(300));
 }
 
-/* A PitList of pits from `first` on, or of some below 12. Answers the message's length. */
+/* A PitList of pits from `first` on, or of some from 1 to 12: never 0, so that a null mark taken for a pit shows. Answers the message's length. */
 static u64 pit_list(u64 tile, u64 marks, int rising, u64 first) {
     u64 version = between(1, 2), length = 0;
     numbers = 0;
@@ -45,7 +45,7 @@ static u64 pit_list(u64 tile, u64 marks, int rising, u64 first) {
     say((i64) marks);
     for (u64 i = 0; i < marks; i++) {
         if (!rising && chance(15)) say(0);
-        else say_mark(version, rising ? first + i : below(12), chance(40), !rising && chance(60));
+        else say_mark(version, rising ? first + i : 1 + below(12), chance(40), !rising && chance(60));
     }
     if (ref_write_message(list, numbers, chance(80), message, &length) != 0) return 0;
     return length;

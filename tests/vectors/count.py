@@ -204,7 +204,7 @@ def cases():
     out.extend((50, d) for tile in nine[1:] + nine[:1] for d in tile[1:])
     # a tile as large as can be, in the longest datagrams; many of its marks come twice
     large = pits_message(2**31, [(i % 4096, i % 7 == 0) for i in range(5576)] + [NULL] * 37, 2, place=lambda pit: True)
-    assert len(large) == messages.LIMIT
+    assert len(large) == 262144
     out.extend((60, d) for d in cut(60_000, b"TILE", large, 65507))
     return out
 

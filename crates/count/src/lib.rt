@@ -1,10 +1,27 @@
 // The count of a flight: one log through a fresh receiver, and for each tile its distinct pits and how many of them were marked sure.
+ghost use mathlib.Core.Path.{_≡_};
+ghost use mathlib.Core.List.{List};
+ghost use Prim.Native.Nat.{ℕ, _<_, _^_};
+ghost use lib.Dec.{eqb};
+ghost use lib.ListN.{getD};
+ghost use Rattle.wire.specs.Choice.{pick};
+ghost use Rattle.steps.specs.Answers.{reply};
+ghost use Rattle.log.specs.Listed.{entriesIn, whole};
+ghost use Rattle.log.specs.Entries.{Entry};
+ghost use Rattle.log.specs.Told.{entrySaid};
+ghost use Rattle.counting.specs.Count.{noReport, reported};
+ghost use Rattle.counting.specs.Marks.{PitList};
+ghost use Rattle.counting.specs.Report.{report};
+ghost use Rattle.pit_marks.specs.Sets.{Has};
+ghost use Rattle.count.specs.Counts.{counted, Counts};
+ghost use Rattle.count.specs.Inside.{surveyOf, surveyEnd, Few, oneMore, toldOf, ran, noTotals, noSizes, TakesList, TakesPayload, TakesAnswer, TakesEntry, Begins, Whole, Walks, reportWith};
 use lmcp::Found;
 use log::EntryAt;
 use log::Step;
 use pit_marks::Sizes;
 use pit_marks::Taken;
 use steps::Answer as Told;
+use steps::PayloadAt;
 
 // The most entries of a log, tiles of a report, and pits of all tiles.
 pub const MAX_ENTRIES: u64 = 4096;
@@ -63,52 +80,93 @@ struct Totals {
     lists: u64,
 }
 
-// How far the count has come: the totals, what the sets hold, and the refusal that ended it, or 0.
+// How far the count has come: the refusal that ended it, or 0, the totals, and what the sets hold.
 struct Ran {
     fault: u32,
     totals: Totals,
     sizes: Sizes,
 }
 
-fn survey(log: &[u8]) -> Surveyed {
+// ---- the whole log
+
+// By the step that ended the reading after n entries.
+fn ended(step: Step, n: u64) -> Surveyed
+    ensures { λ r. ⌜ r ≡ surveyEnd step n ⌝ }
+{
+    match step {
+        Step::Found(_) => Surveyed::Entries(n),
+        Step::Refused(e) => Surveyed::Refused(e),
+        Step::End => {
+            if MAX_ENTRIES < n {
+                return Surveyed::Refused(TOO_MANY);
+            }
+            Surveyed::Entries(n)
+        }
+    }
+}
+
+fn survey(log: &[u8]) -> Surveyed
+    ensures { λ r. ⌜ r ≡ surveyOf (entriesIn (now (log .entry))) ⌝ }
+{
     let mut place: usize = 0;
     let mut n: u64 = 0;
     loop {
         let step = log::read_on(log, place);
-        match step {
-            Step::Found(entry) => {
-                place = entry.next;
-                n += 1;
-            }
-            Step::Refused(e) => return Surveyed::Refused(e),
-            Step::End => {
-                if MAX_ENTRIES < n {
-                    return Surveyed::Refused(TOO_MANY);
-                }
-                return Surveyed::Entries(n);
-            }
-        }
+        let Step::Found(entry) = step else {
+            return ended(step, n);
+        };
+        place = entry.next;
+        n += 1;
     }
 }
 
-// One answer more.
-fn told(t: Totals, answer: Told) -> Totals {
-    let mut after = t;
-    match answer {
-        Told::Kept => after.kept += 1,
-        Told::Repeat => after.repeated += 1,
-        Told::Delivered(_, _) => after.delivered += 1,
-        Told::Refused(number) => {
-            let k = number as usize;
-            if k < REFUSALS {
-                after.refused[k] += 1;
-            }
-        }
+// ---- the totals
+
+// One refusal more, by that number.
+fn one_refused(by: [u64; REFUSALS], number: u32) -> [u64; REFUSALS]
+    requires { ⌜ ((k : ℕ) → getD by k 0 < 2 ^ 32) ⌝ }
+    ensures { λ r. ⌜ r ≡ oneMore by number ⌝ }
+{
+    let mut after = by;
+    let k = number as usize;
+    if k < REFUSALS {
+        after[k] += 1;
+        return after;
     }
     after
 }
 
-// One list more.
+// One answer more.
+fn told(t: Totals, answer: Told) -> Totals
+    requires { ⌜ Few t ⌝ }
+    ensures { λ r. ⌜ r ≡ toldOf t answer ⌝ }
+{
+    let mut after = t;
+    match answer {
+        Told::Kept => {
+            after.kept += 1;
+            return after;
+        }
+        Told::Repeat => {
+            after.repeated += 1;
+            return after;
+        }
+        Told::Delivered(_, _) => {
+            after.delivered += 1;
+            return after;
+        }
+        Told::Refused(number) => {
+            let by = t.refused;
+            let more = one_refused(by, number);
+            after.refused = more;
+            return after;
+        }
+    }
+}
+
+// ---- one list, one payload
+
+// One list more, of those numbers, if they are a list's.
 fn one_list(
     list: &[i64],
     tiles: &mut [u64],
@@ -116,7 +174,10 @@ fn one_list(
     sure: &mut [u64],
     totals: Totals,
     sizes: Sizes,
-) -> Ran {
+) -> Ran
+    requires { ⌜ Few totals ⌝ }
+    ensures { λ r. ⌜ TakesList (now (list .entry)) (now (tiles .entry)) (now (pits .entry)) (now (sure .entry)) totals sizes r (now (tiles .exit)) (now (pits .exit)) (now (sure .exit)) ⌝ }
+{
     if !pit_marks::is_list(list) {
         return Ran {
             fault: 0,
@@ -143,6 +204,13 @@ fn one_list(
     }
 }
 
+// What stands against a message that was not read: only that the number list is too short for it.
+fn fault_of(e: u32) -> u32
+    ensures { λ r. ⌜ r ≡ pick (eqb e 13) 13 0 ⌝ }
+{
+    if e == LIST_SHORT { e } else { 0 }
+}
+
 // One payload more: only a message that is accepted is looked into.
 fn one_payload(
     payload: &[u8],
@@ -152,23 +220,71 @@ fn one_payload(
     sure: &mut [u64],
     totals: Totals,
     sizes: Sizes,
-) -> Ran {
-    let found = lmcp_reader::read_message(payload, numbers);
+) -> Ran
+    requires { ⌜ Few totals ⌝ }
+    ensures { λ r. ⌜ TakesPayload (now (payload .entry)) (now (numbers .entry)) (now (tiles .entry)) (now (pits .entry)) (now (sure .entry)) totals sizes r (now (numbers .exit)) (now (tiles .exit)) (now (pits .exit)) (now (sure .exit)) ⌝ }
+{
+    let found = lmcp_reader::read_message(payload, &mut *numbers);
     match found {
         Found::Numbers(n) => one_list(&numbers[..n], tiles, pits, sure, totals, sizes),
-        Found::Refused(e) => {
-            let fault: u32 = if e == LIST_SHORT { e } else { 0 };
-            Ran {
-                fault,
-                totals,
-                sizes,
-            }
-        }
+        Found::Refused(e) => Ran {
+            fault: fault_of(e),
+            totals,
+            sizes,
+        },
     }
 }
 
-// One entry more.
+// ---- one entry
+
+// What was delivered, if anything, is read where it lies.
+fn one_answer(
+    answer: Told,
+    store: &[u8],
+    d: &[u8],
+    numbers: &mut [i64],
+    tiles: &mut [u64],
+    pits: &mut [u64],
+    sure: &mut [u64],
+    totals: Totals,
+    sizes: Sizes,
+) -> Ran
+    requires { ⌜ Few totals ⌝ }
+    ensures { λ r. ⌜ TakesAnswer (reply (now (d .entry)) (now (store .entry)) answer) (now (numbers .entry)) (now (tiles .entry)) (now (pits .entry)) (now (sure .entry)) totals sizes r (now (numbers .exit)) (now (tiles .exit)) (now (pits .exit)) (now (sure .exit)) ⌝ }
+{
+    let Told::Delivered(place, n) = answer else {
+        return Ran {
+            fault: 0,
+            totals,
+            sizes,
+        };
+    };
+    match place {
+        PayloadAt::InDatagram(at) => one_payload(
+            wire::part(d, at, n),
+            numbers,
+            tiles,
+            pits,
+            sure,
+            totals,
+            sizes,
+        ),
+        PayloadAt::InStore(at) => one_payload(
+            wire::part(store, at, n),
+            numbers,
+            tiles,
+            pits,
+            sure,
+            totals,
+            sizes,
+        ),
+    }
+}
+
+// One entry more: its datagram is received from its sender.
 fn one_entry(
+    log: &[u8],
+    entry: EntryAt,
     state: &mut [u64],
     names: &mut [u8],
     store: &mut [u8],
@@ -177,26 +293,25 @@ fn one_entry(
     tiles: &mut [u64],
     pits: &mut [u64],
     sure: &mut [u64],
-    sender: u64,
-    d: &[u8],
-    before: Totals,
+    totals: Totals,
     sizes: Sizes,
-) -> Ran {
-    let outcome = receiver::receive(state, names, store, ledger, sender, d);
+) -> Ran
+    requires { ⌜ Few totals ⌝ }
+    ensures { λ r. ⌜ TakesEntry (entrySaid (now (log .entry)) entry) (now (state .entry)) (now (names .entry)) (now (store .entry)) (now (ledger .entry)) (now (numbers .entry)) (now (tiles .entry)) (now (pits .entry)) (now (sure .entry)) totals sizes r
+        (now (state .exit)) (now (names .exit)) (now (store .exit)) (now (ledger .exit)) (now (numbers .exit)) (now (tiles .exit)) (now (pits .exit)) (now (sure .exit)) ⌝ }
+{
+    let d = wire::part(log, entry.at, entry.len);
+    let outcome = receiver::receive(state, names, &mut *store, ledger, entry.sender, d);
     let answer = outcome.answer;
-    let totals = told(before, answer);
-    let Told::Delivered(_, _) = answer else {
-        return Ran {
-            fault: 0,
-            totals,
-            sizes,
-        };
-    };
-    let payload = receiver::payload(outcome, store, d);
-    one_payload(payload, numbers, tiles, pits, sure, totals, sizes)
+    let after = told(totals, answer);
+    one_answer(answer, &*store, d, numbers, tiles, pits, sure, after, sizes)
 }
 
-fn nothing() -> Ran {
+// ---- all entries
+
+fn nothing() -> Ran
+    ensures { λ r. ⌜ r ≡ ran 0 noTotals noSizes ⌝ }
+{
     Ran {
         fault: 0,
         totals: Totals {
@@ -225,38 +340,47 @@ fn walk(
     tiles: &mut [u64],
     pits: &mut [u64],
     sure: &mut [u64],
-) -> Ran {
+) -> Ran
+    requires { ⌜ Begins (now log) (now state) (now names) (now store) (now ledger) (now numbers) (now tiles) (now pits) (now sure) ⌝ }
+    ensures { λ r. ⌜ ((es : List Entry) → entriesIn (now (log .entry)) ≡ whole es → Walks (now (store .entry)) (now (ledger .entry)) (now (numbers .entry)) es r
+        (now (store .exit)) (now (ledger .exit)) (now (numbers .exit)) (now (tiles .exit)) (now (pits .exit)) (now (sure .exit))) ⌝ }
+{
     let mut place: usize = 0;
-    let mut ran = nothing();
+    let mut done = nothing();
     loop {
         let step = log::read_on(log, place);
         let Step::Found(entry) = step else {
-            return ran;
+            return done;
         };
         place = entry.next;
-        let d = wire::part(log, entry.at, entry.len);
-        ran = one_entry(
-            state,
-            names,
-            store,
-            ledger,
-            numbers,
-            tiles,
-            pits,
-            sure,
-            entry.sender,
-            d,
-            ran.totals,
-            ran.sizes,
+        let totals = done.totals;
+        let sizes = done.sizes;
+        done = one_entry(
+            log,
+            entry,
+            &mut *state,
+            &mut *names,
+            &mut *store,
+            &mut *ledger,
+            &mut *numbers,
+            &mut *tiles,
+            &mut *pits,
+            &mut *sure,
+            totals,
+            sizes,
         );
-        if ran.fault != 0 {
-            return ran;
+        if done.fault != 0 {
+            return done;
         }
     }
 }
 
+// ---- the answer
+
 // No report is given.
-fn refused(number: u32) -> Counted {
+fn refused(number: u32) -> Counted
+    ensures { λ r. ⌜ r ≡ counted (noReport number) ⌝ }
+{
     Counted {
         answer: Answer::Refused(number),
         report: Report {
@@ -282,7 +406,9 @@ fn given(
     tiles: &[u64],
     pits: &[u64],
     sure: &[u64],
-) -> Counted {
+) -> Counted
+    ensures { λ r. ⌜ ((seen : List PitList) → Has (now (tiles .entry)) (now (pits .entry)) (now (sure .entry)) sizes seen → r ≡ counted (reported (reportWith entries totals (report seen)))) ⌝ }
+{
     let mut tile = [0u64; MAX_TILES];
     let mut pit = [0u64; MAX_TILES];
     let mut certain = [0u64; MAX_TILES];
@@ -312,14 +438,17 @@ fn afresh(
     store: &mut [u8],
     ledger: &mut [u32],
     numbers: &mut [i64],
-) -> Counted {
+) -> Counted
+    requires { ⌜ Whole (now log) entries ⌝ }
+    ensures { λ r. ⌜ Counts (now (log .entry)) (now (store .entry)) (now (ledger .entry)) (now (numbers .entry)) r (now (store .exit)) (now (ledger .exit)) (now (numbers .exit)) ⌝ }
+{
     let mut state = [0u64; receiver::STATE_WORDS];
     let mut names = [0u8; receiver::NAME_BYTES];
     let mut tiles = [0u64; MAX_TILES];
     let mut pits = [0u64; MAX_PITS];
     let mut sure = [0u64; MAX_PITS];
     receiver::open(&mut state, &mut names, store.len());
-    let ran = walk(
+    let done = walk(
         log,
         &mut state,
         &mut names,
@@ -330,14 +459,18 @@ fn afresh(
         &mut pits,
         &mut sure,
     );
-    if ran.fault != 0 {
-        return refused(ran.fault);
+    if done.fault != 0 {
+        return refused(done.fault);
     }
-    given(entries, ran.totals, ran.sizes, &tiles, &pits, &sure)
+    let totals = done.totals;
+    let sizes = done.sizes;
+    given(entries, totals, sizes, &tiles, &pits, &sure)
 }
 
 // THE COUNT of a log. The store, the ledger and the number list are lent; the receiver's state is its own.
-pub fn count_log(log: &[u8], store: &mut [u8], ledger: &mut [u32], numbers: &mut [i64]) -> Counted {
+pub fn count_log(log: &[u8], store: &mut [u8], ledger: &mut [u32], numbers: &mut [i64]) -> Counted
+    ensures { λ r. ⌜ Counts (now (log .entry)) (now (store .entry)) (now (ledger .entry)) (now (numbers .entry)) r (now (store .exit)) (now (ledger .exit)) (now (numbers .exit)) ⌝ }
+{
     let surveyed = survey(log);
     match surveyed {
         Surveyed::Refused(e) => refused(e),

@@ -12,6 +12,7 @@ use Rattle.tally.specs.Lists.{In, SameMembers, gather, total, rising, Rising, b
 use Rattle.tally.proofs.Members.{gather-in, gather-from, Source, map-in, map-from, Origin}
 use Rattle.tally.proofs.Sums.{length-gather}
 use Rattle.tally.proofs.Rises.{rising-rises, rising-members, rising-unique}
+use Rattle.tally.proofs.Places.{below-all}
 use Rattle.tally.proofs.Parts.{gather-rises, map-rises, between, between-rises, between-from, between-in, between-long}
 use Rattle.counting.specs.Marks.{Mark, PitList}
 use Rattle.counting.specs.Report.{under, distinct, pitOf, pitIfSure, tiles, pits, surePits}
@@ -30,7 +31,7 @@ key-apart t u p q h k = omega arith
 
 -- ---- the keys of what h takes, where all that it takes is uint32
 
-module _ (h : Mark → List ℕ) (ls : List PitList) (w : (t p : ℕ) → Taken h ls t p → p < span) where
+module _ (h : Mark → List ℕ) (ls : List PitList) (w : (t p : ℕ) → Taken h ls t p → (t < span) × (p < span)) where
   abbrev keys : List ℕ
   keys = rising (keysBy h ls)
 
@@ -81,14 +82,14 @@ module _ (h : Mark → List ℕ) (ls : List PitList) (w : (t p : ℕ) → Taken 
   block-is t = rising-unique (block t) _ (block-rises t) (between-rises (pitKey t 0) (pitKey (suc t) 0) keys (rising-rises _)) (record {
     there = λ k i.
         let z : Key t k = in-block t k i in
-        let b : z .p < span = w t (z .p) (z .taken) in
+        let b : z .p < span = w t (z .p) (z .taken) .1 in
         let e : k ≡ pitKey t (z .p) = z .is in
         between-in (pitKey t 0) (pitKey (suc t) 0) keys k (to-keys t k z) (omega arith) (omega arith);
     back = λ k i.
         let f : In k keys × (pitKey t 0 ≤ k) × (k < pitKey (suc t) 0) = between-from (pitKey t 0) (pitKey (suc t) 0) keys k i in
         let z : Some k = in-keys k (f .0) in
         let y : Key (z .t) k = z .key in
-        let b : y .p < span = w (z .t) (y .p) (y .taken) in
+        let b : y .p < span = w (z .t) (y .p) (y .taken) .1 in
         let e : k ≡ pitKey (z .t) (y .p) = y .is in
         let lo : pitKey t 0 ≤ k = f .1 in
         let hi : k < pitKey (suc t) 0 = f .2 in
@@ -103,6 +104,14 @@ module _ (h : Mark → List ℕ) (ls : List PitList) (w : (t p : ℕ) → Taken 
       let f : below (pitKey t 0) keys + length (between (pitKey t 0) (pitKey (suc t) 0) keys) ≡ below (pitKey (suc t) 0) keys = between-long (pitKey t 0) (pitKey (suc t) 0) (omega arith) keys in
       omega arith
 
+  -- and the part of the last tile goes to the end
+  keys-end : below (pitKey span 0) keys ≡ length keys
+  keys-end = below-all (pitKey span 0) keys (λ k i.
+      let z : Some k = in-keys k i in
+      let y : Key (z .t) k = z .key in
+      let a : pitKey (z .t) (y .p) < pitKey span 0 = key-apart (z .t) span (y .p) 0 (w (z .t) (y .p) (y .taken) .1) (w (z .t) (y .p) (y .taken) .0) in
+      omega (arith, y .is))
+
   -- the keys are the tiles' parts, one behind the other
   keys-are : keys ≡ gather block (tiles ls)
   keys-are = rising-unique keys (gather block (tiles ls)) (rising-rises _)
@@ -110,7 +119,7 @@ module _ (h : Mark → List ℕ) (ls : List PitList) (w : (t p : ℕ) → Taken 
       (λ t u a b o i j.
       let y : Key t a = in-block t a i in
       let z : Key u b = in-block u b j in
-      let k : pitKey t (y .p) < pitKey u (z .p) = key-apart t u (y .p) (z .p) (w t (y .p) (y .taken)) o in
+      let k : pitKey t (y .p) < pitKey u (z .p) = key-apart t u (y .p) (z .p) (w t (y .p) (y .taken) .1) o in
       omega (arith, y .is, z .is)) (tiles ls) (rising-rises _))
       (record {
         there = λ k i.
@@ -132,17 +141,14 @@ module _ (h : Mark → List ℕ) (ls : List PitList) (w : (t p : ℕ) → Taken 
 -- ---- pits, and sure pits
 
 module _ (ls : List PitList) (a : AllWithin ls) where
-  pits-within : (t p : ℕ) → Taken pitOf ls t p → p < span
-  pits-within t p k =
-      let b : k .mark .pit < span = a (k .list) (k .among) .pits (k .mark) (k .inside) in
-      let e : p ≡ k .mark .pit = only (k .gives) in
-      omega arith
+  tile-within : (h : Mark → List ℕ) (t p : ℕ) → Taken h ls t p → t < span
+  tile-within h t p k = subst (λ (u : ℕ). u < span) (k .its-tile) (a (k .list) (k .among) .tile)
 
-  sure-within : (t p : ℕ) → Taken pitIfSure ls t p → p < span
-  sure-within t p k =
-      let b : k .mark .pit < span = a (k .list) (k .among) .pits (k .mark) (k .inside) in
-      let e : k .mark .pit ≡ p = sure-is (k .mark) p (k .gives) .1 in
-      omega arith
+  pits-within : (t p : ℕ) → Taken pitOf ls t p → (t < span) × (p < span)
+  pits-within t p k = (tile-within pitOf t p k, subst (λ (q : ℕ). q < span) (sym (only (k .gives))) (a (k .list) (k .among) .pits (k .mark) (k .inside)))
+
+  sure-within : (t p : ℕ) → Taken pitIfSure ls t p → (t < span) × (p < span)
+  sure-within t p k = (tile-within pitIfSure t p k, subst (λ (q : ℕ). q < span) (sure-is (k .mark) p (k .gives) .1) (a (k .list) (k .among) .pits (k .mark) (k .inside)))
 
   -- the pits under a tile, the sure ones, and all
   pub pits-part : (t : ℕ) → below (pitKey t 0) (rising (pitKeys ls)) + length (pits ls t) ≡ below (pitKey (suc t) 0) (rising (pitKeys ls))
@@ -150,6 +156,12 @@ module _ (ls : List PitList) (a : AllWithin ls) where
 
   pub sure-part : (t : ℕ) → below (pitKey t 0) (rising (sureKeys ls)) + length (surePits ls t) ≡ below (pitKey (suc t) 0) (rising (sureKeys ls))
   sure-part = part-long pitIfSure ls sure-within
+
+  pub pits-end : below (pitKey span 0) (rising (pitKeys ls)) ≡ length (rising (pitKeys ls))
+  pits-end = keys-end pitOf ls pits-within
+
+  pub sure-end : below (pitKey span 0) (rising (sureKeys ls)) ≡ length (rising (sureKeys ls))
+  sure-end = keys-end pitIfSure ls sure-within
 
   pub pits-in-all : length (rising (pitKeys ls)) ≡ pitsInAll ls
   pits-in-all = keys-long pitOf ls pits-within

@@ -5,7 +5,7 @@ use Rattle.tally.specs.Lists.{In, gather}
 use Rattle.counting.specs.Marks.{Mark, PitList}
 use Rattle.counting.specs.Report.{pitOf, pitIfSure}
 
--- pits are uint32
+-- tiles and pits are uint32
 abbrev pub span : ℕ
 span = 2 ^ 32
 
@@ -22,7 +22,7 @@ pitKeys = keysBy pitOf
 abbrev pub sureKeys : List PitList → List ℕ
 sureKeys = keysBy pitIfSure
 
--- its pits and its tile are uint32
+-- a list's tile and pits are uint32
 pub record Within (l : PitList) : Type 0 where
   pub tile : l .tile < span
   pub pits : (m : Mark) → In m (l .marks) → m .pit < span

@@ -1,7 +1,10 @@
 pub mod Marks
+pub mod Spelled
 pub mod Report
 pub mod Meaning
 pub mod Run
 pub mod Count
 pub mod Walk
 pub mod Keys
+pub mod Promise
+pub mod Worked

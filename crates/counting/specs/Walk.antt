@@ -92,6 +92,11 @@ pub record NoSecond (a b : Outcome) (store₁ store₂ ledger₁ ledger₂ : Lis
 
 -- ---- the walk finds what the count says, and with nothing found it goes through all entries
 
+-- the lists seen after some payloads, the latest first
+abbrev pub seenAfter : List PitList → List (List ℕ) → List PitList
+seenAfter seen [] = seen
+seenAfter seen (p ∷ ps) = seenAfter (listIn p ++ seen) ps
+
 -- what the entries leave
 abbrev pub heldAll : Held → List Entry → Held
 heldAll h [] = h

@@ -48,26 +48,28 @@ wrote (got m r) out n after w = by (leb (length m) (length out)) refl (w .gave) 
     by false l e f = absurd (let z : _≡_ {A = ℕ} 0 1 = cc in let q : ⊥ = omega arith in q)
 wrote (refused k) out n after w = absurd (let e = w .gave in let z : _≡_ {A = ℕ} 0 1 = cc in let q : ⊥ = omega arith in q)
 
-record Listed (X : Read) (list : List ℤ) (n : ℕ) (after : List ℤ) : Type 0 where
-  numbers : List ℤ
-  rest : List ℕ
-  is : X ≡ got numbers rest
-  size : n ≡ length numbers
-  front : take n after ≡ numbers
+pub record Listed (X : Read) (list : List ℤ) (n : ℕ) (after : List ℤ) : Type 0 where
+  pub numbers : List ℤ
+  pub rest : List ℕ
+  pub is : X ≡ got numbers rest
+  pub size : n ≡ length numbers
+  pub within : n ≤ length list
+  pub front : take n after ≡ numbers
 
 front-of : (list zs : List ℤ) → length zs ≤ length list → take (length zs) (sets list 0 zs) ≡ zs
 front-of list zs h =
     let k : 0 + length zs ≤ length list = omega arith in
     ap (take (length zs)) (sets-eq zs list 0 k) ∙ take-at zs (drop (0 + length zs) list) (length zs) refl
 
-read : (X : Read) (list : List ℤ) (n : ℕ) (after : List ℤ) → ReadTo X list (Numbers n) after → Listed X list n after
+pub read : (X : Read) (list : List ℤ) (n : ℕ) (after : List ℤ) → ReadTo X list (Numbers n) after → Listed X list n after
 unfolding found listed
 read (got zs r) list n after w = by (leb (length zs) (length list)) refl (w .gave) (w .left)
   where
     by : (t : Bool) → leb (length zs) (length list) ≡ t → Numbers n ≡ pick t (Numbers (length zs)) (Unread 13) → after ≡ pick t (sets list 0 zs) list → Listed (got zs r) list n after
     by true l e f =
         let s : n ≡ length zs = cc in
-        record { numbers = zs; rest = r; is = refl; size = s; front = ap (λ (k : ℕ). take k after) s ∙ ap (take (length zs)) f ∙ front-of list zs (leb-true (length zs) (length list) l) }
+        let h : length zs ≤ length list = leb-true (length zs) (length list) l in
+        record { numbers = zs; rest = r; is = refl; size = s; within = omega arith; front = ap (λ (k : ℕ). take k after) s ∙ ap (take (length zs)) f ∙ front-of list zs h }
     by false l e f = absurd (let z : _≡_ {A = ℕ} 0 1 = cc in let q : ⊥ = omega arith in q)
 read (refused k) list n after w = absurd (let e = w .gave in let z : _≡_ {A = ℕ} 0 1 = cc in let q : ⊥ = omega arith in q)
 

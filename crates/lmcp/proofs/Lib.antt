@@ -1,3 +1,4 @@
+pub mod Answers
 pub mod Editions
 pub mod Few
 pub mod Goes
@@ -7,6 +8,7 @@ pub mod Makes
 pub mod Never
 pub mod Once
 pub mod Pitsurv
+pub mod Sizes
 pub mod Spells
 pub mod Tables
 pub mod Trips

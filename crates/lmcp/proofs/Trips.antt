@@ -193,7 +193,7 @@ accepted m e =
       sum-at = f .1 .1;
     }
 
-bytes-take : (k : ℕ) (b : List ℕ) → Bytes b → Bytes (take k b)
+pub bytes-take : (k : ℕ) (b : List ℕ) → Bytes b → Bytes (take k b)
 bytes-take zero b f i = omega arith
 bytes-take (suc k) [] f i = omega arith
 bytes-take (suc k) (x ∷ b) f zero = f 0

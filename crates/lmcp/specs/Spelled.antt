@@ -43,3 +43,18 @@ pub record Spelled (l : List ℤ) : Type 0 where
   pub tile : ℕ
   pub elements : List Element
   pub numbers : l ≡ spellList version tile elements
+
+-- an element's pit keeps to S
+abbrev pub PitKeeps : (ℕ → Type 0) → Element → Type 0
+PitKeeps S null = Unit {0}
+PitKeeps S (marked pit sure at depth) = S pit
+
+abbrev pub PitsKeep : (ℕ → Type 0) → List Element → Type 0
+PitsKeep S [] = Unit {0}
+PitsKeep S (e ∷ es) = PitKeeps S e × PitsKeep S es
+
+-- so spelled, and its tile and its pits keep to S
+pub record SpelledBy (S : ℕ → Type 0) (l : List ℤ) : Type 0 where
+  pub spelled : Spelled l
+  pub tile : S (spelled .tile)
+  pub pits : PitsKeep S (spelled .elements)

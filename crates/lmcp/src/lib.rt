@@ -2,6 +2,7 @@
 ghost use mathlib.Core.Path.{_≡_};
 ghost use Prim.Native.Nat.{_-_, _*_, _^_, min};
 ghost use lib.ListN.{length, getD};
+ghost use lib.Signed.{mag};
 ghost use Rattle.lmcp.specs.Table.{pitsurv, rowsOf, startsOf, nothing};
 ghost use Rattle.lmcp.specs.Read.{typed};
 
@@ -289,6 +290,17 @@ pub fn typed_in(version: u64, declared: usize, n: u64) -> bool
         return true;
     }
     n as usize == declared
+}
+
+// The size of a number: n for n and for -(n + 1).
+pub fn size_of(z: i64) -> u64
+    ensures { λ r. ⌜ r ≡ mag z ⌝ }
+{
+    if z < 0 {
+        let m = -1 - z;
+        return m as u64;
+    }
+    z as u64
 }
 
 // 2^(8w - 1), for w up to 8.

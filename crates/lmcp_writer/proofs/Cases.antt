@@ -7,14 +7,11 @@ use native.Mathlib.Nat.{pow-suc, mul-assoc, mul-comm, mul-sub}
 use native.Mathlib.Numerals.{add-one}
 use native.Mathlib.Omega.{arith}
 use lib.Dec.{T, ltb, eqb}
-use lib.IntN.{ℤ, pos, negsuc, _-ℤ_, natAbs}
+use lib.IntN.{ℤ, pos, negsuc}
 use lib.Signed.{mag, ltZ}
 use lib.ListN.{length, getD, drop, drop-of-length-le}
 use lib.Pow.{pow-add, pow-mono}
 use lib.Seq.{sets, drop-cons}
-use mir.Syntax.{w64}
-use mir.Val.{toZ, ofZ, SFits}
-use mir.ValLaws.{toZ-ofZ}
 use borrow.Author.Tests.{le-ltb, eq-eqb, ne-eqb, ltb-true, eqb-true}
 use Rattle.wire.specs.Choice.{pick}
 use Rattle.wire.specs.Bytes.{bytes}
@@ -23,7 +20,7 @@ use Rattle.wire.specs.Signed.{unsigned}
 use Rattle.wire.proofs.Choices.{never, pick-all}
 use Rattle.wire.proofs.Numbers.{length-bytes}
 use Rattle.wire.proofs.Overlays.{overlay-append, overlay-sets}
-use Rattle.wire.proofs.Signs.{halves, Below, below}
+use Rattle.wire.proofs.Signs.{halves}
 use Rattle.lmcp.specs.Limits.{series}
 use Rattle.lmcp.specs.Run.{got, refused, Tag, tag, bad}
 use Rattle.lmcp.specs.Table.{signedKind, boolKind, charKind, Table}
@@ -38,18 +35,6 @@ use Rattle.lmcp.proofs.Heads.{typed-least, typedBy-mag}
 use Rattle.lmcp.proofs.Values.{pow-bytes}
 
 -- ---- the two halves of the signed numbers
-
--- a number that went through its bits
-pub through : (z : ℤ) → SFits w64 z → toZ w64 (ofZ w64 z) ≡ z
-through z f = toZ-ofZ w64 z f
-
-pub negative-size : (z : ℤ) → SFits w64 z → ltZ z (pos 0) ≡ true → natAbs (negsuc 0 -ℤ z) ≡ mag z
-negative-size (pos n) f h = absurd (let l : n < 0 = ltb-true n 0 h in omega arith)
-negative-size (negsuc n) f h = let b = below w64 (negsuc n) f h in omega (arith, b .size)
-
-pub positive-size : (z : ℤ) → ltZ z (pos 0) ≡ false → natAbs z ≡ mag z
-positive-size (pos n) h = refl
-positive-size (negsuc n) h = never refl h
 
 pub negative-bits : (z : ℤ) (n : ℕ) → n ≡ mag z → ltZ z (pos 0) ≡ true → 18446744073709551615 - n ≡ unsigned 64 z
 negative-bits (pos m) n e h = absurd (let l : m < 0 = ltb-true m 0 h in omega arith)

@@ -7,7 +7,6 @@ ghost use mathlib.Core.Path.{_≡_};
 ghost use mathlib.Core.List.{[]};
 ghost use Prim.Native.Nat.{_+_, _-_, _*_, _^_, _≤_, _<_};
 ghost use lib.ListN.{length, take, drop, getD};
-ghost use lib.Signed.{mag};
 ghost use Rattle.wire.specs.Choice.{pick};
 ghost use Rattle.wire.specs.Bytes.{bytes};
 ghost use Rattle.wire.specs.Overlay.{overlay};
@@ -20,22 +19,11 @@ ghost use Rattle.lmcp.specs.Message.{checksumOf, writeMessage, WrittenTo};
 ghost use Rattle.lmcp.specs.Lists.{isVersion, writeList};
 ghost use Rattle.lmcp_writer.specs.Steps.{writeObject, writeItem, writeField, writeFields, writeRoot, Laid, Ends, Marks};
 
-// The size of a number: n for n and for -(n + 1).
-fn size_of(z: i64) -> u64
-    ensures { λ r. ⌜ r ≡ mag z ⌝ }
-{
-    if z < 0 {
-        let m = -1 - z;
-        return m as u64;
-    }
-    z as u64
-}
-
 // The 64 bits of a number.
 fn bits_of(z: i64) -> u64
     ensures { λ r. ⌜ r ≡ unsigned 64 z ⌝ }
 {
-    let n = size_of(z);
+    let n = lmcp::size_of(z);
     if z < 0 {
         return 18446744073709551615 - n;
     }
@@ -49,7 +37,7 @@ fn below_of(n: u64, z: i64) -> bool
     if z < 0 {
         return false;
     }
-    size_of(z) < n
+    lmcp::size_of(z) < n
 }
 
 // Whether a number is a version: 1 or 2.
@@ -83,7 +71,7 @@ fn fits_in(kind: u8, w: usize, z: i64) -> bool
     ensures { λ r. ⌜ r ≡ fits kind w z ⌝ }
 {
     if kind == lmcp::SIGNED_KIND {
-        let n = size_of(z);
+        let n = lmcp::size_of(z);
         let h = lmcp::half(w);
         return n < h;
     }
@@ -126,7 +114,7 @@ fn put_count(list: &[i64], at: usize, w: usize, out: &mut [u8], to: usize) -> Ma
     }
     let z = list[at];
     if below_of(values_of(lmcp::UNSIGNED_KIND, w), z) {
-        let n = size_of(z);
+        let n = lmcp::size_of(z);
         wire::put_number(out, to, w, n);
         return Mark::Of(n as usize, at + 1, to + w);
     }
@@ -140,7 +128,7 @@ fn typed_by(version: u64, declared: usize, z: i64) -> bool
     if z < 0 {
         return false;
     }
-    lmcp::typed_in(version, declared, size_of(z))
+    lmcp::typed_in(version, declared, lmcp::size_of(z))
 }
 
 // An existence byte of 1, and the header of type n.
@@ -179,7 +167,7 @@ fn put_head(
         return Mark::Bad(26);
     }
     if typed_by(version, declared, z) {
-        let n = size_of(z);
+        let n = lmcp::size_of(z);
         put_header(out, to, version, n);
         return Mark::Of(n as usize, at + 1, to + 15);
     }
@@ -401,7 +389,7 @@ pub fn write_message(list: &[i64], calculate: bool, out: &mut [u8]) -> Made
     }
     let version = list[0];
     if is_version(version) {
-        return write_root(&list[1..], size_of(version), calculate, out);
+        return write_root(&list[1..], lmcp::size_of(version), calculate, out);
     }
     Made::Refused(29)
 }

@@ -1,5 +1,14 @@
-// A PitList's tile and marks, from the numbers of its message, into rising sets: the tiles, the pits of all tiles, and those that were marked
-// sure. A pit of a tile is one number, the tile's number before the pit's.
+// A PitList's tile and marks, from the numbers of its message, into three sets of rising numbers: the tiles, the pits of all tiles, and those
+// of them that were marked sure. A pit under a tile is one number, the tile's number before its own.
+ghost use mathlib.Core.Path.{_≡_};
+ghost use Prim.Native.Nat.{_+_, _<_, min};
+ghost use lib.Dec.{eqb};
+ghost use lib.ListN.{length, drop};
+ghost use Rattle.wire.specs.Choice.{pick};
+ghost use Rattle.counting.specs.Marks.{at, markLength, markAt, marksIn};
+ghost use Rattle.counting.specs.Keys.{span};
+ghost use Rattle.pit_marks.specs.Enters.{keyIn, EntersSure, enterPit, enterMarks, enterList, Leaves, LeavesAll};
+ghost use Rattle.pit_marks.specs.Lines.{endOf, pitsIn, Lays};
 use tally::Entered;
 
 // Refusals: one tile too many, one pit too many.
@@ -7,104 +16,132 @@ pub const TILES_FULL: u32 = 60;
 
 pub const PITS_FULL: u32 = 61;
 
-// How many numbers a tile or a pit may have, and the last of them.
-const NUMBERS: u64 = 4294967296;
+// How many numbers there are for tiles, and for pits.
+const SPAN: u64 = 4294967296;
 
-const LAST_TILE: u64 = NUMBERS - 1;
-
-// How many numbers each set holds.
+// How many numbers each set has.
 pub struct Sizes {
     pub tiles: usize,
     pub pits: usize,
     pub sure: usize,
 }
 
-// What they hold with one list more, or the refusal.
+// How many they have with one list more, or the refusal.
 pub enum Taken {
     Now(Sizes),
     Refused(u32),
 }
 
-// A number of 32 bits at a place of a list; none past its end, and none is below 0.
-fn number_at(list: &[i64], at: usize, i: usize) -> u64 {
-    if wire::room(list.len(), at) <= i {
-        return 0;
+// Number i from a place of a list on: 0 past its end.
+fn number_at(list: &[i64], place: usize, i: usize) -> u64
+    ensures { λ r. ⌜ r ≡ at (drop place (now (list .entry))) i ⌝ }
+{
+    if i < wire::room(list.len(), place) {
+        return lmcp::size_of(list[place + i]);
     }
-    let z = list[at + i];
-    if z < 0 {
-        return 0;
-    }
-    (z as u64) % NUMBERS
+    0
 }
 
-// Pit p of tile t.
-fn pit_of(t: u64, p: u64) -> u64 {
-    t * NUMBERS + p
+// Pit p under tile t.
+fn key_of(t: u64, p: u64) -> u64
+    ensures { λ r. ⌜ r ≡ keyIn t p ⌝ }
+{
+    (t % SPAN) * SPAN + p % SPAN
 }
 
-// Whether a message is a PitList: the type of its root stands behind the version.
-pub fn is_list(list: &[i64]) -> bool {
-    number_at(list, 1, 0) == 5
+// Whether the numbers of a message are those of a PitList: the type of its root stands behind the version.
+pub fn is_list(list: &[i64]) -> bool
+    ensures { λ r. ⌜ r ≡ eqb (at (now (list .entry)) 1) 5 ⌝ }
+{
+    number_at(list, 0, 1) == 5
 }
 
-// How many numbers the element at a place takes. A null one takes one; a mark has its type, pit and sure, its place, which is one number for
-// null and else four, and in version 2 its depth.
-fn element_length(list: &[i64], at: usize, two: bool) -> usize {
-    if number_at(list, at, 0) == 0 {
+// How many numbers of a mark tell its depth: one in version 2.
+fn depths(two: bool) -> usize
+    ensures { λ r. ⌜ r ≡ pick two 1 0 ⌝ }
+{
+    if two { 1 } else { 0 }
+}
+
+// How many numbers the element at a place takes.
+fn element_length(list: &[i64], place: usize, two: bool) -> usize
+    ensures { λ r. ⌜ r ≡ markLength two (drop place (now (list .entry))) ⌝ }
+{
+    if number_at(list, place, 0) == 0 {
         return 1;
     }
-    let place: usize = if number_at(list, at, 3) == 0 { 1 } else { 4 };
-    if two { 3 + place + 1 } else { 3 + place }
+    let depth = depths(two);
+    if number_at(list, place, 3) == 0 {
+        return 4 + depth;
+    }
+    7 + depth
 }
 
 // Where the next element begins, or the end.
-fn next_place(at: usize, length: usize, n: usize) -> usize {
-    if length < wire::room(n, at) {
-        at + length
+fn next_place(place: usize, length: usize, n: usize) -> usize
+    ensures { λ r. ⌜ r ≡ min (place + length) n ⌝ }
+{
+    if length < wire::room(n, place) {
+        place + length
     } else {
         n
     }
 }
 
-fn enter_pit(pits: &mut [u64], sure: &mut [u64], had: Sizes, x: u64, is_sure: bool) -> Taken {
-    let entered = tally::enter(pits, had.pits, x);
-    let Entered::Now(p) = entered else {
-        return Taken::Refused(PITS_FULL);
-    };
-    if !is_sure {
-        return Taken::Now(Sizes {
+// A sure pit is entered among the sure ones.
+fn enter_sure(sure: &mut [u64], had: Sizes, x: u64) -> Taken
+    ensures { λ r. ⌜ EntersSure (now (sure .entry)) had x r (now (sure .exit)) ⌝ }
+{
+    let entered = tally::enter(sure, had.sure, x);
+    match entered {
+        Entered::Now(n) => Taken::Now(Sizes {
             tiles: had.tiles,
-            pits: p,
-            sure: had.sure,
-        });
-    }
-    let marked = tally::enter(sure, had.sure, x);
-    match marked {
-        Entered::Now(s) => Taken::Now(Sizes {
-            tiles: had.tiles,
-            pits: p,
-            sure: s,
+            pits: had.pits,
+            sure: n,
         }),
         Entered::Full => Taken::Refused(PITS_FULL),
     }
 }
 
+// A pit is entered among all, and among the sure ones if it is sure.
+fn enter_pit(pits: &mut [u64], sure: &mut [u64], had: Sizes, x: u64, is_sure: bool) -> Taken
+    ensures { λ r. ⌜ Leaves (enterPit «is_sure» x (now (pits .entry)) (now (sure .entry)) had) r (now (pits .exit)) (now (sure .exit)) ⌝ }
+{
+    let entered = tally::enter(pits, had.pits, x);
+    let Entered::Now(n) = entered else {
+        return Taken::Refused(PITS_FULL);
+    };
+    let now = Sizes {
+        tiles: had.tiles,
+        pits: n,
+        sure: had.sure,
+    };
+    if is_sure {
+        return enter_sure(sure, now, x);
+    }
+    Taken::Now(now)
+}
+
 // The element at a place: a null one is skipped.
 fn enter_element(
     list: &[i64],
-    at: usize,
+    place: usize,
     tile: u64,
     pits: &mut [u64],
     sure: &mut [u64],
     had: Sizes,
-) -> Taken {
-    if number_at(list, at, 0) == 0 {
+) -> Taken
+    ensures { λ r. ⌜ Leaves (enterMarks tile (markAt (drop place (now (list .entry)))) (now (pits .entry)) (now (sure .entry)) had) r (now (pits .exit)) (now (sure .exit)) ⌝ }
+{
+    if number_at(list, place, 0) == 0 {
         return Taken::Now(had);
     }
-    let x = pit_of(tile, number_at(list, at, 1));
-    enter_pit(pits, sure, had, x, number_at(list, at, 2) != 0)
+    let x = key_of(tile, number_at(list, place, 1));
+    let is_sure = number_at(list, place, 2) != 0;
+    enter_pit(pits, sure, had, x, is_sure)
 }
 
+// The elements of a list, behind its head.
 fn enter_elements(
     list: &[i64],
     tile: u64,
@@ -112,60 +149,69 @@ fn enter_elements(
     pits: &mut [u64],
     sure: &mut [u64],
     had: Sizes,
-) -> Taken {
+) -> Taken
+    ensures { λ r. ⌜ Leaves (enterMarks tile (marksIn two (length (drop 4 (now (list .entry)))) (drop 4 (now (list .entry)))) (now (pits .entry)) (now (sure .entry)) had) r (now (pits .exit)) (now (sure .exit)) ⌝ }
+{
     let mut now = had;
-    let mut at: usize = 4;
-    while at < list.len() {
-        let taken = enter_element(list, at, tile, pits, sure, now);
+    let mut place: usize = 4;
+    while place < list.len() {
+        let taken = enter_element(list, place, tile, &mut *pits, &mut *sure, now);
         let Taken::Now(next) = taken else {
             return taken;
         };
         now = next;
-        at = next_place(at, element_length(list, at, two), list.len());
+        place = next_place(place, element_length(list, place, two), list.len());
     }
     Taken::Now(now)
 }
 
-// Enters a PitList: its tile, then its pits.
+// Enters a PitList, from the numbers of its message: its tile, then its pits.
 pub fn enter_list(
     list: &[i64],
     tiles: &mut [u64],
     pits: &mut [u64],
     sure: &mut [u64],
     had: Sizes,
-) -> Taken {
-    let tile = number_at(list, 2, 0);
+) -> Taken
+    ensures { λ r. ⌜ LeavesAll (enterList (now (list .entry)) (now (tiles .entry)) (now (pits .entry)) (now (sure .entry)) had) r (now (tiles .exit)) (now (pits .exit)) (now (sure .exit)) ⌝ }
+{
+    let tile = number_at(list, 0, 2);
     let entered = tally::enter(tiles, had.tiles, tile);
-    let Entered::Now(t) = entered else {
+    let Entered::Now(n) = entered else {
         return Taken::Refused(TILES_FULL);
     };
     let now = Sizes {
-        tiles: t,
+        tiles: n,
         pits: had.pits,
         sure: had.sure,
     };
-    enter_elements(list, tile, number_at(list, 0, 0) == 2, pits, sure, now)
+    let two = number_at(list, 0, 0) == 2;
+    enter_elements(list, tile, two, pits, sure, now)
 }
 
-// Where the pits of a tile begin among all pits, and where they end.
-fn first_of(pits: &[u64], n: usize, tile: u64) -> usize {
-    tally::rank(pits, n, pit_of(tile, 0))
-}
+// ---- the tile lines
 
-fn end_of(pits: &[u64], n: usize, tile: u64) -> usize {
-    if tile < LAST_TILE {
-        return first_of(pits, n, tile + 1);
+// Where the pits of tile t, which is below SPAN, end among the first n.
+fn end_of(pits: &[u64], n: usize, t: u64) -> usize
+    requires { ⌜ t < span ⌝ }
+    ensures { λ r. ⌜ r ≡ endOf (now (pits .entry)) n t ⌝ }
+{
+    if t + 1 < SPAN {
+        return tally::rank(pits, n, (t + 1) * SPAN);
     }
-    n
+    wire::least(n, pits.len())
 }
 
 // How many of the first n pits are of a tile.
-pub fn pits_of(pits: &[u64], n: usize, tile: u64) -> usize {
-    let t = tile % NUMBERS;
-    wire::room(end_of(pits, n, t), first_of(pits, n, t))
+fn pits_of(pits: &[u64], n: usize, tile: u64) -> u64
+    ensures { λ r. ⌜ r ≡ pitsIn (now (pits .entry)) n tile ⌝ }
+{
+    let t = tile % SPAN;
+    let first = tally::rank(pits, n, t * SPAN);
+    wire::room(end_of(pits, n, t), first) as u64
 }
 
-// For each of the tiles, its number, its pits and its sure pits.
+// Of each tile its number, its pits and its sure pits, at the start of three outputs.
 pub fn put_lines(
     tile: &mut [u64],
     pit: &mut [u64],
@@ -174,13 +220,16 @@ pub fn put_lines(
     pits: &[u64],
     sure: &[u64],
     had: Sizes,
-) {
+)
+    ensures { λ _. ⌜ Lays (now (tiles .entry)) (now (pits .entry)) (now (sure .entry)) had (now (tile .entry)) (now (pit .entry)) (now (certain .entry)) (now (tile .exit)) (now (pit .exit)) (now (certain .exit)) ⌝ }
+{
+    let n = had.tiles;
     let mut i: usize = 0;
-    while i < had.tiles {
+    while i < n {
         let t = words::word(tiles, i);
         words::put_word(tile, i, t);
-        words::put_word(pit, i, pits_of(pits, had.pits, t) as u64);
-        words::put_word(certain, i, pits_of(sure, had.sure, t) as u64);
+        words::put_word(pit, i, pits_of(pits, had.pits, t));
+        words::put_word(certain, i, pits_of(sure, had.sure, t));
         i += 1;
     }
 }

@@ -18,12 +18,12 @@ pub middle-below : (low high : ℕ) → low < high → middle low high < high
 middle-below low high h = omega arith
 
 module _ (w : List ℕ) (x : ℕ) where
-  done : (k low high : ℕ) → high ≤ low → halve k w x low high ≡ low
+  pub done : (k low high : ℕ) → high ≤ low → halve k w x low high ≡ low
   unfolding halve
   done zero low high h = refl
   done (suc k) low high h = rw (le-ltb low high h)
 
-  turn : (k low high : ℕ) (b : Bool) → low < high → behind w x low high ≡ b
+  pub turn : (k low high : ℕ) (b : Bool) → low < high → behind w x low high ≡ b
       → halve (suc k) w x low high ≡ halve k w x (pick b (middle low high + 1) low) (pick b high (middle low high))
   unfolding halve
   turn k low high b h e = rw (lt-ltb low high h, e)

@@ -6,3 +6,4 @@ pub mod Parts
 pub mod Enterings
 pub mod Halves
 pub mod Moves
+pub mod Sets

@@ -30,6 +30,12 @@ module _ (x : ℕ) where
   below-none [] h = refl
   below-none (y ∷ l) h = below-reached y l (h y (inl refl)) ∙ below-none l (λ z k. h z (inr k))
 
+  -- where all are less
+  pub below-all : (l : List ℕ) → ((z : ℕ) → In z l → z < x) → below x l ≡ length l
+  unfolding below
+  below-all [] h = refl
+  below-all (y ∷ l) h = below-passed y l (h y (inl refl)) ∙ ap suc (below-all l (λ z k. h z (inr k)))
+
   pub below-most : (l : List ℕ) → below x l ≤ length l
   unfolding below
   below-most [] = omega arith

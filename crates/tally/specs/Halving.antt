@@ -3,10 +3,11 @@
 use mathlib.Core.Path.{_≡_}
 use mathlib.Core.Bool.{Bool, _&&_}
 use mathlib.Core.List.{List, _∷_, _++_}
-use Prim.Native.Nat.{ℕ, zero, suc, _+_, _-_, _/_, min}
+use Prim.Native.Nat.{ℕ, zero, suc, _+_, _-_, _/_, _≤_, min}
 use lib.Dec.{ltb, eqb}
 use lib.ListN.{length, getD, take, drop}
 use Rattle.wire.specs.Choice.{pick}
+use Rattle.tally.specs.Lists.{Rising}
 use Rattle.tally.specs.declared.Entered.{Entered}
 use Rattle.tally.specs.declared.Entered.the-variants.{Now, Full}
 
@@ -54,3 +55,11 @@ wordsWith w n x = pick (isThere w n x) w (pick (noRoom w n) w (inserted w (rankI
 pub record Enters (w : List ℕ) (n x : ℕ) (r : Entered) (w′ : List ℕ) : Type 0 where
   pub gave : r ≡ entered w n x
   pub left : w′ ≡ wordsWith w n x
+
+-- ---- a set of numbers in lent words
+
+-- the first n words are the rising list l
+pub record Holds (w : List ℕ) (n : ℕ) (l : List ℕ) : Type 0 where
+  pub size : n ≤ length w
+  pub front : take n w ≡ l
+  pub rises : Rising l

@@ -3,7 +3,8 @@ use mathlib.Core.Path.{_≡_, refl, sym, ap, _∙_, subst}
 use mathlib.Core.Bool.{Bool, true, false}
 use lib.IntN.{ℤ, pos, negsuc, _-ℤ_, natAbs}
 use lib.Signed.{mag, ltZ, nonNeg}
-use Rattle.lmcp_writer.proofs.Cases.{through, negative-below, positive-below}
+use Rattle.lmcp.proofs.Sizes.{through}
+use Rattle.lmcp_writer.proofs.Cases.{negative-below, positive-below}
 use borrow.Author.Needs.{needs}
 use Rattle.lmcp_writer.proofs.below_of.Statement.{statement}
 use Rattle.lmcp_writer.proofs.below_of.Tie as tie

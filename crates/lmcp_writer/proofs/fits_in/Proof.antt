@@ -3,7 +3,8 @@ use mathlib.Core.Path.{_≡_, refl, sym, ap, _∙_, subst}
 use lib.IntN.{ℤ, pos, negsuc, _-ℤ_, natAbs}
 use lib.Signed.{mag, ltZ, nonNeg}
 use Rattle.lmcp.specs.Value.{below}
-use Rattle.lmcp_writer.proofs.Cases.{through, fits-signed, fits-plain}
+use Rattle.lmcp.proofs.Sizes.{through}
+use Rattle.lmcp_writer.proofs.Cases.{fits-signed, fits-plain}
 use borrow.Author.Needs.{needs}
 use Rattle.lmcp_writer.proofs.fits_in.Statement.{statement}
 use Rattle.lmcp_writer.proofs.fits_in.Tie as tie

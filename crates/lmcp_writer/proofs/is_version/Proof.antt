@@ -2,7 +2,8 @@
 use mathlib.Core.Path.{sym, ap, _∙_}
 use borrow.Author.Needs.{needs}
 use Rattle.lmcp.specs.Value.{below}
-use Rattle.lmcp_writer.proofs.Cases.{through, version-low, version-high}
+use Rattle.lmcp.proofs.Sizes.{through}
+use Rattle.lmcp_writer.proofs.Cases.{version-low, version-high}
 use Rattle.lmcp_writer.proofs.is_version.Statement.{statement}
 use Rattle.lmcp_writer.proofs.is_version.Tie as tie
 

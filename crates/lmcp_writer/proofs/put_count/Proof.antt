@@ -11,7 +11,8 @@ use Rattle.wire.specs.Bytes.{bytes}
 use Rattle.wire.proofs.Numbers.{length-bytes}
 use Rattle.lmcp.specs.Value.{below}
 use Rattle.lmcp.proofs.Goes.{made, marked}
-use Rattle.lmcp_writer.proofs.Cases.{through, laid-number, at-end, here, count-end, count-good, count-bad}
+use Rattle.lmcp.proofs.Sizes.{through}
+use Rattle.lmcp_writer.proofs.Cases.{laid-number, at-end, here, count-end, count-good, count-bad}
 use borrow.Author.Needs.{needs}
 use Rattle.lmcp_writer.proofs.put_count.Statement.{statement}
 use Rattle.lmcp_writer.proofs.put_count.Tie as tie

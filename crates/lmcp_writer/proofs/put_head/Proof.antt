@@ -14,7 +14,8 @@ use Rattle.lmcp.specs.Value.{below}
 use Rattle.lmcp.specs.Write.{header, typedBy}
 use Rattle.lmcp.proofs.Goes.{made, marked}
 use Rattle.lmcp.proofs.Heads.{header-length}
-use Rattle.lmcp_writer.proofs.Cases.{through, laid-number, at-end, here, head-end, head-null, head-deep, head-typed, head-untyped}
+use Rattle.lmcp.proofs.Sizes.{through}
+use Rattle.lmcp_writer.proofs.Cases.{laid-number, at-end, here, head-end, head-null, head-deep, head-typed, head-untyped}
 use borrow.Author.Needs.{needs}
 use Rattle.lmcp_writer.proofs.put_head.Statement.{statement}
 use Rattle.lmcp_writer.proofs.put_head.Tie as tie

@@ -12,7 +12,8 @@ use Rattle.lmcp.specs.Value.{below}
 use Rattle.lmcp.specs.Write.{writing}
 use Rattle.lmcp.specs.Ends.{Few15}
 use Rattle.lmcp.proofs.Goes.{same-run, root-stops, root-null, root-object, empty}
-use Rattle.lmcp_writer.proofs.Cases.{through, here, head-end, head-null, root-some}
+use Rattle.lmcp.proofs.Sizes.{through}
+use Rattle.lmcp_writer.proofs.Cases.{here, head-end, head-null, root-some}
 use borrow.Author.Needs.{needs}
 use Rattle.lmcp_writer.proofs.put_root.Statement.{statement}
 use Rattle.lmcp_writer.proofs.put_root.Tie as tie

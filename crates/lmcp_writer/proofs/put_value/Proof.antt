@@ -11,7 +11,8 @@ use Rattle.wire.proofs.Numbers.{length-bytes}
 use Rattle.wire.specs.Signed.{unsigned}
 use Rattle.lmcp.specs.Value.{fits}
 use Rattle.lmcp.proofs.Goes.{made, marked}
-use Rattle.lmcp_writer.proofs.Cases.{through, low-bytes, laid-number, at-end, here, value-end, value-good, value-bad}
+use Rattle.lmcp.proofs.Sizes.{through}
+use Rattle.lmcp_writer.proofs.Cases.{low-bytes, laid-number, at-end, here, value-end, value-good, value-bad}
 use borrow.Author.Needs.{needs}
 use Rattle.lmcp_writer.proofs.put_value.Statement.{statement}
 use Rattle.lmcp_writer.proofs.put_value.Tie as tie

@@ -4,7 +4,8 @@ use mathlib.Core.Bool.{Bool, true, false}
 use lib.IntN.{ℤ, pos, negsuc, _-ℤ_, natAbs}
 use lib.Signed.{mag, ltZ, nonNeg}
 use Rattle.lmcp.specs.Table.{pitsurv}
-use Rattle.lmcp_writer.proofs.Cases.{through, negative-typed, positive-typed}
+use Rattle.lmcp.proofs.Sizes.{through}
+use Rattle.lmcp_writer.proofs.Cases.{negative-typed, positive-typed}
 use borrow.Author.Needs.{needs}
 use Rattle.lmcp_writer.proofs.typed_by.Statement.{statement}
 use Rattle.lmcp_writer.proofs.typed_by.Tie as tie

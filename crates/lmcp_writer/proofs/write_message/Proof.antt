@@ -8,7 +8,7 @@ use lib.ListN.{length, getD, drop}
 use borrow.Author.Needs.{needs}
 use lib.Signed.{mag}
 use Rattle.lmcp.specs.Lists.{isVersion}
-use Rattle.lmcp_writer.proofs.Cases.{through}
+use Rattle.lmcp.proofs.Sizes.{through}
 use Rattle.lmcp_writer.proofs.Answers.{list-empty, list-version, list-other}
 use Rattle.lmcp_writer.proofs.write_message.Statement.{statement}
 use Rattle.lmcp_writer.proofs.write_message.Tie as tie

@@ -1,4 +1,4 @@
--- `lmcp_writer::size_of` meets its contract: of a number below 0 the size is less one less it.
+-- `lmcp::size_of` meets its contract: of a number below 0 the size is less one less it.
 use mathlib.Core.Path.{_≡_, refl, sym, ap, _∙_, subst}
 use mathlib.Core.Bool.{Bool, true, false}
 use Prim.Native.Nat.{ℕ, _+_, _-_, _*_, _≤_, _<_}
@@ -9,9 +9,9 @@ use lib.Dec.{T}
 use mir.Syntax.{w64}
 use mir.Val.{toZ, ofZ, SFits, Fits}
 use Rattle.wire.proofs.Signs.{Below, below, Above, above}
-use Rattle.lmcp_writer.proofs.Cases.{through, negative-size, positive-size}
-use Rattle.lmcp_writer.proofs.size_of.Statement.{statement}
-use Rattle.lmcp_writer.proofs.size_of.Tie as tie
+use Rattle.lmcp.proofs.Sizes.{through, negative-size, positive-size}
+use Rattle.lmcp.proofs.size_of.Statement.{statement}
+use Rattle.lmcp.proofs.size_of.Tie as tie
 
 sub-m : tie.Need-sub-m
 sub-m c =

@@ -1,0 +1,38 @@
+-- Nothing is asked of the three arrays but their lengths, which are those written. Assumes nothing.
+use Rattle.count_pits.proofs.Zeros.{zeros}
+use borrow.Author.Needs.{needs}
+use Rattle.count_pits.proofs.counted.Statement.{statement}
+use Rattle.count_pits.proofs.counted.Tie as tie
+
+slice-aggregate-pour-log : tie.Need-slice-aggregate-pour-log
+slice-aggregate-pour-log c = zeros _
+
+slice-aggregate-pour-log-2 : tie.Need-slice-aggregate-pour-log-2
+slice-aggregate-pour-log-2 c = search needs
+
+slice-aggregate-pour-log-3 : tie.Need-slice-aggregate-pour-log-3
+slice-aggregate-pour-log-3 c = search needs
+
+pour-log-requires : tie.Need-pour-log-requires
+pour-log-requires c κs = search needs
+
+write-out-requires : tie.Need-write-out-requires
+write-out-requires c κs = search needs
+
+same-length : tie.Need-same-length
+same-length c = c .before .before .before .before .before .before .out .given
+
+returns : tie.Need-returns
+returns c = search needs
+
+pub counted-spec : {M : Type 1} → statement M
+counted-spec =
+    tie.close
+    (tie.spec
+    slice-aggregate-pour-log
+    slice-aggregate-pour-log-2
+    slice-aggregate-pour-log-3
+    pour-log-requires
+    write-out-requires
+    same-length
+    returns)

@@ -1,0 +1,81 @@
+-- `host_count::qm_count` meets its contract. Assumes nothing.
+use mathlib.Core.Path.{sym, ap, _∙_}
+use Rattle.count.specs.declared.Answer.{Answer}
+use Rattle.host_count.proofs.Telling.{codeBy, leftBy, not-counted, told-as-counted}
+use borrow.Author.Needs.{needs}
+use Rattle.host_count.proofs.qm_count.Statement.{statement}
+use Rattle.host_count.proofs.qm_count.Tie as tie
+
+returns : tie.Need-returns
+returns c = let a = c .before .before .before .before .before .args in not-counted (a .log .now) (a .store .now) (a .ledger .now) (a .numbers .now) (a .report .now) (c .if1 .taken)
+
+count-log-requires : tie.Need-count-log-requires
+count-log-requires c κs = search needs
+
+enum-told : tie.Need-enum-told
+enum-told c = search needs
+
+put-report-requires : tie.Need-put-report-requires
+put-report-requires c κs = search needs
+
+enum-known-answer : tie.Need-enum-known-answer
+enum-known-answer c = search needs
+
+same-length : tie.Need-same-length
+same-length c = search needs
+
+same-length-2 : tie.Need-same-length-2
+same-length-2 c = search needs
+
+same-length-3 : tie.Need-same-length-3
+same-length-3 c = search needs
+
+same-length-4 : tie.Need-same-length-4
+same-length-4 c = search needs
+
+returns-2 : tie.Need-returns-2
+returns-2 c =
+    let told = c .before .before .before .before in
+    let l = told .before .before .before .before .before .before .before .before in
+    let test = l .before .before .before .before in
+    let a = test .before .before .before .before .before .args in
+    let e = told .enum-told .given .1 in
+    told-as-counted (a .log .now) (a .store .now) (a .ledger .now) (a .numbers .now) (a .report .now) (test .if1 .left) (l .count-log .ensures) (sym (ap codeBy e))
+    (c .before .before .put-report .ensures ∙ sym (ap (λ (z : Answer). leftBy z (l .count-log .result .report) (a .report .now)) e))
+
+same-length-5 : tie.Need-same-length-5
+same-length-5 c = search needs
+
+same-length-6 : tie.Need-same-length-6
+same-length-6 c = search needs
+
+same-length-7 : tie.Need-same-length-7
+same-length-7 c = search needs
+
+returns-3 : tie.Need-returns-3
+returns-3 c =
+    let l = c .before .before .before .before .before .before .before .before .before in
+    let test = l .before .before .before .before in
+    let a = test .before .before .before .before .before .args in
+    let e = c .before .answer .given .1 in
+    told-as-counted (a .log .now) (a .store .now) (a .ledger .now) (a .numbers .now) (a .report .now) (test .if1 .left) (l .count-log .ensures) (sym (ap codeBy e))
+    (sym (ap (λ (z : Answer). leftBy z (l .count-log .result .report) (a .report .now)) e))
+
+pub qm-count-spec : {M : Type 1} → statement M
+qm-count-spec =
+    tie.close
+    (tie.spec
+    returns
+    count-log-requires
+    enum-told
+    put-report-requires
+    enum-known-answer
+    same-length
+    same-length-2
+    same-length-3
+    same-length-4
+    returns-2
+    same-length-5
+    same-length-6
+    same-length-7
+    returns-3)

@@ -1,0 +1,6 @@
+pub mod Cases
+pub mod Lays
+pub mod Proper
+pub mod Seen
+pub mod Told
+pub mod Walks

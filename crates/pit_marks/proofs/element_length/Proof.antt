@@ -1,0 +1,61 @@
+-- By the mark's type and the type of its place. Assumes nothing.
+use mathlib.Core.Path.{_≡_, refl, sym, _∙_}
+use native.Mathlib.Omega.{arith}
+use lib.ListN.{drop}
+use Rattle.pit_marks.proofs.Walks.{length-null, length-nowhere, length-somewhere, depth-least}
+use borrow.Author.Needs.{needs}
+use mathlib.Core.Path.{_≡_, refl, sym, _∙_}
+use Prim.Native.Nat.{ℕ, _+_, _≤_}
+use native.Mathlib.Omega.{arith}
+use borrow.Author.Tests.{eq-eqb, ne-eqb}
+use Rattle.wire.specs.Choice.{pick}
+use Rattle.counting.specs.Marks.{markLength}
+use Rattle.pit_marks.proofs.element_length.Statement.{statement}
+use Rattle.pit_marks.proofs.element_length.Tie as tie
+
+number-at-requires : tie.Need-number-at-requires
+number-at-requires c κs = search needs
+
+returns : tie.Need-returns
+returns c =
+    let a = c .before .before .args in
+    length-null (a .two) (drop (a .place) (a .list .now)) (sym (c .before .number-at .ensures) ∙ c .if1 .taken)
+
+depths-requires : tie.Need-depths-requires
+depths-requires c κs = search needs
+
+number-at-requires-2 : tie.Need-number-at-requires-2
+number-at-requires-2 c κs = search needs
+
+add-result : tie.Need-add-result
+add-result c = record { fits = omega (arith, c .before .before .depths .ensures, depth-least (c .before .before .before .before .before .args .two)) }
+
+returns-2 : tie.Need-returns-2
+returns-2 c =
+    let d = c .before .before in
+    let a = d .before .before .before .args in
+    length-nowhere (a .two) (drop (a .place) (a .list .now)) (λ e. d .before .if1 .left (d .before .before .number-at .ensures ∙ e)) (d .depths .result) (d .depths .ensures)
+    (sym (c .before .number-at2 .ensures) ∙ c .if2 .taken)
+
+add-result-2 : tie.Need-add-result-2
+add-result-2 c = record { fits = omega (arith, c .before .before .depths .ensures, depth-least (c .before .before .before .before .before .args .two)) }
+
+returns-3 : tie.Need-returns-3
+returns-3 c =
+    let d = c .before .before in
+    let a = d .before .before .before .args in
+    length-somewhere (a .two) (drop (a .place) (a .list .now)) (λ e. d .before .if1 .left (d .before .before .number-at .ensures ∙ e)) (d .depths .result) (d .depths .ensures)
+    (λ e. c .if2 .left (c .before .number-at2 .ensures ∙ e))
+
+pub element-length-spec : {M : Type 1} → statement M
+element-length-spec =
+    tie.close
+    (tie.spec
+    number-at-requires
+    returns
+    depths-requires
+    number-at-requires-2
+    add-result
+    returns-2
+    add-result-2
+    returns-3)

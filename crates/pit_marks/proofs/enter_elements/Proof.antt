@@ -1,0 +1,111 @@
+-- Element by element. The loop's invariant: those from the place on, entered into what there is, are all of them entered. Assumes nothing.
+use mathlib.Core.Path.{_≡_, refl, sym, ap, _∙_}
+use mathlib.Core.List.{List, _++_}
+use Prim.Native.Nat.{ℕ, _-_, _≤_}
+use native.Mathlib.Omega.{arith}
+use lib.ListN.{length, drop}
+use Rattle.counting.specs.Marks.{Mark, markLength, markAt}
+use Rattle.pit_marks.specs.Enters.{enterMarks}
+use Rattle.pit_marks.proofs.Cases.{as-said, then-on, then-refused, all-entered}
+use Rattle.pit_marks.proofs.Walks.{takes-one, moves-on, marksFrom, marks-turn, marks-end}
+use borrow.Author.Needs.{needs}
+use Rattle.pit_marks.proofs.enter_elements.Statement.{statement}
+use Rattle.pit_marks.proofs.enter_elements.Tie as tie
+
+abbrev Inv-loop : tie.InvT-loop
+Inv-loop list tile two pits₀ sure₀ now₀ place₀ pits sure now place =
+    (length pits ≡ length pits₀) × (length sure ≡ length sure₀) × (enterMarks tile (marksFrom two list place) pits sure now ≡ enterMarks tile (marksFrom two list 4) pits₀ sure₀ now₀)
+
+abbrev μ-loop : tie.MeasureT-loop
+μ-loop list tile two pits₀ sure₀ now₀ place₀ pits sure now place = length list - place
+
+loop-holds : tie.Need-loop-holds Inv-loop μ-loop
+loop-holds c = (refl, refl, refl)
+
+enter-element-requires : tie.Need-enter-element-requires Inv-loop μ-loop
+enter-element-requires c κs = search needs
+
+enum-known-taken : tie.Need-enum-known-taken Inv-loop μ-loop
+enum-known-taken c = search needs
+
+enum-told : tie.Need-enum-told Inv-loop μ-loop
+enum-told c = search needs
+
+same-length : tie.Need-same-length Inv-loop μ-loop
+same-length c = search needs
+
+same-length-2 : tie.Need-same-length-2 Inv-loop μ-loop
+same-length-2 c = search needs
+
+returns : tie.Need-returns Inv-loop μ-loop
+returns c =
+    let n = c .before .before .before .before .before .before in
+    let l = n .before .before .before .before in
+    let a = l .before .before .before .args in
+    let d = drop (l .loop .place) (a .list .now) in
+    let q = marks-turn (a .two) (a .list .now) (l .loop .place) (markLength (a .two) d) (omega arith) refl in
+    as-said (sym (l .loop .inv .2) ∙ ap (λ (ms : List Mark). enterMarks (a .tile) ms (l .loop .pits) (l .loop .sure) (l .loop .now)) q)
+    (then-refused (a .tile) (markAt d) _ (l .loop .pits) (l .loop .sure) (l .loop .now) _ _ _ (n .enter-element .ensures) _ (c .enum-told .given .1))
+
+element-length-requires : tie.Need-element-length-requires Inv-loop μ-loop
+element-length-requires c κs = search needs
+
+next-place-requires : tie.Need-next-place-requires Inv-loop μ-loop
+next-place-requires c κs = search needs
+
+loop-less : tie.Need-loop-less Inv-loop μ-loop
+loop-less c =
+    let e = c .before in
+    let g = e .before .before .before .before .before .before .before .before .before .before .before in
+    let l = g .before in
+    let a = l .before .before .before .args in
+    let o = takes-one (a .two) (drop (l .loop .place) (a .list .now)) in
+    moves-on (l .loop .place) (e .element-length .result) (length (a .list .now)) (c .next-place .result) (omega arith) (omega (arith, e .element-length .ensures)) (c .next-place .ensures)
+
+loop-again : tie.Need-loop-again Inv-loop μ-loop
+loop-again c =
+    let e = c .before in
+    let t = e .before .before in
+    let n = t .before .before .before .before .before .before in
+    let l = n .before .before .before .before in
+    let a = l .before .before .before .args in
+    let d = drop (l .loop .place) (a .list .now) in
+    let q = marks-turn (a .two) (a .list .now) (l .loop .place) (e .element-length .result) (omega arith) (e .element-length .ensures) in
+    let m = marksFrom (a .two) (a .list .now) (c .next-place .result) in
+    let o = then-on (a .tile) (markAt d) m (l .loop .pits) (l .loop .sure) (l .loop .now) _ _ _ (n .enter-element .ensures) _ (t .taken .given .1) in
+    let p = ap (λ (k : ℕ). markAt d ++ marksFrom (a .two) (a .list .now) k) (c .next-place .ensures) ∙ sym q in
+    (search needs, search needs, sym o ∙ (ap (λ (ms : List Mark). enterMarks (a .tile) ms (l .loop .pits) (l .loop .sure) (l .loop .now)) p ∙ l .loop .inv .2))
+
+same-length-3 : tie.Need-same-length-3 Inv-loop μ-loop
+same-length-3 c = search needs
+
+same-length-4 : tie.Need-same-length-4 Inv-loop μ-loop
+same-length-4 c = search needs
+
+returns-2 : tie.Need-returns-2 Inv-loop μ-loop
+returns-2 c =
+    let l = c .before .loop in
+    let a = c .before .before .before .before .args in
+    let e = marks-end (a .two) (a .list .now) (l .place) (omega arith) in
+    as-said (sym (l .inv .2) ∙ ap (λ (ms : List Mark). enterMarks (a .tile) ms (l .pits) (l .sure) (l .now)) e) (all-entered (a .tile) (l .pits) (l .sure) (l .now))
+
+pub enter-elements-spec : {M : Type 1} → statement M
+enter-elements-spec =
+    tie.close
+    (tie.spec
+    Inv-loop
+    μ-loop
+    loop-holds
+    enter-element-requires
+    enum-known-taken
+    enum-told
+    same-length
+    same-length-2
+    returns
+    element-length-requires
+    next-place-requires
+    loop-less
+    loop-again
+    same-length-3
+    same-length-4
+    returns-2)

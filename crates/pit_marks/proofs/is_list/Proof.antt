@@ -1,0 +1,17 @@
+-- By the type of its root. Assumes nothing.
+use mathlib.Core.Path.{ap}
+use Prim.Native.Nat.{ℕ}
+use lib.Dec.{eqb}
+use borrow.Author.Needs.{needs}
+use mathlib.Core.Path.{ap}
+use Rattle.pit_marks.proofs.is_list.Statement.{statement}
+use Rattle.pit_marks.proofs.is_list.Tie as tie
+
+number-at-requires : tie.Need-number-at-requires
+number-at-requires c κs = search needs
+
+returns : tie.Need-returns
+returns c = ap (λ (n : ℕ). eqb n 5) (c .number-at .ensures)
+
+pub is-list-spec : {M : Type 1} → statement M
+is-list-spec = tie.close (tie.spec number-at-requires returns)

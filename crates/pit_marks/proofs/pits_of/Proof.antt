@@ -1,0 +1,33 @@
+-- Between the place of a tile's first pit and that of the next tile's. Assumes nothing.
+use mathlib.Core.Path.{_≡_, sym, ap, _∙_}
+use Prim.Native.Nat.{ℕ, _-_, _*_, _%_}
+use native.Mathlib.Omega.{arith}
+use Rattle.tally.specs.Halving.{rankIn}
+use Rattle.counting.specs.Keys.{span, pitKey}
+use Rattle.pit_marks.specs.Lines.{endOf, pitsIn}
+use borrow.Author.Needs.{needs}
+use Rattle.pit_marks.proofs.pits_of.Statement.{statement}
+use Rattle.pit_marks.proofs.pits_of.Tie as tie
+
+mul-rank : tie.Need-mul-rank
+mul-rank c = search needs
+
+rank-requires : tie.Need-rank-requires
+rank-requires c κs = search needs
+
+end-of-requires : tie.Need-end-of-requires
+end-of-requires c κs = search needs
+
+room-requires : tie.Need-room-requires
+room-requires c κs = search needs
+
+returns : tie.Need-returns
+unfolding pitsIn
+returns c =
+    let a = c .before .before .before .before .args in
+    let k : a .tile % span * span ≡ pitKey (a .tile % span) 0 = omega arith in
+    let r = c .before .before .rank .ensures ∙ ap (rankIn (a .pits .now) (a .n)) k in
+    c .room .ensures ∙ (λ i. c .before .end-of .ensures i - r i)
+
+pub pits-of-spec : {M : Type 1} → statement M
+pits-of-spec = tie.close (tie.spec mul-rank rank-requires end-of-requires room-requires returns)
