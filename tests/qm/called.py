@@ -32,7 +32,7 @@ def qm(*words, **how):
     """Its status, what it printed and what it said on standard error."""
     given = {"input": b"", "stdout": subprocess.PIPE, "stderr": subprocess.PIPE}
     done = subprocess.run(QM + list(words), **{**given, **how})
-    return done.returncode, (done.stdout or b"").decode(), done.stderr.decode()
+    return done.returncode, (done.stdout or b"").decode(), (done.stderr or b"").decode()
 
 
 def program(name):
