@@ -1,0 +1,61 @@
+-- `host_receiver::qm_receive` meets its contract. Assumes nothing.
+use Rattle.host_receiver.proofs.Telling.{lacks-numbers, lacks-bytes, has-room, short-told, heard-told}
+use borrow.Author.Needs.{needs}
+use Rattle.host_receiver.proofs.qm_receive.Statement.{statement}
+use Rattle.host_receiver.proofs.qm_receive.Tie as tie
+
+returns : tie.Need-returns
+returns c =
+    let a = c .before .before .before .before .before .before .before .before .args in
+    short-told _ _ _ _ _ _ _ _ (lacks-numbers (a .told .now) (a .name .now) (c .if1 .taken))
+
+returns-2 : tie.Need-returns-2
+returns-2 c =
+    let a = c .before .before .before .before .before .before .before .before .before .args in
+    short-told _ _ _ _ _ _ _ _ (lacks-bytes (a .told .now) (a .name .now) (c .if2 .taken))
+
+receive-requires : tie.Need-receive-requires
+receive-requires c κs = search needs
+
+tell-requires : tie.Need-tell-requires
+tell-requires c κs = search needs
+
+same-length : tie.Need-same-length
+same-length c = search needs
+
+same-length-2 : tie.Need-same-length-2
+same-length-2 c = search needs
+
+same-length-3 : tie.Need-same-length-3
+same-length-3 c = search needs
+
+same-length-4 : tie.Need-same-length-4
+same-length-4 c = search needs
+
+same-length-5 : tie.Need-same-length-5
+same-length-5 c = search needs
+
+same-length-6 : tie.Need-same-length-6
+same-length-6 c = search needs
+
+returns-3 : tie.Need-returns-3
+returns-3 c =
+    let a = c .before .before .before .before .before .before .before .before .before .before .before .before .before .before .before .before .before .before .before .before .before .before .before .before .before .before .before .before .before .args in
+    let r = has-room (a .told .now) (a .name .now) (c .before .before .before .before .before .before .before .before .before .before .before .before .before .before .before .before .before .before .before .before .before .if1 .left) (c .before .before .before .before .before .before .before .before .before .before .before .before .before .before .before .before .before .before .before .before .if2 .left) in
+    heard-told _ _ _ _ _ _ _ _ _ _ _ _ _ _ _ _ r (c .before .before .before .before .before .before .before .before .before .before .before .before .before .before .before .receive .ensures) (c .before .before .before .before .tell .ensures)
+
+pub qm-receive-spec : {M : Type 1} → statement M
+qm-receive-spec =
+    tie.close
+    (tie.spec
+    returns
+    returns-2
+    receive-requires
+    tell-requires
+    same-length
+    same-length-2
+    same-length-3
+    same-length-4
+    same-length-5
+    same-length-6
+    returns-3)
