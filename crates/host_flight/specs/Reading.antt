@@ -6,10 +6,10 @@ use lib.Dec.{ltb}
 use lib.ListN.{length}
 use Rattle.wire.specs.Choice.{pick}
 use Rattle.wire.specs.Overlay.{overlay}
-use Rattle.datagram.specs.Limits.{maxPayload, maxFragments}
 use Rattle.log.specs.declared.reader.EntryAt.{EntryAt}
 use Rattle.log.specs.declared.reader.First.{First}
 use Rattle.log.specs.declared.reader.First.the-variants as first
+use Rattle.log.specs.declared.reader.Limits.{Limits}
 use Rattle.log.specs.declared.reader.Step.{Step}
 use Rattle.log.specs.declared.reader.Step.the-variants.{Found, End, Refused}
 use Rattle.log.specs.Told.{firstIn, nextAt}
@@ -20,12 +20,15 @@ abbrev pub headCount : ℕ
 headCount = 3
 
 abbrev pub firstCode : First → ℕ
-firstCode (first.At place) = 0
+firstCode (first.At place limits) = 0
 firstCode (first.Refused n) = n
+
+abbrev pub headNumbers : ℕ → Limits → List ℕ
+headNumbers place limits = place ∷ limits .payload ∷ limits .fragments ∷ []
 
 -- a refusal leaves the list
 abbrev pub firstLeft : First → List ℕ → List ℕ
-firstLeft (first.At place) list = overlay list 0 (place ∷ maxPayload ∷ maxFragments ∷ [])
+firstLeft (first.At place limits) list = overlay list 0 (headNumbers place limits)
 firstLeft (first.Refused n) list = list
 
 -- 13 where the list has no room, before all else

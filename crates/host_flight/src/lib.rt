@@ -28,12 +28,8 @@ pub extern "C" fn qm_log_first(log: &[u8], head: &mut [u64]) -> u32
     }
     let first = log::first_entry(log);
     match first {
-        First::At(place) => {
-            let told = [
-                place as u64,
-                datagram::MAX_PAYLOAD as u64,
-                datagram::MAX_FRAGMENTS as u64,
-            ];
+        First::At(place, limits) => {
+            let told = [place as u64, limits.payload as u64, limits.fragments as u64];
             words::put_words(head, 0, &told);
             0
         }

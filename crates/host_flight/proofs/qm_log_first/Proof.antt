@@ -15,8 +15,8 @@ first-entry-requires c κs = search needs
 enum-known-first : tie.Need-enum-known-first
 enum-known-first c = search needs
 
-cast-t12 : tie.Need-cast-t12
-cast-t12 c = search needs
+cast-t13 : tie.Need-cast-t13
+cast-t13 c = search needs
 
 slice-aggregate-put-words : tie.Need-slice-aggregate-put-words
 slice-aggregate-put-words c = search needs
@@ -32,7 +32,7 @@ same-length c = search needs
 
 returns-2 : tie.Need-returns-2
 returns-2 c =
-    first-told _ _ _ _ _ (le-ltb _ 3 (c .before .before .before .before .before .before .before .before .before .if1 .left)) (sym (c .before .before .before .before .before .before .before .before .first-entry .ensures) ∙ c .before .before .before .before .before .before .first .given .1) refl (c .before .before .put-words .ensures)
+    first-told _ _ _ _ _ (le-ltb _ 3 (c .before .before .before .before .before .before .before .before .before .before .if1 .left)) (sym (c .before .before .before .before .before .before .before .before .before .first-entry .ensures) ∙ c .before .before .before .before .before .before .before .first .given .1) refl (c .before .before .put-words .ensures)
 
 returns-3 : tie.Need-returns-3
 returns-3 c =
@@ -45,7 +45,7 @@ qm-log-first-spec =
     returns
     first-entry-requires
     enum-known-first
-    cast-t12
+    cast-t13
     slice-aggregate-put-words
     put-words-requires
     enum-known-first-2
