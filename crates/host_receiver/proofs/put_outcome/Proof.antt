@@ -37,12 +37,17 @@ same-length-2 c = search needs
 
 returns : tie.Need-returns
 returns c =
-    let a = c .before .before .before .before .before .before .before .before .before .before .before .before .before .before .before .before .before .before .before .before .args in
+    let named = c .before .before in
+    let second = named .before .before .before .before .before in
+    let first = second .before .before .before .before .before in
+    let emptied = first .before .before .before in
+    let answer = emptied .before in
+    let a = answer .before .before .before .before .args in
     record {
       gave = refl;
-      numbers = two-runs _ _ _ _ _ _ _ 4 (c .before .before .before .before .before .before .before .before .before .before .before .before .put-words .ensures) (c .before .before .before .before .before .before .before .put-words2 .ensures)
-          (c .before .before .before .before .before .before .before .before .before .before .before .before .before .before .before .before .answer-numbers .ensures) (c .before .before .before .before .before .before .before .before .before .before .before .before .before .before .before .emptied-numbers .ensures) (answer-four (a .outcome .answer));
-      bytes = c .before .before .put-bytes .ensures;
+      numbers = two-runs _ _ _ _ _ _ _ 4 (first .put-words .ensures) (second .put-words2 .ensures) (answer .answer-numbers .ensures) (emptied .emptied-numbers .ensures)
+          (answer-four (a .outcome .answer));
+      bytes = named .put-bytes .ensures;
     }
 
 pub put-outcome-spec : {M : Type 1} → statement M

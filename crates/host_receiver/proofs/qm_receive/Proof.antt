@@ -40,9 +40,12 @@ same-length-6 c = search needs
 
 returns-3 : tie.Need-returns-3
 returns-3 c =
-    let a = c .before .before .before .before .before .before .before .before .before .before .before .before .before .before .before .before .before .before .before .before .before .before .before .before .before .before .before .before .before .args in
-    let r = has-room (a .told .now) (a .name .now) (c .before .before .before .before .before .before .before .before .before .before .before .before .before .before .before .before .before .before .before .before .before .if1 .left) (c .before .before .before .before .before .before .before .before .before .before .before .before .before .before .before .before .before .before .before .before .if2 .left) in
-    heard-told _ _ _ _ _ _ _ _ _ _ _ _ _ _ _ _ r (c .before .before .before .before .before .before .before .before .before .before .before .before .before .before .before .receive .ensures) (c .before .before .before .before .tell .ensures)
+    let telling = c .before .before .before .before in
+    let hearing = telling .before .before .before .before .before .before .before .before .before .before .before in
+    let tests = hearing .before .before .before .before .before in
+    let a = tests .before .before .before .before .before .before .before .before .before .args in
+    let room = has-room (a .told .now) (a .name .now) (tests .before .if1 .left) (tests .if2 .left) in
+    heard-told _ _ _ _ _ _ _ _ _ _ _ _ _ _ _ _ room (hearing .receive .ensures) (telling .tell .ensures)
 
 pub qm-receive-spec : {M : Type 1} → statement M
 qm-receive-spec =

@@ -60,14 +60,18 @@ same-length-2 c = search needs
 
 returns-3 : tie.Need-returns-3
 returns-3 c =
-    let shown = c .before .before .before .before .before .before .before .before .before .before .before .before .before .before .before .before .before .before .before .before .before in
-    let word = shown .before .before .before .before .before in
-    let tests = word .before .before in
+    let lasting = c .before .before .before in
+    let putting = lasting .before .before .before .before .before .before .before in
+    let counting = putting .before .before .before .before .before .before .before in
+    let seeing = counting .before .before .before in
+    let showing = seeing .before in
+    let first = showing .before .before .before .before .before in
+    let tests = first .before .before in
     let s = tests .before .before .before .before .args in
-    see-told (s .senders .now) (s .lasts .now) (s .sender) (s .number) _ _ _ _ _ _
-    (has-room (s .senders .now) (s .lasts .now) (tests .before .if1 .left) (tests .if2 .left))
-    (shown .shown .ensures ∙ λ i. record { senders = take maxSenders (drop 1 (s .senders .now)); lasts = take maxSenders (s .lasts .now); count = word .word .ensures i })
-    (c .before .before .before .before .before .before .before .before .before .before .before .before .before .before .before .before .before .before .before .before .see .ensures) (c .noted-code .ensures) (c .before .before .before .before .before .before .before .before .before .before .before .before .before .before .before .before .before .put-word .ensures) (c .before .before .before .before .before .before .before .before .before .before .put-words .ensures) (c .before .before .before .put-entries .ensures)
+    let room = has-room (s .senders .now) (s .lasts .now) (tests .before .if1 .left) (tests .if2 .left) in
+    see-told (s .senders .now) (s .lasts .now) (s .sender) (s .number) _ _ _ _ _ _ room
+    (showing .shown .ensures ∙ λ i. record { senders = take maxSenders (drop 1 (s .senders .now)); lasts = take maxSenders (s .lasts .now); count = first .word .ensures i })
+    (seeing .see .ensures) (c .noted-code .ensures) (counting .put-word .ensures) (putting .put-words .ensures) (lasting .put-entries .ensures)
 
 pub qm-watch-see-spec : {M : Type 1} → statement M
 qm-watch-see-spec =
