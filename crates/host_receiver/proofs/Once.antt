@@ -7,12 +7,15 @@ use Prim.Native.Nat.{ℕ}
 use Rattle.wire.specs.Overlay.{overlay}
 use Rattle.wire.proofs.Choices.{either}
 use Rattle.wire.proofs.Once.{one-answer}
-use Rattle.receiver.specs.Calls.{refusalOf}
+use Rattle.receiver.specs.Calls.{refusalOf, Receives}
 use Rattle.receiver.specs.declared.Call.{Call}
 use Rattle.receiver.specs.declared.Outcome.{Outcome}
 use Rattle.receiver_laws.proofs.Once.{Same, receive-once, Alike, open-once, forget-once}
+use Rattle.log.specs.declared.reader.Limits.{Limits}
+use Rattle.bounded.specs.Within.{ReceivesWithin}
+use Rattle.bounded.proofs.Once.{within-once}
 use Rattle.host_receiver.specs.Outcomes.{outcomeNumbers, answerCode, unlessRefused, Tells}
-use Rattle.host_receiver.specs.Calls.{callCode, OpenTold, ForgetTold, lacking, Untouched, Heard, ReceiveTold}
+use Rattle.host_receiver.specs.Calls.{callCode, OpenTold, ForgetTold, lacking, Untouched, Heard, ReceiveTold, WithinTold}
 use Rattle.host_receiver.specs.Lengths.{LengthsTold}
 
 -- ---- open and forget
@@ -51,11 +54,12 @@ module _ (w n store ledger : List ℕ) (sender : ℕ) (d told name : List ℕ) (
     given = A .given ∙ sym (B .given);
   }
 
-  heard-once : Heard w n store ledger sender d told name x w1 n1 s1 l1 t1 m1 → Heard w n store ledger sender d told name y w2 n2 s2 l2 t2 m2
-      → Alone x y w1 n1 s1 l1 t1 m1 w2 n2 s2 l2 t2 m2
-  heard-once A B =
-      let e : Same (A .outcome) (B .outcome) w1 n1 s1 l1 w2 n2 s2 l2 =
-      receive-once w n store ledger sender d (A .outcome) (B .outcome) w1 n1 s1 l1 w2 n2 s2 l2 (A .receives) (B .receives) in
+  -- a call that has one outcome is told once
+  heard-once : (call : Outcome → List ℕ → List ℕ → List ℕ → List ℕ → Type 0)
+      → ((r s : Outcome) → call r w1 n1 s1 l1 → call s w2 n2 s2 l2 → Same r s w1 n1 s1 l1 w2 n2 s2 l2)
+      → Heard call told name x w1 n1 s1 l1 t1 m1 → Heard call told name y w2 n2 s2 l2 t2 m2 → Alone x y w1 n1 s1 l1 t1 m1 w2 n2 s2 l2 t2 m2
+  heard-once call once A B =
+      let e : Same (A .outcome) (B .outcome) w1 n1 s1 l1 w2 n2 s2 l2 = once (A .outcome) (B .outcome) (A .receives) (B .receives) in
       let p = A .tells in
       let q = B .tells in
       record {
@@ -72,7 +76,15 @@ module _ (w n store ledger : List ℕ) (sender : ℕ) (d told name : List ℕ) (
       → Alone x y w1 n1 s1 l1 t1 m1 w2 n2 s2 l2 t2 m2
   receive-told-once A B = elim (either (lacking told name)) [
     | inl t ↦ untouched-once (A .short t) (B .short t)
-    | inr f ↦ heard-once (A .heard f) (B .heard f)
+    | inr f ↦ heard-once (Receives w n store ledger sender d) (λ r s p q. receive-once w n store ledger sender d r s w1 n1 s1 l1 w2 n2 s2 l2 p q) (A .heard f) (B .heard f)
+  ]
+
+  pub within-told-once : (l : Limits) → WithinTold l w n store ledger sender d told name x w1 n1 s1 l1 t1 m1 → WithinTold l w n store ledger sender d told name y w2 n2 s2 l2 t2 m2
+      → Alone x y w1 n1 s1 l1 t1 m1 w2 n2 s2 l2 t2 m2
+  within-told-once l A B = elim (either (lacking told name)) [
+    | inl t ↦ untouched-once (A .short t) (B .short t)
+    | inr f ↦
+        heard-once (ReceivesWithin l w n store ledger sender d) (λ r s p q. within-once l w n store ledger sender d r s w1 n1 s1 l1 w2 n2 s2 l2 p q) (A .heard f) (B .heard f)
   ]
 
 -- ---- lengths

@@ -10,6 +10,8 @@ use Rattle.datagram.specs.Limits.{maxName}
 use Rattle.receiver.specs.Calls.{refusalOf, Receives, Opens, Forgets}
 use Rattle.receiver.specs.declared.Outcome.{Outcome}
 use Rattle.receiver.specs.declared.Call.{Call}
+use Rattle.log.specs.declared.reader.Limits.{Limits}
+use Rattle.bounded.specs.Within.{ReceivesWithin}
 use Rattle.host_receiver.specs.Outcomes.{Tells}
 
 -- 0, or the number of the refusal
@@ -47,12 +49,17 @@ pub record Untouched (w n store ledger told name : List ℕ) (answer : ℕ) (w�
   pub list : told′ ≡ told
   pub given : name′ ≡ name
 
--- the receiver's own call, and its outcome told
-pub record Heard (w n store ledger : List ℕ) (sender : ℕ) (d told name : List ℕ) (answer : ℕ) (w′ n′ store′ ledger′ told′ name′ : List ℕ) : Type 0 where
+-- the receiver's own call, and its outcome told. A call is what holds of its outcome and of words, names, store and ledger afterwards
+pub record Heard (call : Outcome → List ℕ → List ℕ → List ℕ → List ℕ → Type 0) (told name : List ℕ) (answer : ℕ) (w′ n′ store′ ledger′ told′ name′ : List ℕ) : Type 0 where
   pub outcome : Outcome
-  pub receives : Receives w n store ledger sender d outcome w′ n′ store′ ledger′
+  pub receives : call outcome w′ n′ store′ ledger′
   pub tells : Tells outcome told name answer told′ name′
 
 pub record ReceiveTold (w n store ledger : List ℕ) (sender : ℕ) (d told name : List ℕ) (answer : ℕ) (w′ n′ store′ ledger′ told′ name′ : List ℕ) : Type 0 where
   pub short : lacking told name ≡ true → Untouched w n store ledger told name answer w′ n′ store′ ledger′ told′ name′
-  pub heard : lacking told name ≡ false → Heard w n store ledger sender d told name answer w′ n′ store′ ledger′ told′ name′
+  pub heard : lacking told name ≡ false → Heard (Receives w n store ledger sender d) told name answer w′ n′ store′ ledger′ told′ name′
+
+-- out of a log with those limits
+pub record WithinTold (l : Limits) (w n store ledger : List ℕ) (sender : ℕ) (d told name : List ℕ) (answer : ℕ) (w′ n′ store′ ledger′ told′ name′ : List ℕ) : Type 0 where
+  pub short : lacking told name ≡ true → Untouched w n store ledger told name answer w′ n′ store′ ledger′ told′ name′
+  pub heard : lacking told name ≡ false → Heard (ReceivesWithin l w n store ledger sender d) told name answer w′ n′ store′ ledger′ told′ name′

@@ -1,4 +1,5 @@
 // The receiver as the van's C host calls it: state, names, store and ledger are lent, and an outcome goes to a lent list of numbers and lent bytes.
+use log::Limits;
 use receiver::Call;
 use receiver::Outcome;
 use steps::Answer;
@@ -8,7 +9,7 @@ ghost use mathlib.Core.Path.{_≡_};
 ghost use lib.ListN.{length};
 ghost use Rattle.receiver.specs.Calls.{refusalOf};
 ghost use Rattle.host_receiver.specs.Outcomes.{placeNumbers, answerNumbers, emptiedNumbers, Writes, Tells};
-ghost use Rattle.host_receiver.specs.Calls.{callCode, OpenTold, ForgetTold, lacking, ReceiveTold};
+ghost use Rattle.host_receiver.specs.Calls.{callCode, OpenTold, ForgetTold, lacking, ReceiveTold, WithinTold};
 ghost use Rattle.host_receiver.specs.Lengths.{LengthsTold};
 
 // How many numbers tell of an answer, and of an outcome.
@@ -131,6 +132,35 @@ pub extern "C" fn qm_receive(
         return TOO_SHORT;
     }
     let outcome = receiver::receive(state, names, store, ledger, sender, datagram);
+    tell(told, name, outcome)
+}
+
+// The same with a datagram out of a log, whose limits bind beside the receiver's: its largest payload and its most fragments.
+#[no_mangle]
+pub extern "C" fn qm_receive_within(
+    state: &mut [u64],
+    names: &mut [u8],
+    store: &mut [u8],
+    ledger: &mut [u32],
+    payload: usize,
+    fragments: u32,
+    sender: u64,
+    datagram: &[u8],
+    told: &mut [u64],
+    name: &mut [u8],
+) -> u32
+    ensures { λ r. ⌜ WithinTold (record { payload = payload; fragments = fragments }) (now (state .entry)) (now (names .entry)) (now (store .entry)) (now (ledger .entry)) sender
+        (now (datagram .entry)) (now (told .entry)) (now (name .entry)) r (now (state .exit)) (now (names .exit)) (now (store .exit)) (now (ledger .exit)) (now (told .exit))
+        (now (name .exit)) ⌝ }
+{
+    if told.len() < OUTCOME {
+        return TOO_SHORT;
+    }
+    if name.len() < datagram::MAX_NAME {
+        return TOO_SHORT;
+    }
+    let limits = Limits { payload, fragments };
+    let outcome = bounded::receive_within(state, names, store, ledger, limits, sender, datagram);
     tell(told, name, outcome)
 }
 
