@@ -15,20 +15,13 @@ use Rattle.bounded.specs.Within.{ReceivesWithin}
 use Rattle.host_receiver.specs.Outcomes.{Tells}
 use Rattle.host_receiver.specs.Calls.{outcomeCount, lacking, Untouched, Heard, ReceiveTold, WithinTold}
 
-or-true : (b : Bool) → (b || true) ≡ true
-or-true true = refl
-or-true false = refl
-
 -- ---- whether there is room
 
-pub lacks-numbers : (told name : List ℕ) → length told < outcomeCount → lacking told name ≡ true
+pub lacks-numbers : (told name : List ℕ) → length told < outcomeCount → true ≡ lacking told name
 lacks-numbers told name h = rw (lt-ltb (length told) outcomeCount h)
 
-pub lacks-bytes : (told name : List ℕ) → length name < maxName → lacking told name ≡ true
-lacks-bytes told name h = rw (lt-ltb (length name) maxName h) (or-true (ltb (length told) outcomeCount))
-
-pub has-room : (told name : List ℕ) → outcomeCount ≤ length told → maxName ≤ length name → lacking told name ≡ false
-has-room told name h k = rw (le-ltb (length told) outcomeCount h, le-ltb (length name) maxName k)
+pub has-numbers : (told name : List ℕ) → outcomeCount ≤ length told → ltb (length name) maxName ≡ lacking told name
+has-numbers told name h = rw (le-ltb (length told) outcomeCount h)
 
 -- ---- what is told then
 

@@ -110,6 +110,16 @@ fn tell(told: &mut [u64], name: &mut [u8], outcome: Outcome) -> u32
     }
 }
 
+// What is lent for an outcome has no room for it.
+fn no_room(told: &[u64], name: &[u8]) -> bool
+    ensures { λ r. ⌜ r ≡ lacking (now (told .entry)) (now (name .entry)) ⌝ }
+{
+    if told.len() < OUTCOME {
+        return true;
+    }
+    name.len() < datagram::MAX_NAME
+}
+
 // What is done with a datagram of that sender: 0 and the outcome, or the number of the refusal and nothing written.
 #[no_mangle]
 pub extern "C" fn qm_receive(
@@ -125,10 +135,7 @@ pub extern "C" fn qm_receive(
     ensures { λ r. ⌜ ReceiveTold (now (state .entry)) (now (names .entry)) (now (store .entry)) (now (ledger .entry)) sender (now (datagram .entry)) (now (told .entry))
         (now (name .entry)) r (now (state .exit)) (now (names .exit)) (now (store .exit)) (now (ledger .exit)) (now (told .exit)) (now (name .exit)) ⌝ }
 {
-    if told.len() < OUTCOME {
-        return TOO_SHORT;
-    }
-    if name.len() < datagram::MAX_NAME {
+    if no_room(&*told, &*name) {
         return TOO_SHORT;
     }
     let outcome = receiver::receive(state, names, store, ledger, sender, datagram);
@@ -153,10 +160,7 @@ pub extern "C" fn qm_receive_within(
         (now (datagram .entry)) (now (told .entry)) (now (name .entry)) r (now (state .exit)) (now (names .exit)) (now (store .exit)) (now (ledger .exit)) (now (told .exit))
         (now (name .exit)) ⌝ }
 {
-    if told.len() < OUTCOME {
-        return TOO_SHORT;
-    }
-    if name.len() < datagram::MAX_NAME {
+    if no_room(&*told, &*name) {
         return TOO_SHORT;
     }
     let limits = Limits { payload, fragments };
