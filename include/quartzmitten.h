@@ -1,8 +1,8 @@
 /* Quartzmitten for a C host: the checksum, the datagram reader, the cutter, the receiver, the sequence watch, the log's writer and reader, and the
    count of a log.
 
-   Link the archives libhost.a, libhost_receiver.a (qm_open, qm_receive, qm_forget, qm_lengths), libhost_flight.a (qm_log_first, qm_log_next, qm_watch_see)
-   and libhost_count.a (qm_count), or those whose functions are called: the toolchain's `rt staticlib host`, `rt staticlib host_receiver` and so on write
+   Link the archives libhost.a, libhost_receiver.a (qm_open, qm_receive, qm_receive_within, qm_forget, qm_lengths), libhost_flight.a (qm_log_first, qm_log_next,
+   qm_watch_see) and libhost_count.a (qm_count), or those whose functions are called: the toolchain's `rt staticlib host`, `rt staticlib host_receiver` and so on write
    them (x86-64 Linux). No other header is needed.
 
    What holds for all of them:
@@ -42,7 +42,7 @@ typedef unsigned long long qm_size; /* a length, a place or a number of elements
 #define QM_TOO_SHORT 13         /* output or list too short */
 #define QM_WATCH_FULL 14        /* a 17th sender at a watch, or a watch that claims more than 16 */
 #define QM_EDITION 40           /* a log of no edition that is known: it begins with neither 1 nor 2 */
-#define QM_NOT_SHORTEST 41      /* a number of a log's entry not in its shortest form, or a tenth byte above 1 */
+#define QM_NOT_SHORTEST 41      /* a number of a log not in its shortest form, or a tenth byte above 1 */
 #define QM_KEPT_TOO_LONG 42     /* a datagram to keep, or kept, over 65,535 bytes */
 #define QM_LOG_CUT 43           /* a log that is empty, or ends inside an entry */
 #define QM_INDEX_FULL 44        /* an index of more than 4,096 entries */
@@ -118,13 +118,13 @@ qm_u64 qm_log_append(qm_byte *out, qm_size out_length, qm_size at, qm_u64 sender
 /* The places of the numbers that qm_log_first writes. */
 enum {
     QM_FIRST_PLACE,   /* where the first entry begins */
-    QM_LOG_PAYLOAD,   /* the largest payload of the log's fragmented messages */
-    QM_LOG_FRAGMENTS, /* the most fragments of one */
+    QM_LOG_PAYLOAD,   /* the largest payload of the log's fragmented messages: in edition 1 262,144, in edition 2 what the log says */
+    QM_LOG_FRAGMENTS, /* the most fragments of one: 256, or 1,024 */
     QM_HEAD           /* three */
 };
 
 /* Judges the head of a log. Answers 0 and writes the three numbers above to the start of `head`. Otherwise 13 where `head` has room for fewer;
-   then 43 where the log is empty, 40 where it is no log of an edition that is known; then nothing is written. */
+   then 43 where the log is empty, 40 where it is no log of an edition that is known, and of the limit of edition 2 43, 41, 45; then nothing is written. */
 qm_u32 qm_log_first(const qm_byte *log, qm_size length, qm_u64 *head, qm_size head_length);
 
 /* The places of the numbers that qm_log_next writes. */
@@ -197,6 +197,13 @@ enum { QM_IN_DATAGRAM = 1, QM_IN_STORE };
 qm_u32 qm_receive(qm_u64 *state, qm_size state_length, qm_byte *names, qm_size names_length, qm_byte *store, qm_size store_length, qm_u32 *ledger,
                   qm_size ledger_length, qm_u64 sender, const qm_byte *datagram, qm_size length, qm_u64 *told, qm_size told_length, qm_byte *name,
                   qm_size name_length);
+
+/* Receives one datagram of a sender out of a log: as qm_receive, with the log's limits beside the receiver's. `payload` and `fragments` are those that
+   qm_log_first tells, or any others; a fragment of a larger payload is refused by 6 and one of more fragments by 5, in the reader's place. No limit of a
+   log concerns small messages. */
+qm_u32 qm_receive_within(qm_u64 *state, qm_size state_length, qm_byte *names, qm_size names_length, qm_byte *store, qm_size store_length, qm_u32 *ledger,
+                         qm_size ledger_length, qm_size payload, qm_u32 fragments, qm_u64 sender, const qm_byte *datagram, qm_size length, qm_u64 *told,
+                         qm_size told_length, qm_byte *name, qm_size name_length);
 
 /* A sender began anew: its open messages are given up and its remembered keys dropped. Answers 0, or 9 and then nothing was written. */
 qm_u32 qm_forget(qm_u64 *state, qm_size state_length, qm_byte *names, qm_size names_length, qm_u64 sender);

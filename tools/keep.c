@@ -64,7 +64,7 @@ static int put(struct keeper *k, const qm_byte *bytes, qm_size length) {
 }
 
 static int put_head(struct keeper *k) {
-    return put(k, entry, QM_LOG_LENGTH(qm_log_begin(entry, sizeof entry)));
+    return put(k, entry, QM_LOG_LENGTH(qm_log_begin(entry, sizeof entry, QM_MAX_PAYLOAD)));
 }
 
 static int put_record(struct keeper *k, const qm_byte *record, qm_size length) {

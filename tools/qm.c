@@ -70,9 +70,10 @@ int printed(const char *command) {
 static const char *meaning(qm_u32 number) {
     switch (number) {
     case QM_EDITION: return "not a log, or one of an edition that this program does not know";
-    case QM_NOT_SHORTEST: return "a number of an entry is not in its shortest form: damaged on disk";
+    case QM_NOT_SHORTEST: return "a number is not in its shortest form: damaged on disk";
     case QM_KEPT_TOO_LONG: return "an entry's datagram is over 65,535 bytes: damaged on disk";
     case QM_LOG_CUT: return "empty, or it ends inside an entry: the writing was cut off";
+    case QM_LOG_LIMIT: return "its payload limit is over 1,048,576: damaged on disk, or from a newer program";
     case QM_INDEX_FULL: return "more than 4,096 entries with a key: index the flight in parts";
     case QM_TOO_MANY_TILES: return "more than 256 tiles";
     case QM_TOO_MANY_PITS: return "more than 8,192 pits";
@@ -98,8 +99,8 @@ static const struct {
               "Prints `1 sender 7 tick 99 length 23` for each entry, then `end N`; or `refused R after N`, the N entries before it being printed.\n", 1},
     [REPLAY] = {"replay", "[--large] LOG", "a line an entry: what a fresh receiver answers to its datagram", "--large",
                 "Prints `1 kept`, `2 repeat`, `3 delivered 1845` or `4 refused 8` for each entry, with ` emptied SENDER SEQUENCE` where a message was given up for\n"
-                "another, then `end N` or `refused R after N`. The receiver's store has 2,097,152 bytes, as that of the program replay_log, whose lines these are;\n"
-                "with --large it has slots of the largest payload that there is, as `qm count` has.\n", 1},
+                "another, then `end N` or `refused R after N`. The log's limits bind. The receiver's store has 2,097,152 bytes, as that of the program replay_log,\n"
+                "whose lines these are; with --large it has slots of the largest payload that there is, as `qm count` has.\n", 1},
     [GAPS] = {"gaps", "LOG", "a line an entry: what the sequence watch notes of its sender's number", 0,
               "Prints `1 first`, `2 forward 3` (so many numbers are missing before it), `3 same`, `4 late 2`, `5 restarted 7` or `6 refused 4` for each entry,\n"
               "then `end N` or `refused R after N`. The watch has room for 16 senders; those of a 17th are `refused 14`.\n", 1},
@@ -107,15 +108,15 @@ static const struct {
                "Prints `entries E`, `kept K`, `repeated R`, `delivered D`, `refused N C` for each number that occurred, `lists L`, then `tile 9 pits 14 sure 11`\n"
                "for each tile, rising; or the one line `refused R`.\n", 1},
     [INDEX] = {"index", "LOG", "a line for each entry that has a key: sender, sequence, and its place in the log, sorted", 0,
-               "Prints `sender 7 sequence 12 place 1` for each entry that the datagram reader accepts, sorted by sender, sequence and place, then `end N`;\n"
-               "or the one line `refused R`. The place is that of the entry's first byte.\n", 1},
+               "Prints `sender 7 sequence 12 place 1` for each entry that the datagram reader accepts within the log's limits, sorted by sender, sequence and\n"
+               "place, then `end N`; or the one line `refused R`. The place is that of the entry's first byte.\n", 1},
     [FIND] = {"find", "LOG SENDER SEQUENCE", "where the first entry of a key begins", 0,
               "Prints `place 1`, `none`, or the line `refused R` of `qm index`. SENDER is a number of 64 bits and SEQUENCE one of 32, in decimal.\n", 3},
     [KEEP] = {"keep", "[--sync] LOG < RECORDS", "appends records to a log as they come, and says of each when it is kept", "--sync",
               "A record is an 8-byte sender, an 8-byte tick and a 2-byte length, big-endian, and the datagram. Once its entry was written to the file, the line\n"
               "`kept N` says that the log has N entries now: they stay when qm is killed at any moment. With --sync the line is `kept N synced`, and they stay\n"
-              "when the machine stops too. A log that is not there is begun. One that ends inside an entry, since its writing was cut off, goes on after its\n"
-              "last whole entry, and standard error says so. Only one qm keep writes to a log at a time.\n", 1},
+              "when the machine stops too. A log that is not there is begun, of edition 2 with the limit 1,048,576. One that ends inside an entry, since its writing\n"
+              "was cut off, goes on after its last whole entry, and standard error says so. Only one qm keep writes to a log at a time.\n", 1},
 };
 
 enum { COMMANDS = sizeof commands / sizeof *commands };

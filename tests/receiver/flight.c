@@ -65,10 +65,14 @@ static void hold_list(const u64 *list, u64 length, const u64 *expected, u64 numb
     held(region_whole(&lent_log) && region_whole(&lent_head) && region_whole(&lent_entry), "canary of the log", call);
 }
 
+u64 heads_met[64];
+
 static u64 read_head(const u8 *log, u64 length, u64 room, u64 call) {
     u64 *head = list_of(&lent_head, room), at = 0;
-    u32 refusal = room < QM_HEAD ? QM_TOO_SHORT : ref_log_open(log, length, &at);
-    u64 expected[QM_HEAD] = {at, QM_MAX_PAYLOAD, QM_MAX_FRAGMENTS};
+    struct ref_limits limits = {0, 0};
+    u32 refusal = room < QM_HEAD ? QM_TOO_SHORT : ref_log_open(log, length, &at, &limits);
+    u64 expected[QM_HEAD] = {at, limits.payload, limits.fragments};
+    heads_met[refusal]++;
     held(qm_log_first(log, length, head, room) == refusal, "answer to a log's head", call);
     hold_list(head, room, expected, refusal == 0 ? QM_HEAD : 0, "head", call);
     return at;
@@ -98,6 +102,14 @@ void log_run(u64 seed) {
     flight_world(between(1, 40));
     if (chance(70)) flight_damage();
     if (chance(10)) flight_length = below(3);
+    if (chance(20)) {
+        /* a limit at an edge, or not in its shortest form */
+        static const char *const heads[6] = {"\2\200\200\100", "\2\201\200\100", "\2\0", "\2\200\0", "\2\377\377\377\377\377\377\377\377\377\1", "\2\200\200\200\200\200\200\200\200\200\2"};
+        static const u64 lengths[6] = {4, 4, 2, 3, 11, 11};
+        u64 i = below(6);
+        flight_length = lengths[i] - (u64) chance(20);
+        memcpy(flight_log, heads[i], flight_length);
+    }
     u8 *log = region_lend(&lent_log, flight_length, chance(50));
     memcpy(log, flight_log, flight_length);
     u64 at = read_head(log, flight_length, chance(20) ? below(QM_HEAD + 3) : QM_HEAD, seed);

@@ -12,7 +12,7 @@ static u64 *state, old_state[QM_STATE];
 static u8 *names, old_names[QM_NAMES], *store, ref_store[STORE];
 static u32 *ledger;
 static struct ref_receiver ref;
-static u64 passed, failed, met[4], refused_by[16], forgotten, emptied_keys, names_seen, too_short;
+static u64 passed, failed, met[4], refused_by[16], forgotten, emptied_keys, names_seen, too_short, within[16];
 
 void held(int good, const char *what, u64 call) {
     if (good) passed++;
@@ -39,6 +39,20 @@ static void hold_delivered(const struct ref_answer *a, const u64 *told, const u8
     held(memcmp(name, ref_name, MAX_NAME) == 0, "name", call);
 }
 
+/* The receiver's call, or that within a log's limits. */
+static u32 receive(const struct ref_limits *limits, int odd, u64 store_length, u64 ledger_length, u64 sender, const u8 *d, u64 length, u64 *told, u64 told_length,
+                   u8 *name, u64 name_length) {
+    u64 words = QM_STATE - (u64) (odd == 3), bytes = QM_NAMES - (u64) (odd == 4);
+    if (!limits) return qm_receive(state, words, names, bytes, store, store_length, ledger, ledger_length, sender, d, length, told, told_length, name, name_length);
+    return qm_receive_within(state, words, names, bytes, store, store_length, ledger, ledger_length, limits->payload, (u32) limits->fragments, sender, d, length, told,
+                             told_length, name, name_length);
+}
+
+/* Limits at the edges of the payloads and fragments that are sent, and some that bind nothing. */
+static struct ref_limits some_limits(void) {
+    return (struct ref_limits) {ONE_OF(0, 199, 200, 499, 500, 700, 262144, QM_MAX_PAYLOAD, 1ULL << 32, -1ULL), ONE_OF(0, 1, 2, 3, 7, 256, QM_MAX_FRAGMENTS, 0xffffffff)};
+}
+
 /* One call to both, with memory of the lengths of opening or, where `odd`, of others; 5 and 6: no room for the outcome. */
 static void give(u64 sender, const u8 *d, u64 length, int odd, u64 call) {
     u64 more = chance(10), told_length = QM_OUTCOME + more - (u64) (odd == 5) * (more + below(QM_OUTCOME) + 1);
@@ -50,11 +64,13 @@ static void give(u64 sender, const u8 *d, u64 length, int odd, u64 call) {
     for (u64 i = 0; i < name_length; i++) name[i] = old_name[i] = (u8) (0x80 + i);
     memcpy(old_state, state, sizeof old_state);
     memcpy(old_names, names, sizeof old_names);
-    u32 refusal = qm_receive(state, QM_STATE - (u64) (odd == 3), names, QM_NAMES - (u64) (odd == 4), store, store_length, ledger, ledger_length, sender, d, length,
-                             told, told_length, name, name_length);
+    struct ref_limits some = some_limits(), *limits = chance(30) ? &some : 0;
+    u32 refusal = receive(limits, odd, store_length, ledger_length, sender, d, length, told, told_length, name, name_length);
     struct ref_answer a = odd > 4   ? (struct ref_answer) {.kind = REF_REFUSED, .refusal = QM_TOO_SHORT}
                           : odd > 2 ? (struct ref_answer) {.kind = REF_REFUSED, .refusal = QM_NOT_READY}
+                          : limits  ? ref_receive_within(&ref, limits, store_length, ledger_length, sender, d, length)
                                     : ref_receive_lent(&ref, store_length, ledger_length, sender, d, length);
+    if (limits && odd == 0) within[a.kind == REF_REFUSED ? a.refusal : 0]++;
     met[a.kind]++;
     held(refusal == a.refusal, "refusal", call);
     if (a.kind == REF_REFUSED) {
@@ -206,6 +222,11 @@ int main(void) {
     }
     if (too_short < 20) held(0, "mixture is needed: no room comes too seldom", too_short);
     printf(" 13: %llu", too_short);
+    printf("; within a log's limits received %llu, refused 5: %llu 6: %llu", within[0], within[5], within[6]);
+    if (within[0] < 1000 || within[5] < 1000 || within[6] < 1000) held(0, "mixture is needed: limits bind too seldom", within[5]);
+    static const int heads[] = {0, 13, 40, 41, 43, 45};
+    for (u64 i = 0; i < sizeof heads / sizeof *heads; i++)
+        if (heads_met[heads[i]] == 0) held(0, "mixture is needed: an answer to a head never comes", (u64) heads[i]);
     printf("\n%llu passed, %llu failed\n", passed, failed);
     return failed != 0;
 }

@@ -12,4 +12,7 @@ void held(int good, const char *what, u64 call);
 void watch_run(u64 seed);
 void log_run(u64 seed);
 
+/* How often a log's head was answered by each number. */
+extern u64 heads_met[64];
+
 #endif
