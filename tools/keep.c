@@ -87,8 +87,11 @@ static int resume(struct keeper *k) {
     k->entries = k->acknowledged = w.entries;
     if (k->place < log.length) {
         if (ftruncate(k->file, (long) k->place) != 0) return failed("keep", k->path);
-        fprintf(stderr, "qm keep: %s: was cut off inside an entry: %llu bytes of it are taken off, and the log goes on after its %llu whole entries\n", k->path,
-                log.length - k->place, k->entries);
+        qm_size over = log.length - k->place;
+        if (k->place == 0) fprintf(stderr, "qm keep: %s: was cut off inside its head: %llu bytes of it are taken off, and the log is begun\n", k->path, over);
+        else
+            fprintf(stderr, "qm keep: %s: was cut off inside an entry: %llu bytes of it are taken off, and the log goes on after its %llu whole entries\n",
+                    k->path, over, k->entries);
     }
     return k->place == 0 ? put_head(k) : DONE;
 }

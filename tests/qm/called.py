@@ -35,11 +35,11 @@ def qm(*words, **how):
     return done.returncode, (done.stdout or b"").decode(), (done.stderr or b"").decode()
 
 
-def program(name):
-    """A function from input to output: the proved program."""
-    subprocess.run([os.path.join(ROOT, "run"), name], input=b"", stdout=subprocess.DEVNULL, check=True)
+def program(name, *words):
+    """A function from input and arguments to output: the proved program. It is built by a call with these arguments."""
+    subprocess.run([os.path.join(ROOT, "run"), name, *words], input=b"", stdout=subprocess.DEVNULL, check=True)
     built = LOADER + [os.path.join(ROOT, "target", "bin", name)]
-    return lambda b: subprocess.run(built, input=b, stdout=subprocess.PIPE, check=True).stdout.decode()
+    return lambda b, *words: subprocess.run(built + list(words), input=b, stdout=subprocess.PIPE, check=True).stdout.decode()
 
 
 LOADER = QM[:-1]
