@@ -1,3 +1,0 @@
-pub mod Outcomes
-pub mod Calls
-pub mod Lengths
