@@ -21,8 +21,8 @@ use Rattle.steps.specs.Slots as step
 use Rattle.steps.specs.Receive.{Machine, After, withSlots, row, storeWith, ledgerWith, step5, beginAt}
 use Rattle.steps.proofs.Branches.{step5-delivered, step5-kept}
 use Rattle.steps.proofs.Seats.{set-there, seat-free, seat-full}
-use Rattle.words.specs.Ranks.{lowestRanked}
-use Rattle.words.proofs.Ranks.{lowest-is}
+use Rattle.ranks.specs.Ranks.{lowestRanked}
+use Rattle.ranks.proofs.Ranks.{lowest-is}
 use Rattle.slots.specs.declared.Found.the-variants.{At, Nothing}
 use Rattle.slots.specs.Words.{turns, at, senderWord, sequenceWord, sizeWord, freeIn, firstBelow}
 use Rattle.receiver_state.specs.View.{roomWord, nameIn, slotsOf, memoryOf, view}

@@ -9,7 +9,7 @@ use Rattle.wire.specs.Choice.{pick}
 use Rattle.datagram.specs.Limits.{maxFragments}
 use Rattle.steps.specs.Held.{heldWords, isHeld}
 use Rattle.steps.specs.Receive.{inOrder}
-use Rattle.words.specs.declared.Ranked.{Ranked}
+use Rattle.ranks.specs.declared.Ranked.{Ranked}
 use Rattle.slots.specs.declared.Found.{Found}
 use Rattle.slots.specs.declared.Found.the-variants.{At, Nothing}
 

@@ -1,5 +1,5 @@
 // The slots of a receiver's state: a block of words for each, after the words of its head. Every public function is total over any slice.
-use words::Ranked;
+use ranks::Ranked;
 ghost use mathlib.Core.Path.{_≡_};
 ghost use Prim.Native.Nat.{_+_, _*_, _≤_, _<_, _^_};
 ghost use lib.Dec.{ltb};
@@ -9,7 +9,7 @@ ghost use Rattle.steps.specs.Search.{allBelow, count};
 ghost use Rattle.steps.specs.Held.{isHeld, hold};
 ghost use Rattle.datagram.specs.Limits.{maxName};
 ghost use Rattle.steps.specs.Limits.{slotCount};
-ghost use Rattle.words.specs.Ranks.{ranksLowered, lowestRanked};
+ghost use Rattle.ranks.specs.Ranks.{ranksLowered, lowestRanked};
 ghost use Rattle.slots.specs.Words.{blockWords, blockAt, turns, keyIn, freeIn, busyIn, firstBelow, soundIn, agreesAt, fitsIn};
 ghost use Rattle.slots.specs.Apart.{clearAt, endsBy, beginsAfter, belowFit, aboveFit, nearFit};
 
@@ -106,7 +106,7 @@ fn turns() -> Ranked
 pub fn oldest(state: &[u64]) -> usize
     ensures { λ r. ⌜ r ≡ lowestRanked (now (state .entry)) turns slotCount ⌝ }
 {
-    words::lowest_ranked(state, turns(), SLOTS)
+    ranks::lowest_ranked(state, turns(), SLOTS)
 }
 
 // How many slots are open.
@@ -128,7 +128,7 @@ pub fn open_count(state: &[u64]) -> u64
 pub fn lower(state: &mut [u64], t: u64)
     ensures { λ _. ⌜ now (state .exit) ≡ ranksLowered (now (state .entry)) turns t slotCount ⌝ }
 {
-    words::lower_ranks(state, turns(), SLOTS, t);
+    ranks::lower_ranks(state, turns(), SLOTS, t);
 }
 
 fn is_sound(state: &[u64], room: u64, i: usize) -> bool

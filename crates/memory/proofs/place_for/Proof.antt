@@ -3,8 +3,8 @@ use mathlib.Core.Path.{_≡_, sym, _∙_, ap}
 use Prim.Native.Nat.{ℕ}
 use borrow.Author.Needs.{needs}
 use Rattle.steps.specs.Limits.{sendersMost, keysEach}
-use Rattle.words.specs.Ranks.{lowestRanked}
-use Rattle.words.specs.declared.Ranked.{Ranked}
+use Rattle.ranks.specs.Ranks.{lowestRanked}
+use Rattle.ranks.specs.declared.Ranked.{Ranked}
 use Rattle.memory.proofs.Views.{for-own, for-free, for-other}
 use Rattle.memory.proofs.place_for.Statement.{statement}
 use Rattle.memory.proofs.place_for.Tie as tie

@@ -3,8 +3,8 @@ use mathlib.Core.Path.{sym}
 use native.Mathlib.Omega.{arith}
 use lib.ListN.{List·getD-eq-default}
 use borrow.Author.Needs.{needs}
-use Rattle.words.proofs.word_of.Statement.{statement}
-use Rattle.words.proofs.word_of.Tie as tie
+use Rattle.ranks.proofs.word_of.Statement.{statement}
+use Rattle.ranks.proofs.word_of.Tie as tie
 
 room-requires : tie.Need-room-requires
 room-requires c κs = search needs

@@ -1,7 +1,7 @@
 -- `words::lower_of` meets its contract. Assumes nothing.
 use borrow.Author.Tests.{lt-ltb, le-ltb}
-use Rattle.words.proofs.lower_of.Statement.{statement}
-use Rattle.words.proofs.lower_of.Tie as tie
+use Rattle.ranks.proofs.lower_of.Statement.{statement}
+use Rattle.ranks.proofs.lower_of.Tie as tie
 
 returns : tie.Need-returns
 returns c = simp (lt-ltb _ _ (c .if1 .taken))

@@ -1,8 +1,8 @@
 -- `words::lower_rank` meets its contract. Assumes nothing.
 use borrow.Author.Tests.{eq-eqb, ne-eqb, lt-ltb, le-ltb}
 use borrow.Author.Needs.{needs}
-use Rattle.words.proofs.lower_rank.Statement.{statement}
-use Rattle.words.proofs.lower_rank.Tie as tie
+use Rattle.ranks.proofs.lower_rank.Statement.{statement}
+use Rattle.ranks.proofs.lower_rank.Tie as tie
 
 returns : tie.Need-returns
 returns c =

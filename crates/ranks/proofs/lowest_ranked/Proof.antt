@@ -1,14 +1,14 @@
--- `words::lowest_ranked` meets its contract. The loop's invariant: `best` is the lowest of the i places passed, `low` its rank, and `at` where
+-- `ranks::lowest_ranked` meets its contract. The loop's invariant: `best` is the lowest of the i places passed, `low` its rank, and `at` where
 -- place i begins, or the end. Assumes nothing.
 use mathlib.Core.Path.{_≡_, refl, sym, _∙_, ap}
 use Prim.Native.Nat.{_+_, _-_, _≤_, min}
 use native.Mathlib.Omega.{arith}
 use lib.ListN.{length, getD}
-use Rattle.words.specs.Ranks.{placeAt, rankOf, lowestRanked}
-use Rattle.words.proofs.Ranks.{past-get, place-next, lowest-none, lowest-more, low-more}
+use Rattle.ranks.specs.Ranks.{placeAt, rankOf, lowestRanked}
+use Rattle.ranks.proofs.Ranks.{past-get, place-next, lowest-none, lowest-more, low-more}
 use borrow.Author.Needs.{needs}
-use Rattle.words.proofs.lowest_ranked.Statement.{statement}
-use Rattle.words.proofs.lowest_ranked.Tie as tie
+use Rattle.ranks.proofs.lowest_ranked.Statement.{statement}
+use Rattle.ranks.proofs.lowest_ranked.Tie as tie
 
 abbrev Inv-loop : tie.InvT-loop
 Inv-loop w p n best₀ at₀ low₀ i₀ best at low i = (i ≤ n) × (at ≡ min (placeAt p i) (length w)) × (best ≡ lowestRanked w p i) × (low ≡ rankOf w p best)

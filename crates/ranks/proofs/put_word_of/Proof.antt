@@ -3,8 +3,8 @@ use mathlib.Core.Path.{sym}
 use native.Mathlib.Omega.{arith}
 use lib.Seq.{set-out}
 use borrow.Author.Needs.{needs}
-use Rattle.words.proofs.put_word_of.Statement.{statement}
-use Rattle.words.proofs.put_word_of.Tie as tie
+use Rattle.ranks.proofs.put_word_of.Statement.{statement}
+use Rattle.ranks.proofs.put_word_of.Tie as tie
 
 room-requires : tie.Need-room-requires
 room-requires c κs = search needs

@@ -13,8 +13,8 @@ use lib.ListN.{length, getD, set, length-set, List·getD-eq-default}
 use lib.Seq.{set-out, getD-set-same, getD-set-other}
 use borrow.Author.Tests.{lt-ltb, le-ltb}
 use Rattle.wire.specs.Choice.{pick}
-use Rattle.words.specs.declared.Ranked.{Ranked}
-use Rattle.words.specs.Ranks.{placeAt, markOf, rankOf, lowerRank, ranksLowered, lowestRanked}
+use Rattle.ranks.specs.declared.Ranked.{Ranked}
+use Rattle.ranks.specs.Ranks.{placeAt, markOf, rankOf, lowerRank, ranksLowered, lowestRanked}
 
 -- ---- a place past the end is as good as the end
 

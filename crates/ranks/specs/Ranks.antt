@@ -6,7 +6,7 @@ use Prim.Native.Nat.{ℕ, zero, suc, _+_, _-_, _*_}
 use lib.Dec.{eqb, ltb}
 use lib.ListN.{getD, set}
 use Rattle.wire.specs.Choice.{pick}
-use Rattle.words.specs.declared.Ranked.{Ranked}
+use Rattle.ranks.specs.declared.Ranked.{Ranked}
 
 -- where place i begins
 abbrev pub placeAt : Ranked → ℕ → ℕ

@@ -1,14 +1,14 @@
--- `words::lower_ranks` meets its contract. The loop's invariant: the ranks of the i places passed are lowered, and `at` is where place i
+-- `ranks::lower_ranks` meets its contract. The loop's invariant: the ranks of the i places passed are lowered, and `at` is where place i
 -- begins, or the end. Assumes nothing.
 use mathlib.Core.Path.{_≡_, refl, sym, _∙_, ap}
 use Prim.Native.Nat.{_+_, _-_, _≤_, min}
 use native.Mathlib.Omega.{arith}
 use lib.ListN.{length}
-use Rattle.words.specs.Ranks.{placeAt, ranksLowered}
-use Rattle.words.proofs.Ranks.{place-next, lowered-none, lowered-more, lowered-length}
+use Rattle.ranks.specs.Ranks.{placeAt, ranksLowered}
+use Rattle.ranks.proofs.Ranks.{place-next, lowered-none, lowered-more, lowered-length}
 use borrow.Author.Needs.{needs}
-use Rattle.words.proofs.lower_ranks.Statement.{statement}
-use Rattle.words.proofs.lower_ranks.Tie as tie
+use Rattle.ranks.proofs.lower_ranks.Statement.{statement}
+use Rattle.ranks.proofs.lower_ranks.Tie as tie
 
 abbrev Inv-loop : tie.InvT-loop
 Inv-loop w₀ p n t at₀ i₀ w at i = (i ≤ n) × (at ≡ min (placeAt p i) (length w)) × (w ≡ ranksLowered w₀ p t i)
