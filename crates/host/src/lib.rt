@@ -20,7 +20,7 @@ pub use flight::qm_log_begin;
 pub extern "C" fn qm_checksum(bytes: &[u8]) -> u32
     ensures { λ r. ⌜ r ≡ sum (now (bytes .entry)) % 2 ^ 32 ⌝ }
 {
-    wire::checksum(bytes)
+    checksum::checksum(bytes)
 }
 
 // 1 for a small message, 2 for a fragment.
