@@ -12,9 +12,9 @@ use borrow.Author.Tests.{eq-eqb, ne-eqb, eqb-true, leb-true}
 use Rattle.wire.specs.Choice.{pick}
 use Rattle.wire.proofs.Choices.{and-l, and-r}
 use Rattle.datagram.specs.Limits.{maxPayload, maxFragments, maxDatagram}
-use Rattle.datagram.specs.Name.{goodName}
+use Rattle.names.specs.Name.{goodName}
 use Rattle.datagram.specs.Read.{goodStart, goodForm, readDatagram, namePlace, payloadPlace, nameOf, payloadOf, partOf}
-use Rattle.datagram.specs.Said.{Fragment, Said, refused, small, fragment, fragmentIn, says, nameIn, payloadIn, said}
+use Rattle.datagram.specs.Said.{Fragment, Said, refused, small, fragment, fragmentIn, says, nameIn, payloadIn, said, Reads}
 use Rattle.datagram.specs.declared.Header.{Header}
 use Rattle.datagram.specs.declared.Read.{Read}
 use Rattle.datagram.specs.declared.Read.the-variants.{Good, Refused}
@@ -121,10 +121,10 @@ module _ (C N : ℕ) (d : List ℕ) where
 
 -- ---- the answer in the paper's values
 
--- what the contract of `read_datagram` gives, told in them
-pub read-says : (C N : ℕ) (d : List ℕ) (r : Read) → r ≡ readDatagram C N d → says d r ≡ said C N d
+-- the contract of `read_datagram`, from the answer alone
+pub read-says : {C N : ℕ} {d : List ℕ} {r : Read} → r ≡ readDatagram C N d → Reads C N d r
 unfolding said
-read-says C N d r e = ap (says d) e
+read-says {C} {N} {d} e = record { answer = e; told = ap (says d) e }
 
 -- and the two parts, by the reader's own limits
 module _ (d : List ℕ) where

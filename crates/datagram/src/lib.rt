@@ -2,21 +2,21 @@
 ghost use mathlib.Core.Path.{_≡_};
 ghost use Prim.Native.Nat.{_+_, _≤_, _<_, min};
 ghost use lib.ListN.{length, drop};
-ghost use lib.Dec.{eqb};
 ghost use Rattle.wire.specs.Bytes.{be};
-ghost use Rattle.datagram.specs.Scan.{within, start, lowAfter, highAfter, after, first, next, scan};
-ghost use Rattle.datagram.specs.Name.{goodName, untilZero, nameLength};
+ghost use Rattle.datagram.specs.Name.{untilZero, nameLength};
 ghost use Rattle.datagram.specs.Limits.{maxDatagram, maxName};
-ghost use Rattle.datagram.specs.Read.{goodStart, goodForm, formed, readSmall, readFragment, readDatagram, namePlace, payloadPlace, nameOf, payloadOf, partOf};
+ghost use Rattle.datagram.specs.Read.{goodStart, goodForm, formed, readSmall, readFragment, namePlace, payloadPlace, nameOf, payloadOf, partOf};
+ghost use Rattle.datagram.specs.Said.{Reads};
 
-// The largest payload, the most fragments of a message, the longest datagram and the longest name.
+// The largest payload, the most fragments of a message, and the longest datagram.
 pub const MAX_PAYLOAD: usize = 1048576;
 
 pub const MAX_FRAGMENTS: u32 = 1024;
 
 pub const MAX_DATAGRAM: usize = 65535;
 
-pub const MAX_NAME: usize = 63;
+// The longest name.
+pub const MAX_NAME: usize = names::MAX_NAME;
 
 // "LC02" and "LC03", as numbers of four bytes.
 pub const SMALL_MAGIC: u32 = 0x4c433032;
@@ -52,137 +52,6 @@ pub enum Named {
     Long(usize),
 }
 
-// Where a scan of UTF-8 stands: how many bytes of a code point are to come, and from which to which the next may be.
-struct Scan {
-    left: u8,
-    low: u8,
-    high: u8,
-}
-
-fn within(low: u8, high: u8, x: u8) -> bool
-    ensures { λ r. ⌜ r ≡ within low high x ⌝ }
-{
-    if x < low {
-        return false;
-    }
-    x <= high
-}
-
-// The lowest byte after the first byte x of a code point: no overlong form.
-fn low_after(x: u8) -> u8
-    ensures { λ r. ⌜ r ≡ lowAfter x ⌝ }
-{
-    if x == 0xe0 {
-        return 0xa0;
-    }
-    if x == 0xf0 {
-        return 0x90;
-    }
-    0x80
-}
-
-// The highest: no surrogate, and nothing above 10FFFF.
-fn high_after(x: u8) -> u8
-    ensures { λ r. ⌜ r ≡ highAfter x ⌝ }
-{
-    if x == 0xed {
-        return 0x9f;
-    }
-    if x == 0xf4 {
-        return 0x8f;
-    }
-    0xbf
-}
-
-// After the first byte x of a code point that has n more.
-fn after(n: u8, x: u8) -> Scan
-    ensures { λ r. ⌜ r ≡ after n x ⌝ }
-{
-    Scan {
-        left: n,
-        low: low_after(x),
-        high: high_after(x),
-    }
-}
-
-// What the first byte of a code point leads to.
-fn first(x: u8) -> Scan
-    ensures { λ r. ⌜ r ≡ first x ⌝ }
-{
-    if within(32, 126, x) {
-        return Scan {
-            left: 0,
-            low: 0x80,
-            high: 0xbf,
-        };
-    }
-    if within(0xc2, 0xdf, x) {
-        return after(1, x);
-    }
-    if within(0xe0, 0xef, x) {
-        return after(2, x);
-    }
-    if within(0xf0, 0xf4, x) {
-        return after(3, x);
-    }
-    Scan {
-        left: 1,
-        low: 1,
-        high: 0,
-    }
-}
-
-// What any byte leads to: a byte that may not follow leads where none helps.
-fn next(s: Scan, x: u8) -> Scan
-    ensures { λ r. ⌜ r ≡ next s x ⌝ }
-{
-    if s.left == 0 {
-        return first(x);
-    }
-    if within(s.low, s.high, x) {
-        return Scan {
-            left: s.left - 1,
-            low: 0x80,
-            high: 0xbf,
-        };
-    }
-    Scan {
-        left: 1,
-        low: 1,
-        high: 0,
-    }
-}
-
-// Whole code points, each allowed.
-fn well_formed(name: &[u8]) -> bool
-    ensures { λ r. ⌜ r ≡ eqb (scan start (now (name .entry)) .left) 0 ⌝ }
-{
-    let mut s = Scan {
-        left: 0,
-        low: 0x80,
-        high: 0xbf,
-    };
-    let mut i: usize = 0;
-    while i < name.len() {
-        s = next(s, name[i]);
-        i += 1;
-    }
-    s.left == 0
-}
-
-// The name rule: 1 to 63 bytes of UTF-8. The reader and the cutter ask it here.
-pub fn good_name(name: &[u8]) -> bool
-    ensures { λ r. ⌜ r ≡ goodName (now (name .entry)) ⌝ }
-{
-    if name.len() < 1 {
-        return false;
-    }
-    if MAX_NAME < name.len() {
-        return false;
-    }
-    well_formed(name)
-}
-
 // How many bytes stand before the first zero byte, at most one more than a name has.
 fn until_zero(b: &[u8]) -> usize
     ensures { λ r. ⌜ r ≡ min (untilZero (now (b .entry))) (maxName + 1) ⌝ }
@@ -206,7 +75,7 @@ fn name_length(b: &[u8]) -> Named
     if b.len() <= c {
         return Named::Nameless;
     }
-    if good_name(&b[..c]) {
+    if names::good_name(&b[..c]) {
         return Named::Long(c);
     }
     Named::Nameless
@@ -341,7 +210,7 @@ fn read_fragment(d: &[u8], max_size: usize, max_count: u32) -> Read
 
 // What a datagram says, for payloads of at most max_size bytes in at most max_count fragments.
 pub fn read_datagram(d: &[u8], max_size: usize, max_count: u32) -> Read
-    ensures { λ r. ⌜ r ≡ readDatagram «max_size» «max_count» (now (d .entry)) ⌝ }
+    ensures { λ r. ⌜ Reads «max_size» «max_count» (now (d .entry)) r ⌝ }
 {
     if MAX_DATAGRAM < d.len() {
         return Read::Refused(3);
@@ -385,16 +254,17 @@ fn payload_place(r: Read) -> Place
 pub fn name_part(d: &[u8]) -> &[u8]
     ensures { λ r. ⌜ now r ≡ nameOf (now (d .entry)) ⌝ }
 {
-    let p = name_place(read_datagram(d, MAX_PAYLOAD, MAX_FRAGMENTS));
-    wire::part(d, p.at, p.len)
+    part_at(d, name_place(read_datagram(d, MAX_PAYLOAD, MAX_FRAGMENTS)))
 }
 
 // The payload of a small message, or the data of a fragment, as the part of the datagram that holds it: empty for a refused datagram.
 pub fn payload_part(d: &[u8]) -> &[u8]
     ensures { λ r. ⌜ now r ≡ payloadOf (now (d .entry)) ⌝ }
 {
-    let p = payload_place(read_datagram(d, MAX_PAYLOAD, MAX_FRAGMENTS));
-    wire::part(d, p.at, p.len)
+    part_at(
+        d,
+        payload_place(read_datagram(d, MAX_PAYLOAD, MAX_FRAGMENTS)),
+    )
 }
 
 // A part of a datagram by its place.

@@ -27,8 +27,10 @@ wide-requires-2 c κs = search needs
 returns-2 : tie.Need-returns-2
 unfolding goodForm
 returns-2 c =
-    let a = c .before .before .before .before .before .args in
-    rw (sym (c .before .before .before .before .good-start .ensures) ∙ not-false _ (c .before .before .before .if1 .left), lt-leb (a .h .offset + a .h .payload .len) (a .h .size) (omega arith))
+    let left = c .before .before .before in
+    let begun = left .before in
+    let h = begun .before .args .h in
+    rw (sym (begun .good-start .ensures) ∙ not-false _ (left .if1 .left), lt-leb (h .offset + h .payload .len) (h .size) (omega arith))
 
 wide-requires-3 : tie.Need-wide-requires-3
 wide-requires-3 c κs = search needs
@@ -42,23 +44,29 @@ wide-requires-4 c κs = search needs
 returns-3 : tie.Need-returns-3
 unfolding goodForm
 returns-3 c =
-    let a = c .before .before .before .before .before .before .before .before .args in
+    let sized = c .before .before .before .before in
+    let ended = sized .before in
+    let left = ended .before in
+    let begun = left .before in
+    let h = begun .before .args .h in
     rw (
-      sym (c .before .before .before .before .before .before .before .good-start .ensures) ∙ not-false _ (c .before .before .before .before .before .before .if1 .left),
-      le-leb (a .h .offset + a .h .payload .len) (a .h .size) (omega arith),
-      eq-eqb (a .h .number + 1) (a .h .count) (omega arith),
-      c .before .before .before .before .before .wide .ensures,
-      c .before .before .before .before .wide2 .ensures,
+      sym (begun .good-start .ensures) ∙ not-false _ (left .if1 .left),
+      le-leb (h .offset + h .payload .len) (h .size) (omega arith),
+      eq-eqb (h .number + 1) (h .count) (omega arith),
+      ended .wide .ensures,
+      sized .wide2 .ensures,
     )
 
 returns-4 : tie.Need-returns-4
 unfolding goodForm
 returns-4 c =
-    let a = c .before .before .before .before .before .before .before .before .args in
+    let left = c .before .before .before .before .before .before in
+    let begun = left .before in
+    let h = begun .before .args .h in
     rw (
-      sym (c .before .before .before .before .before .before .before .good-start .ensures) ∙ not-false _ (c .before .before .before .before .before .before .if1 .left),
-      le-leb (a .h .offset + a .h .payload .len) (a .h .size) (omega arith),
-      ne-eqb (a .h .number + 1) (a .h .count) (omega arith),
+      sym (begun .good-start .ensures) ∙ not-false _ (left .if1 .left),
+      le-leb (h .offset + h .payload .len) (h .size) (omega arith),
+      ne-eqb (h .number + 1) (h .count) (omega arith),
     )
 
 pub good-form-spec : {M : Type 1} → statement M

@@ -11,15 +11,17 @@ read-datagram-requires c κs = search needs
 payload-place-requires : tie.Need-payload-place-requires
 payload-place-requires c κs = search needs
 
-part-requires : tie.Need-part-requires
-part-requires c κs = search needs
+part-at-requires : tie.Need-part-at-requires
+part-at-requires c κs = search needs
 
 returns : tie.Need-returns
 unfolding payloadOf
 returns c =
-    let p = c .before .payload-place .ensures ∙ ap payloadPlace (c .before .before .read-datagram .ensures) in
-    c .part .ensures ∙ ap (partOf (c .before .before .before .before .args .d .now)) p
+    let placed = c .before in
+    let read = placed .before in
+    let p = placed .payload-place .ensures ∙ ap payloadPlace (read .read-datagram .ensures .answer) in
+    c .part-at .ensures ∙ ap (partOf (read .before .before .args .d .now)) p
 
 pub payload-part-spec : {M : Type 1} → statement M
 payload-part-spec =
-    tie.close (tie.spec read-datagram-requires payload-place-requires part-requires returns)
+    tie.close (tie.spec read-datagram-requires payload-place-requires part-at-requires returns)

@@ -5,7 +5,7 @@ use mathlib.Core.List.{List, [], _∷_}
 use Prim.Native.Nat.{ℕ, _-_}
 use lib.Dec.{eqb, leb}
 use Rattle.wire.specs.Choice.{pick}
-use Rattle.datagram.specs.declared.Scan.{Scan}
+use Rattle.names.specs.declared.Scan.{Scan}
 
 abbrev pub within : ℕ → ℕ → ℕ → Bool
 within low high x = leb low x && leb x high

@@ -1,7 +1,7 @@
--- `datagram::after` meets its contract. Assumes nothing.
+-- `names::after` meets its contract. Assumes nothing.
 use borrow.Author.Needs.{needs}
-use Rattle.datagram.proofs.after.Statement.{statement}
-use Rattle.datagram.proofs.after.Tie as tie
+use Rattle.names.proofs.after.Statement.{statement}
+use Rattle.names.proofs.after.Tie as tie
 
 low-after-requires : tie.Need-low-after-requires
 low-after-requires c κs = search needs

@@ -1,15 +1,15 @@
--- `datagram::well_formed` meets its contract. The loop's invariant: what is left decides. Assumes nothing.
+-- `names::well_formed` meets its contract. The loop's invariant: what is left decides. Assumes nothing.
 use mathlib.Core.Path.{_≡_, refl, ap, sym, _∙_}
 use Prim.Native.Nat.{_+_, _≤_, _-_}
 use native.Mathlib.Omega.{arith}
 use lib.Dec.{eqb}
 use lib.ListN.{length, drop}
-use Rattle.datagram.specs.Scan.{start, scan}
-use Rattle.datagram.specs.declared.Scan.{Scan}
-use Rattle.datagram.proofs.Scans.{scan-step, scan-end}
+use Rattle.names.specs.Scan.{start, scan}
+use Rattle.names.specs.declared.Scan.{Scan}
+use Rattle.names.proofs.Scans.{scan-step, scan-end}
 use borrow.Author.Needs.{needs}
-use Rattle.datagram.proofs.well_formed.Statement.{statement}
-use Rattle.datagram.proofs.well_formed.Tie as tie
+use Rattle.names.proofs.well_formed.Statement.{statement}
+use Rattle.names.proofs.well_formed.Tie as tie
 
 abbrev Inv-loop : tie.InvT-loop
 Inv-loop name s₀ i₀ s i = (i ≤ length name) × (scan start name ≡ scan s (drop i name))

@@ -13,8 +13,8 @@ use lib.Seq.{drop-cons}
 use borrow.Author.Tests.{le-leb, lt-leb, leb-true, eq-eqb, ne-eqb, eqb-true}
 use Rattle.wire.specs.Choice.{pick}
 use Rattle.wire.proofs.Choices.{never, and-l, and-r, and-of, and-false, either, pick-all}
-use Rattle.datagram.specs.Scan.{within, tails, start, bad, lowAfter, highAfter, after, first, next, scan}
-use Rattle.datagram.specs.declared.Scan.{Scan}
+use Rattle.names.specs.Scan.{within, tails, start, bad, lowAfter, highAfter, after, first, next, scan}
+use Rattle.names.specs.declared.Scan.{Scan}
 
 -- ---- within
 

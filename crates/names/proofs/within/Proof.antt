@@ -1,7 +1,7 @@
--- `datagram::within` meets its contract. Assumes nothing.
+-- `names::within` meets its contract. Assumes nothing.
 use borrow.Author.Tests.{lt-leb, le-leb}
-use Rattle.datagram.proofs.within.Statement.{statement}
-use Rattle.datagram.proofs.within.Tie as tie
+use Rattle.names.proofs.within.Statement.{statement}
+use Rattle.names.proofs.within.Tie as tie
 
 returns : tie.Need-returns
 returns c = rw (lt-leb _ _ (c .if1 .taken))

@@ -12,11 +12,11 @@ use lib.ListN.{length, getD, drop, length-append}
 use borrow.Author.Tests.{le-leb, lt-leb, leb-true, leb-false, le-ltb, lt-ltb, eqb-true, eq-eqb, ne-eqb}
 use Rattle.wire.specs.Choice.{pick}
 use Rattle.wire.proofs.Choices.{never, and-l, and-r, and-of, pick-all}
-use Rattle.datagram.specs.Limits.{maxName}
-use Rattle.datagram.specs.Scan.{within, tails, start, bad, lowAfter, highAfter, after, first, next, scan}
-use Rattle.datagram.specs.Name.{tailByte, encode, encodeAll, allowed, every, GoodName, goodName}
-use Rattle.datagram.specs.declared.Scan.{Scan}
-use Rattle.datagram.proofs.Scans.{within-of, within-low, within-high, above, bad-stays, Low, High, low-is, low-of, high-is, high-of}
+use Rattle.names.specs.Limits.{maxName}
+use Rattle.names.specs.Scan.{within, tails, start, bad, lowAfter, highAfter, after, first, next, scan}
+use Rattle.names.specs.Name.{tailByte, encode, encodeAll, allowed, every, GoodName, goodName}
+use Rattle.names.specs.declared.Scan.{Scan}
+use Rattle.names.proofs.Scans.{within-of, within-low, within-high, above, bad-stays, Low, High, low-is, low-of, high-is, high-of}
 
 -- ---- allowed code points
 
