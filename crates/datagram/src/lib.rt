@@ -1,11 +1,11 @@
-// What a datagram says: its header as numbers, with the places of its name and its data; and these two as parts of the datagram.
+// What a datagram says: its header as numbers, with the places of its name and its data.
 ghost use mathlib.Core.Path.{_≡_};
 ghost use Prim.Native.Nat.{_+_, _≤_, _<_, min};
 ghost use lib.ListN.{length, drop};
 ghost use Rattle.wire.specs.Bytes.{be};
 ghost use Rattle.datagram.specs.Name.{untilZero, nameLength};
 ghost use Rattle.datagram.specs.Limits.{maxDatagram, maxName};
-ghost use Rattle.datagram.specs.Read.{goodStart, goodForm, formed, readSmall, readFragment, namePlace, payloadPlace, nameOf, payloadOf, partOf};
+ghost use Rattle.datagram.specs.Read.{formed, readSmall, readFragment, partOf};
 ghost use Rattle.datagram.specs.Said.{Reads};
 
 // The largest payload, the most fragments of a message, and the longest datagram.
@@ -81,12 +81,6 @@ fn name_length(b: &[u8]) -> Named
     Named::Nameless
 }
 
-fn wide(x: u32) -> usize
-    ensures { λ r. ⌜ r ≡ x ⌝ }
-{
-    x as usize
-}
-
 fn byte(x: u8) -> u32
     ensures { λ r. ⌜ (r ≡ x) × (r < 256) ⌝ }
 {
@@ -129,36 +123,6 @@ fn read_small(d: &[u8]) -> Read
     })
 }
 
-// Fragment 0 begins the payload; any other has data.
-fn good_start(number: u32, offset: u32, n: usize) -> bool
-    ensures { λ r. ⌜ r ≡ goodStart number offset n ⌝ }
-{
-    if number == 0 {
-        return offset == 0;
-    }
-    1 <= n
-}
-
-// The form of a fragment. Offset and length are added in 64 bits, so that a huge offset cannot pass.
-fn good_form(h: Header) -> bool
-    requires { ⌜ h .payload .len ≤ maxDatagram ⌝ }
-    ensures { λ r. ⌜ r ≡ goodForm h ⌝ }
-{
-    let n = h.payload.len;
-    if !good_start(h.number, h.offset, n) {
-        return false;
-    }
-    let end = wide(h.offset) + n;
-    let size = wide(h.size);
-    if size < end {
-        return false;
-    }
-    if wide(h.number) + 1 == wide(h.count) {
-        return end == size;
-    }
-    true
-}
-
 // The fragment whose name stands there, and whose data begins at a place.
 fn formed_of(d: &[u8], name: Place, at: usize) -> Read
     requires { ⌜ (20 ≤ length (now d)) × (length (now d) ≤ maxDatagram) ⌝ }
@@ -175,7 +139,7 @@ fn formed_of(d: &[u8], name: Place, at: usize) -> Read
         name: name,
         payload: Place { at: at, len: n },
     };
-    if good_form(h) {
+    if forms::good_fragment(h.size, h.offset, h.number, h.count, n as u32) {
         return Read::Good(h);
     }
     Read::Refused(7)
@@ -196,7 +160,7 @@ fn read_fragment(d: &[u8], max_size: usize, max_count: u32) -> Read
     if count <= number {
         return Read::Refused(5);
     }
-    if max_size < wide(four(d, 8)) {
+    if max_size < four(d, 8) as usize {
         return Read::Refused(6);
     }
     if number != 0 {
@@ -229,42 +193,6 @@ pub fn read_datagram(d: &[u8], max_size: usize, max_count: u32) -> Read
         return Read::Refused(1);
     }
     read_fragment(d, max_size, max_count)
-}
-
-// Where the name and the payload stand: nowhere, for a refused datagram.
-fn name_place(r: Read) -> Place
-    ensures { λ p. ⌜ p ≡ namePlace r ⌝ }
-{
-    match r {
-        Read::Good(h) => h.name,
-        Read::Refused(_) => Place { at: 0, len: 0 },
-    }
-}
-
-fn payload_place(r: Read) -> Place
-    ensures { λ p. ⌜ p ≡ payloadPlace r ⌝ }
-{
-    match r {
-        Read::Good(h) => h.payload,
-        Read::Refused(_) => Place { at: 0, len: 0 },
-    }
-}
-
-// The name, as the part of the datagram that holds it: empty for a refused datagram, and for a fragment above 0.
-pub fn name_part(d: &[u8]) -> &[u8]
-    ensures { λ r. ⌜ now r ≡ nameOf (now (d .entry)) ⌝ }
-{
-    part_at(d, name_place(read_datagram(d, MAX_PAYLOAD, MAX_FRAGMENTS)))
-}
-
-// The payload of a small message, or the data of a fragment, as the part of the datagram that holds it: empty for a refused datagram.
-pub fn payload_part(d: &[u8]) -> &[u8]
-    ensures { λ r. ⌜ now r ≡ payloadOf (now (d .entry)) ⌝ }
-{
-    part_at(
-        d,
-        payload_place(read_datagram(d, MAX_PAYLOAD, MAX_FRAGMENTS)),
-    )
 }
 
 // A part of a datagram by its place.

@@ -19,8 +19,8 @@ abbrev start : tie.After-two → tie.Start
 start c = c .before .before
 
 -- where the count was read
-abbrev counted : tie.After-wide → tie.After-two
-counted c = c .before .before .before .before .before .before
+abbrev counted : tie.After-four → tie.After-two
+counted c = c .before .before .before .before .before
 
 two-requires : tie.Need-two-requires
 two-requires c κs = search needs
@@ -49,14 +49,14 @@ returns-3 c =
     rw (ne-eqb _ _ (rw count at (some′ .if1 .left)), le-ltb _ _ (rw count at (few .if2 .left)), le-leb _ _ (rw (count, numbered .two2 .ensures .0) at (c .if3 .taken)))
 
 -- past refusal 5: the size decides
-past-five : (c : tie.After-wide)
+past-five : (c : tie.After-four)
     → let a = start (counted c) .args in
     let d = a .d .now in
     readFragment (a .max-size) (a .max-count) d
     ≡ pick (ltb (a .max-size) (sizeIn d)) (Refused 6) (pick (eqb (numberIn d) 0) (zeroTo d (nameLength (drop 20 d))) (formed d (place 20 0) 20))
 unfolding readFragment
 past-five c =
-    let asked = c .before .before in
+    let asked = c .before in
     let numbered = asked .before in
     let few = numbered .before in
     let some′ = few .before in
@@ -66,13 +66,13 @@ past-five c =
 four-requires : tie.Need-four-requires
 four-requires c κs = search needs
 
-wide-requires : tie.Need-wide-requires
-wide-requires c κs = search needs
+cast-if4 : tie.Need-cast-if4
+cast-if4 c = search needs
 
 returns-4 : tie.Need-returns-4
 returns-4 c =
     let sized = c .before in
-    rw (past-five sized, lt-ltb _ _ (rw (sized .wide .ensures, sized .before .four .ensures) at (c .if4 .taken)))
+    rw (past-five sized, lt-ltb _ _ (rw (sized .four .ensures) at (c .if4 .taken)))
 
 -- past refusal 6: the number decides
 past-six : (c : tie.Else4)
@@ -81,11 +81,11 @@ past-six : (c : tie.Else4)
     readFragment (a .max-size) (a .max-count) d ≡ pick (eqb (numberIn d) 0) (zeroTo d (nameLength (drop 20 d))) (formed d (place 20 0) 20)
 past-six c =
     let sized = c .before in
-    rw (past-five sized, le-ltb _ _ (rw (sized .wide .ensures, sized .before .four .ensures) at (c .if4 .left)))
+    rw (past-five sized, le-ltb _ _ (rw (sized .four .ensures) at (c .if4 .left)))
 
 -- the number of the fragment, as it was read
-numbered : (c : tie.Else4) → c .before .before .before .before .two2 .result ≡ numberIn (start (counted (c .before)) .args .d .now)
-numbered c = c .before .before .before .before .two2 .ensures .0
+numbered : (c : tie.Else4) → c .before .before .before .two2 .result ≡ numberIn (start (counted (c .before)) .args .d .now)
+numbered c = c .before .before .before .two2 .ensures .0
 
 formed-of-requires : tie.Need-formed-of-requires
 formed-of-requires c κs = search needs
@@ -157,7 +157,7 @@ read-fragment-spec =
     two-requires-2
     returns-3
     four-requires
-    wide-requires
+    cast-if4
     returns-4
     formed-of-requires
     returns-5

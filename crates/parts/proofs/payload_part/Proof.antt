@@ -1,9 +1,10 @@
--- `datagram::payload_part` meets its contract. Assumes nothing.
+-- `parts::payload_part` meets its contract. Assumes nothing.
 use mathlib.Core.Path.{ap, _∙_}
-use Rattle.datagram.specs.Read.{payloadOf, payloadPlace, partOf}
+use Rattle.datagram.specs.Read.{partOf}
+use Rattle.parts.specs.Parts.{payloadOf, payloadPlace}
 use borrow.Author.Needs.{needs}
-use Rattle.datagram.proofs.payload_part.Statement.{statement}
-use Rattle.datagram.proofs.payload_part.Tie as tie
+use Rattle.parts.proofs.payload_part.Statement.{statement}
+use Rattle.parts.proofs.payload_part.Tie as tie
 
 read-datagram-requires : tie.Need-read-datagram-requires
 read-datagram-requires c κs = search needs

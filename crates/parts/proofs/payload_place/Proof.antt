@@ -1,7 +1,7 @@
--- `datagram::payload_place` meets its contract. Assumes nothing.
+-- `parts::payload_place` meets its contract. Assumes nothing.
 use borrow.Author.Needs.{needs}
-use Rattle.datagram.proofs.payload_place.Statement.{statement}
-use Rattle.datagram.proofs.payload_place.Tie as tie
+use Rattle.parts.proofs.payload_place.Statement.{statement}
+use Rattle.parts.proofs.payload_place.Tie as tie
 
 enum-known-r : tie.Need-enum-known-r
 enum-known-r c = search needs
