@@ -189,7 +189,7 @@ pub fn cut_datagram(
     if MOST_SIZE < m {
         return Cut::Refused(10);
     }
-    if !datagram::good_name(name) {
+    if !names::good_name(name) {
         return Cut::Refused(4);
     }
     let r = plan(name.len(), payload.len(), m, index, out.len());

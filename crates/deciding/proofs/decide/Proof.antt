@@ -47,7 +47,7 @@ returns-2 c =
     let enum-told = c .before .enum-told in
     let passed-on = c .passed-on in
     let ok = sym (is-ready .ensures) ∙ not-false _ (if1 .left) in
-    let reads = sym (read-datagram .ensures ∙ ap (λ k. readDatagram k maxFragments (args .d .now)) (word .ensures)) ∙ enum-told .given .1 in
+    let reads = sym (read-datagram .ensures .answer ∙ ap (λ k. readDatagram k maxFragments (args .d .now)) (word .ensures)) ∙ enum-told .given .1 in
     ap Refuse (passed-on .ensures ∙ ap passedOn (enum-told .given .1)) ∙ sym (decided-refused (args .state .now) (args .names .now) (args .store .now) (args .ledger .now) (args .sender) (args .d .now) ok _ reads)
 
 by-key-requires : tie.Need-by-key-requires
@@ -59,7 +59,7 @@ by-key-requires c κs =
     let word = c .before .before .before .before .word in
     let read = c .before .read in
     let ok = sym (is-ready .ensures) ∙ not-false _ (if1 .left) in
-    let reads = sym (read-datagram .ensures ∙ ap (λ k. readDatagram k maxFragments (args .d .now)) (word .ensures)) ∙ read .given .1 in
+    let reads = sym (read-datagram .ensures .answer ∙ ap (λ k. readDatagram k maxFragments (args .d .now)) (word .ensures)) ∙ read .given .1 in
     let w = args .state .now in
     let n = args .names .now in
     (ready-is w n _ _ ok, told _ (args .d .now) _ reads, ready-ledger w n _ _ ok)
@@ -74,7 +74,7 @@ returns-3 c =
     let read = c .before .before .read in
     let by-key = c .by-key in
     let ok = sym (is-ready .ensures) ∙ not-false _ (if1 .left) in
-    let reads = sym (read-datagram .ensures ∙ ap (λ k. readDatagram k maxFragments (args .d .now)) (word .ensures)) ∙ read .given .1 in
+    let reads = sym (read-datagram .ensures .answer ∙ ap (λ k. readDatagram k maxFragments (args .d .now)) (word .ensures)) ∙ read .given .1 in
     by-key .ensures ∙ sym (decided-good (args .state .now) (args .names .now) (args .store .now) (args .ledger .now) (args .sender) (args .d .now) ok _ reads)
 
 pub decide-spec : {M : Type 1} → statement M
