@@ -113,7 +113,7 @@ fn keep(state: &mut [u64], names: &mut [u8], s: usize, h: Header, d: &[u8])
 {
     let a = slots::HEAD + slots::BLOCK * s + slots::HELD;
     let e = a + slots::HELD_WORDS;
-    slots::hold_fragment(&mut state[a..e], words::as_size(h.number));
+    held::hold_fragment(&mut state[a..e], words::as_size(h.number));
     put_name(names, s, h, d);
 }
 
@@ -177,7 +177,7 @@ fn put(state: &mut [u64], names: &mut [u8], s: usize, h: Header, d: &[u8], gone:
     let a = b + slots::HELD;
     let e = a + slots::HELD_WORDS;
     let n = words::word(&*state, b + slots::COUNT);
-    if slots::all_held(&state[a..e], n as usize) {
+    if held::all_held(&state[a..e], n as usize) {
         return deliver(state, names, s, gone);
     }
     Outcome {
