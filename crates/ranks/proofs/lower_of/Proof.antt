@@ -1,4 +1,4 @@
--- `words::lower_of` meets its contract. Assumes nothing.
+-- `ranks::lower_of` meets its contract. Assumes nothing.
 use borrow.Author.Tests.{lt-ltb, le-ltb}
 use Rattle.ranks.proofs.lower_of.Statement.{statement}
 use Rattle.ranks.proofs.lower_of.Tie as tie

@@ -1,4 +1,4 @@
--- `words::lower_rank` meets its contract. Assumes nothing.
+-- `ranks::lower_rank` meets its contract. Assumes nothing.
 use borrow.Author.Tests.{eq-eqb, ne-eqb, lt-ltb, le-ltb}
 use borrow.Author.Needs.{needs}
 use Rattle.ranks.proofs.lower_rank.Statement.{statement}

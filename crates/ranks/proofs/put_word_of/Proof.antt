@@ -1,4 +1,4 @@
--- `words::put_word_of` meets its contract. Assumes nothing.
+-- `ranks::put_word_of` meets its contract. Assumes nothing.
 use mathlib.Core.Path.{sym}
 use native.Mathlib.Omega.{arith}
 use lib.Seq.{set-out}

@@ -1,4 +1,4 @@
--- `words::word_of` meets its contract. Assumes nothing.
+-- `ranks::word_of` meets its contract. Assumes nothing.
 use mathlib.Core.Path.{sym}
 use native.Mathlib.Omega.{arith}
 use lib.ListN.{List·getD-eq-default}
