@@ -59,7 +59,9 @@ others-met = refl
 
 -- and the promise is broken: most often the arrival that completes a message hands over nothing
 pub each-needed : EachNeeded
-unfolding delivery after run done completes step sound receive decide act stay step3 step5 sameFragment agrees seat oldest release releaseOf lower opening openCount filled opened emptyMemory isRemembered remember placeFor withKey memoryOk forgetKeys forget among isHeld hold noneHeld said readDatagram readSmall readFragment formed goodForm nameLength goodName untilZero be overlay small-of A-of B-of A-gap B-gap fromEach
+unfolding delivery after run done completes step sound receive decide act stay step3 step5 sameFragment agrees seat oldest release releaseOf lower opening openCount filled opened emptyMemory
+    isRemembered remember placeFor withKey memoryOk forgetKeys forget among isHeld hold noneHeld said readDatagram readSmall readFragment formed goodForm nameLength goodName untilZero be overlay
+    small-of A-of B-of A-gap B-gap fromEach
 each-needed = record {
   distinct = λ p. not-handed (p .at-completion .1);
   lawfully-cut = λ p. not-handed (p .at-completion .1);

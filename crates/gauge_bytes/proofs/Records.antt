@@ -12,13 +12,13 @@ use Rattle.wire.proofs.Overlays.{overlay-eq}
 use Rattle.wire.proofs.Numbers.{be-lt}
 use Rattle.moss.specs.Limits.{sessionLength, maxPacket, tooShort}
 use Rattle.moss.specs.Packet.{Given, gives, refuses}
-use Rattle.moss.specs.Answers.{writes}
-use Rattle.moss.specs.Write.{packetBytes, writtenOf, outputOf, WritesPacket}
-use Rattle.moss.specs.declared.Written.{Written}
-use Rattle.moss.specs.declared.Written.the-variants as written
-use Rattle.moss.proofs.Plans.{Makes, written-makes}
-use Rattle.moss.proofs.Laying.{bytes-drop}
-use Rattle.moss.proofs.Trips.{packet-length}
+use Rattle.moss_writer.specs.Write.{writes}
+use Rattle.moss_writer.specs.Write.{packetBytes, writtenOf, outputOf, WritesPacket}
+use Rattle.moss_writer.specs.declared.Written.{Written}
+use Rattle.moss_writer.specs.declared.Written.the-variants as written
+use Rattle.moss_writer.proofs.Plans.{Makes, written-makes}
+use Rattle.moss_writer.proofs.Laying.{bytes-drop}
+use Rattle.moss_writer.proofs.Trips.{packet-length}
 use Rattle.text.specs.Text.{decimal}
 use Rattle.gauge_bytes.specs.Lines.{recordHead, recordBytes, recordAnswer, answerText, line}
 

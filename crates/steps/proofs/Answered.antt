@@ -32,5 +32,7 @@ pub memory-cases :
     ∷ (true ∷ false ∷ true ∷ [])
     ∷ (false ∷ true ∷ [])
     ∷ []
-unfolding pastMemory besideMast seventeenth forgottenKeys placeFreed openAfter rememberAll forgetKeys forget releaseOf B-of step sound receive decide act stay step3 step5 sameFragment agrees seat oldest release lower opening openCount filled opened emptyMemory isRemembered remember placeFor withKey memoryOk among isHeld hold noneHeld said readDatagram readSmall readFragment formed goodForm nameLength goodName untilZero be overlay
+unfolding pastMemory besideMast seventeenth forgottenKeys placeFreed openAfter rememberAll forgetKeys forget releaseOf B-of step sound receive decide act stay
+    step3 step5 sameFragment agrees seat oldest release lower opening openCount filled opened emptyMemory isRemembered remember placeFor withKey memoryOk among
+    isHeld hold noneHeld said readDatagram readSmall readFragment formed goodForm nameLength goodName untilZero be overlay
 memory-cases = refl
