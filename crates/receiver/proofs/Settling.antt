@@ -21,8 +21,10 @@ use Rattle.steps.specs.declared.Answer.the-variants.{Refused, Kept, Repeat, Del
 use Rattle.steps.specs.declared.PayloadAt.{PayloadAt}
 use Rattle.steps.specs.declared.Emptied.{Emptied}
 use Rattle.steps.specs.declared.Emptied.the-variants.{Nobody}
+use Rattle.steps.specs.Answers.{reply, emptiedKey}
 use Rattle.steps.specs.Memory.{keyOf}
 use Rattle.steps.specs.Slots.{Slot, allHeld, filled, slotAt, seat, opening}
+use Rattle.steps.specs.Runs.{heard, from}
 use Rattle.steps.specs.Receive.{Machine, After, stay, Verdict, refuse, again, deliver, join, begin, decide, act, step5, receive, sequenceOf, sound, step, storeWith, ledgerWith}
 use Rattle.steps.proofs.Branches.{step-unsound, step-sound, receive-refused, step5-delivered, step5-kept}
 use Rattle.receiver_state.specs.View.{roomWord, slotsOf, view, shaped, ready}
@@ -32,7 +34,7 @@ use Rattle.deciding.specs.declared.Verdict as code
 use Rattle.deciding.specs.declared.Verdict.the-variants.{Refuse, Again, Deliver, Join, Begin}
 use Rattle.deciding.proofs.Gates.{ready-shaped, ready-sound}
 use Rattle.deciding.proofs.Decides.{said-back, unready, decided-refused, decided-good}
-use Rattle.receiver.specs.Calls.{received, Leaves, Receives}
+use Rattle.receiver.specs.Calls.{received, Leaves, told, Receives}
 use Rattle.receiver.specs.Inside.{stayed, idle, SmallDone, Puts, Begins, enacted, storeAfter, ledgerAfter, Settles}
 use Rattle.receiver.specs.declared.Outcome.{Outcome}
 use Rattle.receiver.specs.declared.Settled.{Settled}
@@ -108,6 +110,10 @@ module _ (w n : List ℕ) (sender : ℕ) (d : List ℕ) (v : code.Verdict) where
 
 -- ---- the whole call
 
+-- what is answered and left, in the values of document 01
+pub told-is : (sender : ℕ) (d : List ℕ) (a : After) (r : Outcome) (w n store ledger : List ℕ) → Leaves a r w n store ledger → told d store r ≡ heard (from sender d) a
+told-is sender d a r w n store ledger L = λ i. record { answer = reply d (L .store i) (L .answer i); emptied = emptiedKey (L .emptied i) }
+
 enact-is : (m : Machine) (store ledger : List ℕ) (sender : ℕ) (d : List ℕ) (h : Header) (v : Verdict)
     → act m store ledger (keyOf sender (h .sequence)) (verdictOf d (withHeader h v)) ≡ enacted m store ledger sender d (withHeader h v)
 unfolding act
@@ -168,9 +174,11 @@ module _ (w n store ledger : List ℕ) (sender : ℕ) (d : List ℕ) where
       let L = S .leaves store ledger in
       let a : enacted (view w n) store ledger sender d v ≡ received w n store ledger sender d = ap (enacted (view w n) store ledger sender d) ev ∙ sym received-is in
       let st : store1 ≡ storeAfter (getD w roomWord 0) d store (r .stored) = es ∙ ap (λ (C : ℕ). storeAfter C d store (r .stored)) ec in
+      let all : Leaves (received w n store ledger sender d) (r .outcome) w1 n1 store1 ledger1 = subst (λ (x : After). Leaves x (r .outcome) w1 n1 store1 ledger1) a
+      (record { answer = L .answer; emptied = L .emptied; name = L .name; machine = L .machine; store = st ∙ L .store; ledger = el ∙ L .ledger }) in
       record {
-        leaves = subst (λ (x : After). Leaves x (r .outcome) w1 n1 store1 ledger1) a
-            (record { answer = L .answer; emptied = L .emptied; name = L .name; machine = L .machine; store = st ∙ L .store; ledger = el ∙ L .ledger });
+        leaves = all;
+        tells = told-is sender d _ (r .outcome) w1 n1 store1 ledger1 all;
         words = lw;
         bytes = ln;
         still = λ k q.
