@@ -25,7 +25,8 @@ use Rattle.pit_marks.specs.declared.Taken.{Taken}
 use Rattle.pit_marks.specs.Enters.{enterList, LeavesAll}
 use Rattle.pit_payloads.specs.declared.Looked.{Looked}
 use Rattle.pit_payloads.specs.declared.Looked.the-variants as looked
-use Rattle.pit_payloads.specs.Looks.{Left, left, lookedBy, inNumbers, unreadBy, inRead, Leaves, Looks}
+use Rattle.pit_payloads.specs.Looks.{Left, left, lookedBy, inNumbers, inRead, Leaves, Looks}
+use Rattle.pit_payloads.specs.Took.{unreadBy}
 
 -- ---- the numbers of a message, by whether they are a list's
 

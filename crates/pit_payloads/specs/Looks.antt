@@ -39,10 +39,6 @@ withList e = left (lookedBy (e .then .answer)) (e .tiles) (e .then .pits) (e .th
 abbrev pub inNumbers : List ℤ → List ℕ → List ℕ → List ℕ → Sizes → Left
 inNumbers l t p s had = pick (eqb (at l 1) 5) (withList (enterList l t p s had)) (left looked.Other t p s)
 
--- a refusal of the reader's
-abbrev pub unreadBy : ℕ → Looked
-unreadBy n = pick (eqb n 13) (looked.Refused 13) looked.Other
-
 -- what the reader makes of it: numbers for which the list is too short are refused by 13; a message that is not accepted is no list
 abbrev pub inRead : ℕ → Read → List ℕ → List ℕ → List ℕ → Sizes → Left
 inRead room (got l r) t p s had = pick (ltb room (length l)) (left (looked.Refused 13) t p s) (inNumbers l t p s had)

@@ -1,6 +1,7 @@
 // One payload for the count: its survey message is read into the lent number list, and the tile and marks of a PitList are entered in the sets.
 ghost use mathlib.Core.Path.{_≡_};
-ghost use Rattle.pit_payloads.specs.Looks.{inNumbers, unreadBy, Leaves, Looks};
+ghost use Rattle.pit_payloads.specs.Looks.{inNumbers, Leaves, Looks};
+ghost use Rattle.pit_payloads.specs.Took.{unreadBy};
 use lmcp::Found;
 use pit_marks::Sizes;
 use pit_marks::Taken;
