@@ -22,7 +22,8 @@ ghost use Rattle.receiver_state.specs.View.{stateWords};
 ghost use Rattle.receiver_state.specs.Inside.{Shaped, Ready, Told, namedIn, Remembers};
 ghost use Rattle.deciding.specs.Inside.{Possible};
 ghost use Rattle.receiver.specs.Calls.{Receives, Opens, Forgets, payloadOf};
-ghost use Rattle.receiver.specs.Inside.{stayed, Releases, Occupies, Keeps, Delivers, SmallDone, Puts, Seats, Begins, Plans, Able, Settles, Storable, StoredIn, StoredBy, ReleasesOne, ReleasesAll};
+ghost use Rattle.receiver.specs.Inside.{stayed, Releases, ReleasesOne, ReleasesAll, Occupies, Keeps, Delivers, SmallDone, Puts, Seats};
+ghost use Rattle.receiver.specs.Inside.{Begins, Plans, Able, Settles, Storable, StoredIn, StoredBy};
 
 // The words of a state, the bytes of its names, and the numbers of a ledger.
 pub const STATE_WORDS: usize = receiver_state::STATE_WORDS;
