@@ -1,22 +1,20 @@
 -- One block by its cases: its size, what it says, what is wrong with it. Assumes nothing.
 use mathlib.Core.Path.{_≡_, refl, ap, sym, _∙_}
-use mathlib.Core.Bool.{Bool, true, false}
+use mathlib.Core.Bool.{false}
 use mathlib.Core.List.{List}
 use Prim.Native.Nat.{ℕ, _+_, _-_, _*_, _%_, _^_, _≤_, _<_}
 use native.Mathlib.Omega.{arith}
 use native.Mathlib.Nat.{one-mul}
 use lib.Pow.{shl-exact, pow-pos}
 use lib.Dec.{eqb}
-use lib.ListN.{length, getD, drop, length-append}
+use lib.ListN.{length, getD, drop}
 use lib.Seq.{getD-drop, getD-take}
-use borrow.Author.Tests.{eq-eqb, ne-eqb, eqb-true, eqb-false, lt-ltb, le-ltb, lt-leb, le-leb}
+use borrow.Author.Tests.{eq-eqb, ne-eqb, lt-ltb, le-ltb, lt-leb, le-leb}
 use Rattle.wire.specs.Bytes.{be}
 use Rattle.wire.proofs.Choices.{pick-all}
-use Rattle.wire.proofs.Numbers.{length-bytes}
 use Rattle.ack_blocks.specs.Limits.{largest, kindSingle, kindRun, kindMap, singleLength, runLength, mapHead, cut, unknownKind, badBits, badPadding}
-use Rattle.ack_blocks.specs.Blocks.{single, run, map, bitOf, inMap, blockBytes}
+use Rattle.ack_blocks.specs.Blocks.{single, run, map, bitOf, inMap}
 use Rattle.ack_blocks.specs.Read.{kindIn, firstIn, lastIn, bitsIn, mapBytes, mapIn, sizeIn, blockIn, runFault, padding, mapFault, faultIn}
-use Rattle.ack_blocks.specs.Write.{oneBlock}
 
 module _ (b : List ℕ) where
   -- ---- a single
@@ -134,29 +132,3 @@ padding-is b x m k step ex em ek es =
     let e : x ≡ be 1 (drop (10 + mapBytes (bitsIn b)) b) = ex ∙ ap (λ (n : ℕ). be 1 (drop (10 + n) b)) em in
     let f : step ≡ 2 ^ (8 * mapBytes (bitsIn b) - bitsIn b) = es ∙ (λ i. 2 ^ (8 * em i - ek i)) in
     (λ i. e i % f i)
-
--- ---- what follows a number
-
-pub follows-zero : (last x : ℕ) → x ≡ 0 → false ≡ eqb x (last + 1)
-follows-zero last x h = sym (ne-eqb x (last + 1) (λ e. omega arith))
-
-pub follows-some : (last x : ℕ) → (x ≡ 0 → ⊥) → eqb (x - 1) last ≡ eqb x (last + 1)
-follows-some last x h = go (eqb x (last + 1)) refl
-  where
-    go : (t : Bool) → eqb x (last + 1) ≡ t → eqb (x - 1) last ≡ t
-    go true e = let f = eqb-true x (last + 1) e in eq-eqb (x - 1) last (omega arith)
-    go false e = ne-eqb (x - 1) last (λ f. eqb-false x (last + 1) e (omega arith))
-
--- ---- the block of a run
-
-pub one-single : (first last : ℕ) → first ≡ last → oneBlock first last ≡ single first
-one-single first last h = rw (eq-eqb first last h)
-
-pub one-run : (first last : ℕ) → (first ≡ last → ⊥) → oneBlock first last ≡ run first last
-one-run first last h = rw (ne-eqb first last h)
-
-pub single-length : (p : ℕ) → length (blockBytes (single p)) ≡ singleLength
-single-length p = simp (length-append, length-bytes)
-
-pub run-length : (first last : ℕ) → length (blockBytes (run first last)) ≡ runLength
-run-length first last = simp (length-append, length-bytes)

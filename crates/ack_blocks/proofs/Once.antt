@@ -1,15 +1,10 @@
 -- No second answer satisfies a contract of this crate. Assumes nothing.
 use mathlib.Core.Path.{_≡_, refl, ap, sym, _∙_}
 use mathlib.Core.Bool.{Bool, true, false}
-use mathlib.Core.List.{List}
-use Prim.Native.Nat.{ℕ}
 use Rattle.wire.proofs.Once.{one-answer}
 use Rattle.ack_blocks.specs.Read.{Given, gives, refuses, answers}
-use Rattle.ack_blocks.specs.Write.{writes, WritesBlocks}
 use Rattle.ack_blocks.specs.declared.Answer.{Answer}
 use Rattle.ack_blocks.specs.declared.Answer.the-variants as answer
-use Rattle.ack_blocks.specs.declared.Written.{Written}
-use Rattle.ack_blocks.specs.declared.Written.the-variants as written
 
 -- `ask`
 pub ask-once : {g : Given Bool} (r s : Answer) → answers r ≡ g → answers s ≡ g → r ≡ s
@@ -24,16 +19,3 @@ ask-once r s p q = sym (back r) ∙ ap enum (one-answer (answers r) (answers s) 
     back answer.Yes = refl
     back answer.No = refl
     back (answer.Refused number) = refl
-
--- `write_blocks`: the answer and every byte of the output
-pub write-once : {l out : List ℕ} (r s : Written) (x y : List ℕ) → WritesBlocks l out r x → WritesBlocks l out s y → (r ≡ s) × (x ≡ y)
-write-once r s x y p q =
-    (sym (back r) ∙ ap enum (one-answer (writes r) (writes s) (p .answer) (q .answer)) ∙ back s, one-answer x y (p .output) (q .output))
-  where
-    enum : Given ℕ → Written
-    enum (gives n) = written.Bytes n
-    enum (refuses number) = written.Refused number
-
-    back : (r : Written) → enum (writes r) ≡ r
-    back (written.Bytes n) = refl
-    back (written.Refused number) = refl

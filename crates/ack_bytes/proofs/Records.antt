@@ -7,10 +7,10 @@ use lib.ListN.{length}
 use borrow.Author.Tests.{lt-ltb, le-ltb, eq-eqb, ne-eqb}
 use Rattle.ack_blocks.specs.Limits.{maxBlocks, cut}
 use Rattle.ack_blocks.specs.Read.{Given, refuses}
-use Rattle.ack_blocks.specs.Write.{bytesOf, writtenOf, writes, WritesBlocks}
-use Rattle.ack_blocks.specs.declared.Written.{Written}
-use Rattle.ack_blocks.specs.declared.Written.the-variants as written
-use Rattle.ack_blocks.proofs.Trips.{write-bytes}
+use Rattle.ack_writer.specs.Write.{bytesOf, writtenOf, writes, WritesBlocks}
+use Rattle.ack_writer.specs.declared.Written.{Written}
+use Rattle.ack_writer.specs.declared.Written.the-variants as written
+use Rattle.ack_writer.proofs.Trips.{write-bytes}
 use Rattle.text.specs.Text.{decimal, hex}
 use Rattle.ack_bytes.specs.Lines.{listLimit, recordList, recordAnswer, bytesText, answerText, writtenText, longerText, line}
 

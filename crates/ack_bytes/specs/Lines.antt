@@ -7,9 +7,9 @@ use Rattle.wire.specs.Choice.{pick}
 use Rattle.wire.specs.Bytes.{be}
 use Rattle.ack_blocks.specs.Limits.{maxBlocks, cut}
 use Rattle.ack_blocks.specs.Read.{Given, gives, refuses}
-use Rattle.ack_blocks.specs.Write.{bytesOf, writtenOf}
-use Rattle.ack_blocks.specs.declared.Written.{Written}
-use Rattle.ack_blocks.specs.declared.Written.the-variants.{Bytes, Refused}
+use Rattle.ack_writer.specs.Write.{bytesOf, writtenOf}
+use Rattle.ack_writer.specs.declared.Written.{Written}
+use Rattle.ack_writer.specs.declared.Written.the-variants.{Bytes, Refused}
 use Rattle.text.specs.Text.{decimal, hex}
 
 -- the numbers that the program holds

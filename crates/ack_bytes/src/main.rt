@@ -9,7 +9,7 @@ ghost use Rattle.ack_blocks.specs.Limits.{maxBlocks};
 ghost use Rattle.text.specs.Text.{decimal};
 ghost use Rattle.output.specs.Output.{Pours};
 ghost use Rattle.ack_bytes.specs.Lines.{numbersOf, listLimit, bytesText, longerText, writtenText, line};
-use ack_blocks::Written;
+use ack_writer::Written;
 use stream::Input;
 use stream::Kind;
 use stream::Next;
@@ -101,7 +101,7 @@ fn one_more(
         return pour_refused(out, next, ack_blocks::CUT);
     }
     let count = take_list(body, list);
-    let w = ack_blocks::write_blocks(front(list, count), blocks);
+    let w = ack_writer::write_blocks(front(list, count), blocks);
     pour_written(out, next, blocks, w)
 }
 

@@ -9,7 +9,8 @@ use lib.Dec.{lit<}
 use Rattle.wire.specs.Bytes.{be}
 use Rattle.wire.specs.Overlay.{overlay}
 use Rattle.datagram.specs.Limits.{maxPayload, maxFragments}
-use Rattle.datagram.specs.Name.{goodName, untilZero, nameLength}
+use Rattle.names.specs.Name.{goodName}
+use Rattle.datagram.specs.Name.{untilZero, nameLength}
 use Rattle.datagram.specs.Read.{readSmall, goodForm, formed, readFragment, readDatagram}
 use Rattle.datagram.specs.Said.{Fragment, Said, fragment, said}
 use Rattle.steps.specs.Held.{noneHeld, isHeld, hold}

@@ -9,7 +9,8 @@ use lib.ListN.{replicate}
 use Rattle.wire.specs.Bytes.{be}
 use Rattle.wire.specs.Overlay.{overlay}
 use Rattle.wire.proofs.Choices.{never}
-use Rattle.datagram.specs.Name.{goodName, untilZero, nameLength}
+use Rattle.names.specs.Name.{goodName}
+use Rattle.datagram.specs.Name.{untilZero, nameLength}
 use Rattle.datagram.specs.Read.{readSmall, goodForm, formed, readFragment, readDatagram}
 use Rattle.datagram.specs.Said.{said}
 use Rattle.cutter.specs.Trip.{joined}
@@ -58,7 +59,9 @@ others-met = refl
 
 -- and the promise is broken: most often the arrival that completes a message hands over nothing
 pub each-needed : EachNeeded
-unfolding delivery after run done completes step sound receive decide act stay step3 step5 sameFragment agrees seat oldest release releaseOf lower opening openCount filled opened emptyMemory isRemembered remember placeFor withKey memoryOk forgetKeys forget among isHeld hold noneHeld said readDatagram readSmall readFragment formed goodForm nameLength goodName untilZero be overlay small-of A-of B-of A-gap B-gap fromEach
+unfolding delivery after run done completes step sound receive decide act stay step3 step5 sameFragment agrees seat oldest release releaseOf lower opening openCount filled opened emptyMemory
+    isRemembered remember placeFor withKey memoryOk forgetKeys forget among isHeld hold noneHeld said readDatagram readSmall readFragment formed goodForm nameLength goodName untilZero be overlay
+    small-of A-of B-of A-gap B-gap fromEach
 each-needed = record {
   distinct = λ p. not-handed (p .at-completion .1);
   lawfully-cut = λ p. not-handed (p .at-completion .1);

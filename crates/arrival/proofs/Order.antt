@@ -15,7 +15,8 @@ use borrow.Author.Tests.{eq-eqb, le-leb}
 use Rattle.wire.specs.Choice.{pick}
 use Rattle.wire.proofs.Choices.{either, never}
 use Rattle.datagram.specs.Limits.{maxFragments, maxName, maxPayload}
-use Rattle.datagram.specs.Name.{goodName, untilZero}
+use Rattle.names.specs.Name.{goodName}
+use Rattle.datagram.specs.Name.{untilZero}
 use Rattle.datagram.specs.Said.{Fragment, Said, refused, small, fragment, said}
 use Rattle.datagram.proofs.Names.{name-no-zero}
 use Rattle.datagram.proofs.Saids.{SmallRead, small-read}

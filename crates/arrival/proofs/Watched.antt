@@ -14,7 +14,7 @@ use borrow.Author.Tests.{eq-eqb, ne-eqb}
 use Rattle.wire.proofs.Choices.{either, never, and-of}
 use Rattle.wire.proofs.Overlays.{length-overlay}
 use Rattle.datagram.specs.Limits.{maxFragments}
-use Rattle.datagram.specs.Name.{goodName}
+use Rattle.names.specs.Name.{goodName}
 use Rattle.datagram.specs.Said.{Fragment, Said, fragment, said}
 use Rattle.datagram.proofs.Saids.{Formed}
 use Rattle.steps.specs.declared.Key.{Key}

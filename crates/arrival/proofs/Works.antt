@@ -2,7 +2,8 @@
 use mathlib.Core.Path.{_≡_, refl}
 use mathlib.Core.List.{List, [], _∷_}
 use Rattle.wire.specs.Bytes.{be}
-use Rattle.datagram.specs.Name.{goodName, untilZero, nameLength}
+use Rattle.names.specs.Name.{goodName}
+use Rattle.datagram.specs.Name.{untilZero, nameLength}
 use Rattle.datagram.specs.Read.{readSmall, goodForm, formed, readFragment, readDatagram}
 use Rattle.datagram.specs.Said.{said}
 use Rattle.cutter.specs.Trip.{joined}

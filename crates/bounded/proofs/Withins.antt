@@ -16,8 +16,10 @@ use Rattle.steps.specs.declared.Answer.the-variants as answer
 use Rattle.steps.specs.declared.Emptied.the-variants.{Nobody}
 use Rattle.steps.specs.Slots.{noName}
 use Rattle.steps.specs.Receive.{Machine, After, stay, sound, decide, act, receive, step}
+use Rattle.steps.specs.Runs.{heard, from}
 use Rattle.receiver_state.specs.View.{roomWord, view, shaped, ready}
 use Rattle.receiver.specs.Calls.{received, Leaves, Receives}
+use Rattle.receiver.proofs.Settling.{told-is}
 use Rattle.receiver.specs.declared.Outcome.{Outcome}
 use Rattle.log.specs.declared.reader.Limits.{Limits}
 use Rattle.bounded.specs.Within.{readWithin, stepWithin, receivedWithin, ReceivesWithin}
@@ -88,6 +90,7 @@ module _ (l : Limits) (w n store ledger : List ℕ) (sender : ℕ) (d : List ℕ
       → Receives w n store ledger sender d r w′ n′ store′ ledger′ → ReceivesWithin l w n store ledger sender d r w′ n′ store′ ledger′
   by-receive e {r} {w′} {n′} {store′} {ledger′} A = record {
     leaves = subst (λ (a : After). Leaves a r w′ n′ store′ ledger′) (sym e) (A .leaves);
+    tells = A .tells ∙ ap (heard (from sender d)) (sym e);
     words = A .words;
     bytes = A .bytes;
     still = A .still;
@@ -101,6 +104,7 @@ module _ (l : Limits) (w n store ledger : List ℕ) (sender : ℕ) (d : List ℕ
       → ReceivesWithin l w n store ledger sender d (record { answer = answer.Refused k; emptied = Nobody; name = noName }) w n store ledger
   by-limits k r e = record {
     leaves = subst (λ (a : After). Leaves a (record { answer = answer.Refused k; emptied = Nobody; name = noName }) w n store ledger) (sym (received-refused k r e)) (refusal k);
+    tells = told-is sender d _ _ w n store ledger (refusal k) ∙ ap (heard (from sender d)) (sym (received-refused k r e));
     words = refl;
     bytes = refl;
     still = λ j f. (refl, refl, refl, refl);

@@ -11,8 +11,9 @@ use Rattle.datagram.specs.Said.{says}
 use Rattle.datagram.specs.declared.Read.{Read}
 use Rattle.steps.specs.declared.Answer.the-variants.{Refused}
 use Rattle.steps.specs.Receive.{Machine, After, stay, sound, receive}
+use Rattle.steps.specs.Runs.{heard, from}
 use Rattle.receiver_state.specs.View.{view, shaped}
-use Rattle.receiver.specs.Calls.{Leaves}
+use Rattle.receiver.specs.Calls.{Leaves, told}
 use Rattle.receiver.specs.declared.Outcome.{Outcome}
 use Rattle.log.specs.declared.reader.Limits.{Limits}
 
@@ -34,6 +35,8 @@ receivedWithin l w n store ledger sender d =
 -- w, n, store and ledger are lent; w′, n′, store′ and ledger′ are what they hold afterwards
 pub record ReceivesWithin (l : Limits) (w n store ledger : List ℕ) (sender : ℕ) (d : List ℕ) (r : Outcome) (w′ n′ store′ ledger′ : List ℕ) : Type 0 where
   pub leaves : Leaves (receivedWithin l w n store ledger sender d) r w′ n′ store′ ledger′
+  -- the reply, its payload included, and the emptied key
+  pub tells : told d store′ r ≡ heard (from sender d) (receivedWithin l w n store ledger sender d)
   pub words : length w′ ≡ length w
   pub bytes : length n′ ≡ length n
   -- a refusal writes nothing

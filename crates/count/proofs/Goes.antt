@@ -17,6 +17,7 @@ use Rattle.steps.specs.Answers.{Reply, refusedBy, kept, repeat, delivered, repl
 use Rattle.receiver_state.specs.View.{stateWords, nameBytes, view, shaped}
 use Rattle.receiver_state.specs.Inside.{Shaped}
 use Rattle.receiver.specs.declared.Outcome.{Outcome}
+use Rattle.receiver.specs.Calls.{payloadOf}
 use Rattle.bounded.specs.Within.{stepWithin, receivedWithin, ReceivesWithin}
 use Rattle.log.specs.declared.reader.Limits.{Limits}
 use Rattle.log.specs.Entries.{Entry}
@@ -31,7 +32,8 @@ use Rattle.pit_marks.specs.declared.Sizes.{Sizes}
 use Rattle.pit_marks.specs.Sets.{Has}
 use Rattle.count.specs.declared.Totals.{Totals}
 use Rattle.count.specs.declared.Ran.{Ran}
-use Rattle.count.specs.Inside.{totalsOf, oneMore, toldOf, withLists, Few, Answered, TakesAnswer, At, Went, TakesEntry}
+use Rattle.count.specs.Inside.{totalsOf, oneMore, toldOf, withLists, Few, TakesPayload, Answered, At, Went, TakesEntry}
+use Rattle.count.proofs.Takes.{list-left, answered}
 
 -- ---- the totals with one answer more
 
@@ -156,16 +158,16 @@ module _ (l : Limits) (h : Held) (e : Entry) (w n store ledger : List ℕ) (list
 
 module _ (l : Limits) (e : Entry) (w n store ledger : List ℕ) (list : List ℤ) (t p s : List ℕ) (totals : Totals) (sizes : Sizes) (outcome : Outcome) (w′ n′ store′ ledger′ : List ℕ)
     (R : ReceivesWithin l w n store ledger (e .sender) (e .datagram) outcome w′ n′ store′ ledger′) (after : Totals) (ea : after ≡ toldOf totals (outcome .answer))
-    (r : Ran) (list′ : List ℤ) (t′ p′ s′ : List ℕ) (T : TakesAnswer (reply (e .datagram) store′ (outcome .answer)) list t p s after sizes r list′ t′ p′ s′) where
+    (r : Ran) (list′ : List ℤ) (t′ p′ s′ : List ℕ) (T : TakesPayload (payloadOf (reply (e .datagram) store′ (outcome .answer))) list t p s after sizes r list′ t′ p′ s′) where
   goes : TakesEntry l e w n store ledger list t p s totals sizes r w′ n′ store′ ledger′ list′ t′ p′ s′
   goes h seen rs a =
       let x : Reply = answerTo l (h .world) e in
       let c : Called l h e outcome w′ n′ store′ ledger′ = is-called l h e w n store ledger list t p s totals sizes seen rs a outcome w′ n′ store′ ledger′ R in
       let q : reply (e .datagram) store′ (outcome .answer) ≡ x = reply-is l h e w n store ledger list t p s totals sizes seen rs a outcome w′ n′ store′ ledger′ R in
       let f = number l h e w n store ledger list t p s totals sizes seen rs a outcome w′ n′ store′ ledger′ R in
-      let u : TakesAnswer x list t p s after sizes r list′ t′ p′ s′ = subst (λ (y : Reply). TakesAnswer y list t p s after sizes r list′ t′ p′ s′) q T in
-      let v : Answered (length list) x after seen r t′ p′ s′ = u .took seen (a .has) in
-      let left : list′ ≡ listAt (h .list) x = u .list-left ∙ ap (λ (z : List ℤ). listAt z x) (a .list-is) in
+      let u : TakesPayload (payloadOf x) list t p s after sizes r list′ t′ p′ s′ = subst (λ (y : Reply). TakesPayload (payloadOf y) list t p s after sizes r list′ t′ p′ s′) q T in
+      let v : Answered (length list) x after seen r t′ p′ s′ = answered list list′ t p s t′ p′ s′ after sizes r seen (a .has) x u in
+      let left : list′ ≡ listAt (h .list) x = list-left list list′ t p s t′ p′ s′ after sizes r x u ∙ ap (λ (z : List ℤ). listAt z x) (a .list-is) in
       let told : after ≡ totalsOf (rs ++ x ∷ []) (length seen) =
       ea
       ∙ (ap (λ (z : Totals). toldOf z (outcome .answer)) (a .totals-are)
@@ -187,11 +189,13 @@ module _ (l : Limits) (e : Entry) (w n store ledger : List ℕ) (list : List ℤ
         };
       }
 
--- whose datagram is d
+-- whose datagram is d, and that delivers the payload b
 module _ (l : Limits) (e : Entry) (w n store ledger : List ℕ) (list : List ℤ) (t p s : List ℕ) (totals : Totals) (sizes : Sizes) (d : List ℕ) (ed : d ≡ e .datagram) (outcome : Outcome)
     (w′ n′ store′ ledger′ : List ℕ) (R : ReceivesWithin l w n store ledger (e .sender) d outcome w′ n′ store′ ledger′) (after : Totals) (ea : after ≡ toldOf totals (outcome .answer))
-    (r : Ran) (list′ : List ℤ) (t′ p′ s′ : List ℕ) (T : TakesAnswer (reply d store′ (outcome .answer)) list t p s after sizes r list′ t′ p′ s′) where
+    (b : List ℕ) (eb : b ≡ payloadOf (reply d store′ (outcome .answer)))
+    (r : Ran) (list′ : List ℤ) (t′ p′ s′ : List ℕ) (T : TakesPayload b list t p s after sizes r list′ t′ p′ s′) where
   pub entry-goes : TakesEntry l e w n store ledger list t p s totals sizes r w′ n′ store′ ledger′ list′ t′ p′ s′
   entry-goes =
+      let q : b ≡ payloadOf (reply (e .datagram) store′ (outcome .answer)) = eb ∙ ap (λ (x : List ℕ). payloadOf (reply x store′ (outcome .answer))) ed in
       goes l e w n store ledger list t p s totals sizes outcome w′ n′ store′ ledger′ (subst (λ (x : List ℕ). ReceivesWithin l w n store ledger (e .sender) x outcome w′ n′ store′ ledger′) ed R)
-      after ea r list′ t′ p′ s′ (subst (λ (x : List ℕ). TakesAnswer (reply x store′ (outcome .answer)) list t p s after sizes r list′ t′ p′ s′) ed T)
+      after ea r list′ t′ p′ s′ (subst (λ (x : List ℕ). TakesPayload x list t p s after sizes r list′ t′ p′ s′) q T)

@@ -3,33 +3,32 @@ use mathlib.Core.Path.{_≡_}
 use mathlib.Core.Bool.{true, false}
 use mathlib.Core.List.{List, [], _∷_, _++_}
 use Prim.Native.Nat.{ℕ, _+_, _^_, _≤_, _<_}
-use lib.Dec.{eqb, ltb}
+use lib.Dec.{ltb}
 use lib.IntN.{ℤ}
 use lib.ListN.{length, getD, set}
+use Rattle.wire.specs.Bytes.{Bytes}
 use Rattle.wire.specs.Choice.{pick}
 use Rattle.steps.specs.declared.Answer.{Answer}
 use Rattle.steps.specs.declared.Answer.the-variants.{Refused, Kept, Repeat, Delivered}
 use Rattle.steps.specs.Answers.{Reply}
 use Rattle.receiver_state.specs.View.{view}
 use Rattle.receiver_state.specs.Inside.{Shaped}
-use Rattle.lmcp.specs.Message.{listed}
-use Rattle.lmcp.specs.Lists.{readList}
 use Rattle.log.specs.declared.reader.EntryAt.{EntryAt}
 use Rattle.log.specs.declared.reader.Limits.{Limits}
 use Rattle.log.specs.declared.reader.Step.{Step}
 use Rattle.log.specs.declared.reader.Step.the-variants as step
 use Rattle.log.specs.Entries.{Entry}
 use Rattle.log.specs.Listed.{Listed, whole, broken, entriesIn}
-use Rattle.counting.specs.Marks.{PitList, at, listIn}
+use Rattle.counting.specs.Marks.{PitList}
 use Rattle.counting.specs.Run.{keptIn, repeatedIn, deliveredIn, refusedIn, answerTo, leftBy, payloadIn, payloads, listsRead}
 use Rattle.counting.specs.Report.{Line}
-use Rattle.counting.specs.Count.{maxEntries, fault, answersTo, Report}
-use Rattle.counting.specs.Walk.{faultAt, seenAt, listAt, Held, heldAfter, seenAfter, atFirst, walkEntries}
+use Rattle.counting.specs.Count.{maxEntries, answersTo, Report}
+use Rattle.counting.specs.Walk.{faultAt, seenAt, Held, heldAfter, seenAfter, atFirst, walkEntries}
 use Rattle.pit_marks.specs.declared.Sizes.{Sizes}
-use Rattle.pit_marks.specs.declared.Taken.{Taken}
-use Rattle.pit_marks.specs.declared.Taken.the-variants as taken
-use Rattle.pit_marks.specs.Enters.{Listed as Entered, enterList, LeavesAll}
 use Rattle.pit_marks.specs.Sets.{Has}
+use Rattle.pit_payloads.specs.declared.Looked.{Looked}
+use Rattle.pit_payloads.specs.Looks.{Looks}
+use Rattle.pit_payloads.specs.Took.{faultIn, listsIn, sizesIn}
 use Rattle.count.specs.declared.Surveyed.{Surveyed}
 use Rattle.count.specs.declared.Surveyed.the-variants as surveyed
 use Rattle.count.specs.declared.Totals.{Totals}
@@ -72,47 +71,25 @@ toldOf t (Delivered p n) = record { kept = t .kept; repeated = t .repeated; deli
 abbrev pub withLists : Totals → ℕ → Totals
 withLists t n = record { kept = t .kept; repeated = t .repeated; delivered = t .delivered; refused = t .refused; lists = t .lists + n }
 
--- ---- one list, one payload
+-- ---- one payload
 
 abbrev pub ran : ℕ → Totals → Sizes → Ran
 ran n t s = record { fault = n; totals = t; sizes = s }
 
--- by what entering it answers
-abbrev pub ranBy : Totals → Sizes → Taken → Ran
-ranBy t s (taken.Now now) = ran 0 (withLists t 1) now
-ranBy t s (taken.Refused n) = ran n t s
-
-pub record Same (t p s t′ p′ s′ : List ℕ) : Type 0 where
-  pub tiles : t′ ≡ t
-  pub pits : p′ ≡ p
-  pub sure : s′ ≡ s
-
-pub record EnteredBy (E : Entered) (totals : Totals) (sizes : Sizes) (r : Ran) (t′ p′ s′ : List ℕ) : Type 0 where
-  pub answer : Taken
-  pub leaves : LeavesAll E answer t′ p′ s′
-  pub gave : r ≡ ranBy totals sizes answer
-
-pub record TakesList (l : List ℤ) (t p s : List ℕ) (totals : Totals) (sizes : Sizes) (r : Ran) (t′ p′ s′ : List ℕ) : Type 0 where
-  pub no-list : eqb (at l 1) 5 ≡ false → (r ≡ ran 0 totals sizes) × Same t p s t′ p′ s′
-  pub is-list : eqb (at l 1) 5 ≡ true → EnteredBy (enterList l t p s sizes) totals sizes r t′ p′ s′
-
--- after the lists seen
-pub record Took (room : ℕ) (payload : List ℕ) (totals : Totals) (seen : List PitList) (r : Ran) (t′ p′ s′ : List ℕ) : Type 0 where
-  pub found : r .fault ≡ fault room seen payload
-  pub on : r .fault ≡ 0 → (r .totals ≡ withLists totals (length (listIn payload))) × Has t′ p′ s′ (r .sizes) (listIn payload ++ seen)
+-- by what the payload is
+abbrev pub ranBy : Totals → Sizes → Looked → Ran
+ranBy t s x = ran (faultIn x) (withLists t (listsIn x)) (sizesIn s x)
 
 pub record TakesPayload (payload : List ℕ) (list : List ℤ) (t p s : List ℕ) (totals : Totals) (sizes : Sizes) (r : Ran) (list′ : List ℤ) (t′ p′ s′ : List ℕ) : Type 0 where
-  pub list-left : list′ ≡ listed (readList payload) list
-  pub took : (seen : List PitList) → Has t p s sizes seen → Took (length list) payload totals seen r t′ p′ s′
+  pub bytes : Bytes payload
+  pub answer : Looked
+  pub looks : Looks payload list t p s sizes answer list′ t′ p′ s′
+  pub gave : r ≡ ranBy totals sizes answer
 
 -- one answer, of which only a delivered payload is read
 pub record Answered (room : ℕ) (a : Reply) (totals : Totals) (seen : List PitList) (r : Ran) (t′ p′ s′ : List ℕ) : Type 0 where
   pub found : r .fault ≡ faultAt room seen a
   pub on : r .fault ≡ 0 → (r .totals ≡ withLists totals (length (listsRead (payloadIn a)))) × Has t′ p′ s′ (r .sizes) (seenAt seen a)
-
-pub record TakesAnswer (a : Reply) (list : List ℤ) (t p s : List ℕ) (totals : Totals) (sizes : Sizes) (r : Ran) (list′ : List ℤ) (t′ p′ s′ : List ℕ) : Type 0 where
-  pub list-left : list′ ≡ listAt list a
-  pub took : (seen : List PitList) → Has t p s sizes seen → Answered (length list) a totals seen r t′ p′ s′
 
 -- ---- one entry
 

@@ -2,10 +2,7 @@
 ghost use mathlib.Core.Path.{_≡_};
 ghost use mathlib.Core.List.{List};
 ghost use Prim.Native.Nat.{ℕ, _<_, _^_};
-ghost use lib.Dec.{eqb};
 ghost use lib.ListN.{getD};
-ghost use Rattle.wire.specs.Choice.{pick};
-ghost use Rattle.steps.specs.Answers.{reply};
 ghost use Rattle.log.specs.Listed.{entriesIn, whole};
 ghost use Rattle.log.specs.Entries.{Entry};
 ghost use Rattle.log.specs.Told.{entrySaid};
@@ -14,15 +11,13 @@ ghost use Rattle.counting.specs.Marks.{PitList};
 ghost use Rattle.counting.specs.Report.{report};
 ghost use Rattle.pit_marks.specs.Sets.{Has};
 ghost use Rattle.count.specs.Counts.{counted, Counts};
-ghost use Rattle.count.specs.Inside.{many, surveyOf, Few, oneMore, toldOf, ran, noTotals, noSizes, TakesList, TakesPayload, TakesAnswer, TakesEntry, Begins, Whole, Walks, reportWith};
-use lmcp::Found;
+ghost use Rattle.count.specs.Inside.{many, surveyOf, Few, oneMore, toldOf, ran, ranBy, noTotals, noSizes, TakesPayload, TakesEntry, Begins, Whole, Walks, reportWith};
 use log::EntryAt;
 use log::Limits;
 use log::Step;
 use pit_marks::Sizes;
-use pit_marks::Taken;
+use pit_payloads::Looked;
 use steps::Answer as Told;
-use steps::PayloadAt;
 
 // The most entries of a log, tiles of a report, and pits of all tiles.
 pub const MAX_ENTRIES: u64 = 4096;
@@ -34,9 +29,7 @@ pub const MAX_PITS: usize = 8192;
 // The receiver's numbers of refusal are below this.
 pub const REFUSALS: usize = 10;
 
-// Refusals: the number list is too short for a message; too many entries.
-pub const LIST_SHORT: u32 = 13;
-
+// Refusal: too many entries.
 pub const TOO_MANY: u32 = 62;
 
 // The report is given, or the number of the refusal.
@@ -162,42 +155,25 @@ fn told(t: Totals, answer: Told) -> Totals
     }
 }
 
-// ---- one list, one payload
+// ---- one payload
 
-// Nothing more.
-fn idle(totals: Totals, sizes: Sizes) -> Ran
-    ensures { λ r. ⌜ r ≡ ran 0 totals sizes ⌝ }
-{
-    Ran {
-        fault: 0,
-        totals,
-        sizes,
-    }
-}
-
-// One list more, of those numbers, if they are a list's.
-fn one_list(
-    list: &[i64],
-    tiles: &mut [u64],
-    pits: &mut [u64],
-    sure: &mut [u64],
-    totals: Totals,
-    sizes: Sizes,
-) -> Ran
+// By what the payload is.
+fn ran_by(totals: Totals, sizes: Sizes, looked: Looked) -> Ran
     requires { ⌜ totals .lists < 2 ^ 32 ⌝ }
-    ensures { λ r. ⌜ TakesList (now (list .entry)) (now (tiles .entry)) (now (pits .entry)) (now (sure .entry)) totals sizes r (now (tiles .exit)) (now (pits .exit)) (now (sure .exit)) ⌝ }
+    ensures { λ r. ⌜ r ≡ ranBy totals sizes looked ⌝ }
 {
-    if !pit_marks::is_list(list) {
-        return idle(totals, sizes);
-    }
-    let taken = pit_marks::enter_list(list, tiles, pits, sure, sizes);
-    match taken {
-        Taken::Refused(e) => Ran {
+    match looked {
+        Looked::Other => Ran {
+            fault: 0,
+            totals,
+            sizes,
+        },
+        Looked::Refused(e) => Ran {
             fault: e,
             totals,
             sizes,
         },
-        Taken::Now(now) => {
+        Looked::Listed(now) => {
             let mut after = totals;
             after.lists += 1;
             Ran {
@@ -209,14 +185,7 @@ fn one_list(
     }
 }
 
-// What stands against a message that was not read: only that the number list is too short for it.
-fn fault_of(e: u32) -> u32
-    ensures { λ r. ⌜ r ≡ pick (eqb e 13) 13 0 ⌝ }
-{
-    if e == LIST_SHORT { e } else { 0 }
-}
-
-// One payload more: only a message that is accepted is looked into.
+// One payload more.
 fn one_payload(
     payload: &[u8],
     numbers: &mut [i64],
@@ -227,64 +196,16 @@ fn one_payload(
     sizes: Sizes,
 ) -> Ran
     requires { ⌜ totals .lists < 2 ^ 32 ⌝ }
-    ensures { λ r. ⌜ TakesPayload (now (payload .entry)) (now (numbers .entry)) (now (tiles .entry)) (now (pits .entry)) (now (sure .entry)) totals sizes r (now (numbers .exit)) (now (tiles .exit)) (now (pits .exit)) (now (sure .exit)) ⌝ }
+    ensures { λ r. ⌜ TakesPayload (now (payload .entry)) (now (numbers .entry)) (now (tiles .entry)) (now (pits .entry)) (now (sure .entry)) totals sizes r
+        (now (numbers .exit)) (now (tiles .exit)) (now (pits .exit)) (now (sure .exit)) ⌝ }
 {
-    let found = lmcp_reader::read_message(payload, &mut *numbers);
-    match found {
-        Found::Numbers(n) => one_list(&numbers[..n], tiles, pits, sure, totals, sizes),
-        Found::Refused(e) => Ran {
-            fault: fault_of(e),
-            totals,
-            sizes,
-        },
-    }
+    let looked = pit_payloads::take_payload(payload, numbers, tiles, pits, sure, sizes);
+    ran_by(totals, sizes, looked)
 }
 
 // ---- one entry
 
-// What was delivered, if anything, is read where it lies.
-fn one_answer(
-    answer: Told,
-    store: &[u8],
-    d: &[u8],
-    numbers: &mut [i64],
-    tiles: &mut [u64],
-    pits: &mut [u64],
-    sure: &mut [u64],
-    totals: Totals,
-    sizes: Sizes,
-) -> Ran
-    requires { ⌜ totals .lists < 2 ^ 32 ⌝ }
-    ensures { λ r. ⌜ TakesAnswer (reply (now (d .entry)) (now (store .entry)) answer) (now (numbers .entry)) (now (tiles .entry)) (now (pits .entry)) (now (sure .entry)) totals sizes r (now (numbers .exit)) (now (tiles .exit)) (now (pits .exit)) (now (sure .exit)) ⌝ }
-{
-    match answer {
-        Told::Refused(_) => idle(totals, sizes),
-        Told::Kept => idle(totals, sizes),
-        Told::Repeat => idle(totals, sizes),
-        Told::Delivered(place, n) => match place {
-            PayloadAt::InDatagram(at) => one_payload(
-                wire::part(d, at, n),
-                numbers,
-                tiles,
-                pits,
-                sure,
-                totals,
-                sizes,
-            ),
-            PayloadAt::InStore(at) => one_payload(
-                wire::part(store, at, n),
-                numbers,
-                tiles,
-                pits,
-                sure,
-                totals,
-                sizes,
-            ),
-        },
-    }
-}
-
-// One entry more: its datagram is received from its sender, within the log's limits.
+// One entry more: its datagram is received from its sender, within the log's limits; what is delivered is read where it lies.
 fn one_entry(
     log: &[u8],
     entry: EntryAt,
@@ -301,7 +222,8 @@ fn one_entry(
     sizes: Sizes,
 ) -> Ran
     requires { ⌜ Few totals ⌝ }
-    ensures { λ r. ⌜ TakesEntry limits (entrySaid (now (log .entry)) entry) (now (state .entry)) (now (names .entry)) (now (store .entry)) (now (ledger .entry)) (now (numbers .entry)) (now (tiles .entry)) (now (pits .entry)) (now (sure .entry)) totals sizes r
+    ensures { λ r. ⌜ TakesEntry limits (entrySaid (now (log .entry)) entry) (now (state .entry)) (now (names .entry)) (now (store .entry)) (now (ledger .entry))
+        (now (numbers .entry)) (now (tiles .entry)) (now (pits .entry)) (now (sure .entry)) totals sizes r
         (now (state .exit)) (now (names .exit)) (now (store .exit)) (now (ledger .exit)) (now (numbers .exit)) (now (tiles .exit)) (now (pits .exit)) (now (sure .exit)) ⌝ }
 {
     let d = wire::part(log, entry.at, entry.len);
@@ -316,7 +238,8 @@ fn one_entry(
     );
     let answer = outcome.answer;
     let after = told(totals, answer);
-    one_answer(answer, &*store, d, numbers, tiles, pits, sure, after, sizes)
+    let payload = receiver::payload(outcome, &*store, d);
+    one_payload(payload, numbers, tiles, pits, sure, after, sizes)
 }
 
 // ---- all entries

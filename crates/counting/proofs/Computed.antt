@@ -6,9 +6,10 @@ use native.Mathlib.Omega.{arith}
 use lib.ListN.{length}
 use Rattle.wire.specs.Bytes.{be}
 use Rattle.wire.specs.Sum.{sum}
-use Rattle.wire.specs.Seven.{groups, groupsIn}
+use Rattle.seven.specs.Seven.{groups, groupsIn}
 use Rattle.wire.specs.Overlay.{overlay}
-use Rattle.datagram.specs.Name.{goodName, untilZero, nameLength}
+use Rattle.names.specs.Name.{goodName}
+use Rattle.datagram.specs.Name.{untilZero, nameLength}
 use Rattle.datagram.specs.Read.{readSmall, goodForm, formed, readFragment, readDatagram}
 use Rattle.datagram.specs.Limits.{maxPayload}
 use Rattle.steps.specs.Held.{noneHeld, isHeld, hold}

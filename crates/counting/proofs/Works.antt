@@ -8,7 +8,8 @@ use Rattle.wire.specs.Bytes.{be, bytes}
 use Rattle.wire.specs.Sum.{sum}
 use Rattle.datagram.specs.Limits.{maxPayload}
 use Rattle.datagram.specs.declared.Read.the-variants.{Refused}
-use Rattle.datagram.specs.Name.{goodName, untilZero, nameLength}
+use Rattle.names.specs.Name.{goodName}
+use Rattle.datagram.specs.Name.{untilZero, nameLength}
 use Rattle.datagram.specs.Read.{readSmall, goodForm, formed, readFragment, readDatagram}
 use Rattle.datagram.specs.Said.{said}
 use Rattle.cutter.specs.Cut.{countOf, smallBytes, headBytes, pieceOf, fragmentBytes, datagramOf}

@@ -13,9 +13,9 @@ use Rattle.wire.proofs.Numbers.{length-bytes}
 use Rattle.wire.proofs.Overlays.{overlay-eq}
 use Rattle.datagram.specs.Limits.{maxPayload, maxFragments}
 use Rattle.wire.specs.Choice.{pick}
-use Rattle.datagram.specs.Read.{nameOf, payloadOf}
 use Rattle.datagram.specs.Said.{nameIn, payloadIn, said}
-use Rattle.datagram.proofs.Saids.{name-said, payload-said}
+use Rattle.parts.specs.Parts.{nameOf, payloadOf}
+use Rattle.parts.proofs.Parts.{name-said, payload-said}
 use Rattle.cutter.specs.Cut.{isSmall, carries, beginsAt, countOf, lengthOf, smallBytes, fragmentBytes, datagramOf, CutTo}
 use Rattle.cutter.specs.Trip.{Cuttable, cutSaid}
 use Rattle.cutter.specs.declared.Cut.the-variants.{Made}

@@ -10,9 +10,9 @@ use lib.ListN.{length}
 use borrow.Author.Tests.{leb-true, leb-false, ltb-false, le-ltb}
 use Rattle.datagram.specs.Limits.{maxPayload, maxFragments}
 use Rattle.wire.specs.Choice.{pick}
-use Rattle.datagram.specs.Name.{goodName}
+use Rattle.names.specs.Name.{goodName}
 use Rattle.wire.proofs.Choices.{or-l, or-r, pick-all}
-use Rattle.datagram.proofs.Names.{name-short}
+use Rattle.names.proofs.Names.{name-short}
 use Rattle.cutter.specs.Limits.{leastSize, mostSize}
 use Rattle.cutter.specs.Cut.{Sized, isSmall, countOf, lengthOf, Answer, gives, refused, planOf, cutAnswer}
 

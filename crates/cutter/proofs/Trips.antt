@@ -15,7 +15,8 @@ use Rattle.wire.proofs.Choices.{and-of}
 use Rattle.wire.proofs.Numbers.{length-bytes}
 use Rattle.datagram.specs.Limits.{maxDatagram}
 use Rattle.datagram.specs.Name.{nameLength}
-use Rattle.datagram.specs.Read.{num, smallMagic, goodStart, goodForm, readSmall, readDatagram, partOf}
+use Rattle.forms.specs.Form.{goodStart}
+use Rattle.datagram.specs.Read.{num, smallMagic, goodForm, readSmall, readDatagram, partOf}
 use Rattle.datagram.specs.Said.{Fragment, Said, small, fragment, says, said}
 use Rattle.datagram.specs.Lawful.{LawfullyCut}
 use Rattle.datagram.specs.declared.Named.the-variants.{Long}

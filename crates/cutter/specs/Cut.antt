@@ -9,7 +9,7 @@ use Rattle.wire.specs.Bytes.{bytes}
 use Rattle.wire.specs.Overlay.{overlay}
 use Rattle.datagram.specs.Limits.{maxPayload, maxFragments, maxName}
 use Rattle.wire.specs.Choice.{pick}
-use Rattle.datagram.specs.Name.{goodName}
+use Rattle.names.specs.Name.{goodName}
 use Rattle.datagram.specs.Read.{smallMagic, fragmentMagic}
 use Rattle.cutter.specs.Limits.{leastSize, mostSize}
 use Rattle.cutter.specs.declared.Cut.{Cut}

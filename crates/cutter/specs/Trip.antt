@@ -6,7 +6,7 @@ use Prim.Native.Nat.{ℕ, zero, suc, _+_, _^_, _≤_, _<_}
 use lib.Dec.{eqb}
 use lib.ListN.{length}
 use Rattle.wire.specs.Choice.{pick}
-use Rattle.datagram.specs.Name.{goodName}
+use Rattle.names.specs.Name.{goodName}
 use Rattle.datagram.specs.Read.{place}
 use Rattle.datagram.specs.Said.{Fragment, Said, small, fragment}
 use Rattle.datagram.specs.declared.Header.{Header}

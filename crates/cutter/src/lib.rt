@@ -67,12 +67,6 @@ fn length_of(c: usize, p: usize, m: usize, k: usize) -> usize
     20 + data
 }
 
-fn wide(x: u32) -> usize
-    ensures { λ r. ⌜ r ≡ x ⌝ }
-{
-    x as usize
-}
-
 // The low k bytes of v at a place.
 fn put(out: &mut [u8], at: usize, k: usize, v: usize)
     requires { ⌜ k ≤ 8 ⌝ }
@@ -85,7 +79,7 @@ fn put(out: &mut [u8], at: usize, k: usize, v: usize)
 fn put_small(out: &mut [u8], sequence: usize, name: &[u8], payload: &[u8])
     ensures { λ _. ⌜ now (out .exit) ≡ overlay (now (out .entry)) 0 (smallBytes sequence (now (name .entry)) (now (payload .entry))) ⌝ }
 {
-    put(&mut *out, 0, 4, wide(datagram::SMALL_MAGIC));
+    put(&mut *out, 0, 4, datagram::SMALL_MAGIC as usize);
     put(&mut *out, 4, 4, sequence);
     wire::put_bytes(&mut *out, 8, name);
     put(&mut *out, 8 + name.len(), 1, 0);
@@ -103,7 +97,7 @@ fn put_head(
 )
     ensures { λ _. ⌜ now (out .exit) ≡ overlay (now (out .entry)) 0 (headBytes sequence size offset number count) ⌝ }
 {
-    put(&mut *out, 0, 4, wide(datagram::FRAGMENT_MAGIC));
+    put(&mut *out, 0, 4, datagram::FRAGMENT_MAGIC as usize);
     put(&mut *out, 4, 4, sequence);
     put(&mut *out, 8, 4, size);
     put(&mut *out, 12, 4, offset);
@@ -165,7 +159,7 @@ fn plan(c: usize, p: usize, m: usize, index: usize, room: usize) -> Cut
         return Cut::Refused(6);
     }
     let n = count_of(c, p, m);
-    if wide(datagram::MAX_FRAGMENTS) < n {
+    if (datagram::MAX_FRAGMENTS as usize) < n {
         return Cut::Refused(11);
     }
     if n <= index {
@@ -195,13 +189,13 @@ pub fn cut_datagram(
     if MOST_SIZE < m {
         return Cut::Refused(10);
     }
-    if !datagram::good_name(name) {
+    if !names::good_name(name) {
         return Cut::Refused(4);
     }
     let r = plan(name.len(), payload.len(), m, index, out.len());
     let Cut::Made { count, len: _ } = r else {
         return r;
     };
-    put_datagram(&mut *out, wide(sequence), name, payload, m, index, count);
+    put_datagram(&mut *out, sequence as usize, name, payload, m, index, count);
     r
 }

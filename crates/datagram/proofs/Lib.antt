@@ -1,6 +1,5 @@
-pub mod Scans
 pub mod Names
-pub mod Utf8
 pub mod Places
 pub mod Saids
+pub mod Once
 pub mod Worked

@@ -1,45 +1,35 @@
--- Laws of names. Where the name rule changes, `long-name` and `name-no-zero` are shown again. Assumes nothing.
+-- Laws of the name that a datagram begins with, and of the numbers in its header. Assumes nothing.
 use mathlib.Core.Path.{_≡_, refl, ap, sym, _∙_}
-use mathlib.Core.Bool.{Bool, true, false, _&&_}
+use mathlib.Core.Bool.{Bool, true, false, not, _&&_}
 use mathlib.Core.List.{List, [], _∷_, _++_}
 use Prim.Native.Nat.{ℕ, zero, suc, _+_, _-_, _≤_, _<_, _*_, min}
 use native.Mathlib.Numerals.{add-one}
 use native.Mathlib.Omega.{arith}
-use native.Mathlib.Decide.{decLe, ℕ-discrete}
-use lib.Dec.{eqb, leb, ltb}
+use native.Mathlib.Decide.{decLe}
+use lib.Dec.{eqb, ltb}
 use lib.ListN.{length, getD, take, drop, length-take, length-append, drop-of-length-le}
 use lib.Seq.{drop-cons, getD-drop, take-append-seam, length-take-le}
-use borrow.Author.Tests.{eq-eqb, ne-eqb, lt-leb, le-ltb, lt-ltb, ltb-true, leb-true}
+use borrow.Author.Tests.{eq-eqb, ne-eqb, le-ltb, lt-ltb, ltb-true, not-true}
 use Rattle.wire.specs.Bytes.{be}
 use Rattle.wire.specs.Choice.{pick}
 use Rattle.wire.proofs.Choices.{never, and-false, and-l, and-r}
 use Rattle.wire.proofs.Parts.{part-rest}
-use Rattle.datagram.specs.Limits.{maxName}
-use Rattle.datagram.specs.Scan.{start, next, scan}
-use Rattle.datagram.specs.Name.{goodName, untilZero, nameLength}
-use Rattle.datagram.specs.declared.Scan.{Scan}
+use Rattle.names.specs.Limits.{maxName}
+use Rattle.names.specs.Name.{every, goodName}
+use Rattle.names.proofs.Names.{long-name, no-zero}
+pub use Rattle.names.proofs.Names.{name-short}
+use Rattle.datagram.specs.Name.{untilZero, nameLength}
 use Rattle.datagram.specs.declared.Named.{Named}
 use Rattle.datagram.specs.declared.Named.the-variants.{Nameless, Long}
-use Rattle.datagram.proofs.Scans.{bad-stays, next-zero, next-low}
 
--- ---- names
-
--- no name is longer
-pub long-name : (nm : List ℕ) → maxName < length nm → goodName nm ≡ false
-unfolding goodName
-long-name nm h = rw (lt-leb (length nm) maxName h) (and-false (leb 1 (length nm)))
-
--- a name has no zero byte: it ends at the first
+-- a name ends at the first zero byte: it has none
 pub name-no-zero : (nm t : List ℕ) → goodName nm ≡ true → untilZero (nm ++ 0 ∷ t) ≡ length nm
-unfolding goodName untilZero
-name-no-zero nm t e = go start nm (omega arith) (and-r (leb (length nm) maxName) _ (and-r (leb 1 (length nm)) _ e))
+unfolding untilZero
+name-no-zero nm t e = go nm (no-zero nm e)
   where
-    go : (s : Scan) (l : List ℕ) → 1 ≤ s .low → eqb (scan s l .left) 0 ≡ true → untilZero (l ++ 0 ∷ t) ≡ length l
-    go s [] h d = refl
-    go s (x ∷ l) h d = elim (ℕ-discrete x 0) [
-      | yes z ↦ never d (ap (λ (r : Scan). eqb (r .left) 0) (ap (λ (r : Scan). scan r l) (next-zero s x h z) ∙ bad-stays l))
-      | no z ↦ rw (ne-eqb x 0 z) (ap suc (go (next s x) l (next-low s x) d))
-    ]
+    go : (l : List ℕ) → every (λ (x : ℕ). not (eqb x 0)) l ≡ true → untilZero (l ++ 0 ∷ t) ≡ length l
+    go [] h = refl
+    go (x ∷ l) h = rw (not-true (eqb x 0) (and-l (not (eqb x 0)) _ h)) (ap suc (go l (and-r (not (eqb x 0)) _ h)))
 
 -- ---- the bytes before the first zero byte
 
@@ -97,10 +87,6 @@ unfolding nameLength
 name-read nm t e =
     let l : length nm < length (nm ++ 0 ∷ t) = rw length-append (omega arith) in
     rw (name-no-zero nm t e, lt-ltb (length nm) (length (nm ++ 0 ∷ t)) l, take-append-seam, e)
-
--- a good name's length
-pub name-short : (nm : List ℕ) → goodName nm ≡ true → length nm ≤ maxName
-name-short nm e = elim (decLe (length nm) maxName) [ yes h ↦ h | no h ↦ never e (long-name nm (omega arith)) ]
 
 -- ---- numbers of two and of four bytes
 

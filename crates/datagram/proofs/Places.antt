@@ -12,7 +12,8 @@ use borrow.Author.Tests.{ltb-false, leb-false, eqb-true, eqb-false}
 use Rattle.wire.specs.Choice.{pick}
 use Rattle.wire.proofs.Choices.{pick-all, or-l, or-r}
 use Rattle.datagram.specs.Limits.{maxDatagram}
-use Rattle.datagram.specs.Name.{goodName, nameLength}
+use Rattle.names.specs.Name.{goodName}
+use Rattle.datagram.specs.Name.{nameLength}
 use Rattle.datagram.specs.Read.{magicIn, sizeIn, numberIn, countIn, smallMagic, fragmentMagic, place, smallHeader, fragmentHeader, goodForm, formed, smallTo, zeroTo, readSmall, readFragment, readDatagram, partOf}
 use Rattle.datagram.specs.declared.Named.{Named}
 use Rattle.datagram.specs.declared.Named.the-variants.{Nameless, Long}

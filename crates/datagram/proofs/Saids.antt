@@ -11,10 +11,11 @@ use lib.Seq.{take-all}
 use borrow.Author.Tests.{eq-eqb, ne-eqb, eqb-true, leb-true}
 use Rattle.wire.specs.Choice.{pick}
 use Rattle.wire.proofs.Choices.{and-l, and-r}
-use Rattle.datagram.specs.Limits.{maxPayload, maxFragments, maxDatagram}
-use Rattle.datagram.specs.Name.{goodName}
-use Rattle.datagram.specs.Read.{goodStart, goodForm, readDatagram, namePlace, payloadPlace, nameOf, payloadOf, partOf}
-use Rattle.datagram.specs.Said.{Fragment, Said, refused, small, fragment, fragmentIn, says, nameIn, payloadIn, said}
+use Rattle.datagram.specs.Limits.{maxDatagram}
+use Rattle.names.specs.Name.{goodName}
+use Rattle.forms.specs.Form.{goodStart}
+use Rattle.datagram.specs.Read.{goodForm, readDatagram, partOf}
+use Rattle.datagram.specs.Said.{Fragment, Said, refused, small, fragment, fragmentIn, says, said, Reads}
 use Rattle.datagram.specs.declared.Header.{Header}
 use Rattle.datagram.specs.declared.Read.{Read}
 use Rattle.datagram.specs.declared.Read.the-variants.{Good, Refused}
@@ -121,26 +122,7 @@ module _ (C N : ℕ) (d : List ℕ) where
 
 -- ---- the answer in the paper's values
 
--- what the contract of `read_datagram` gives, told in them
-pub read-says : (C N : ℕ) (d : List ℕ) (r : Read) → r ≡ readDatagram C N d → says d r ≡ said C N d
+-- the contract of `read_datagram`, from the answer alone
+pub read-says : {C N : ℕ} {d : List ℕ} {r : Read} → r ≡ readDatagram C N d → Reads C N d r
 unfolding said
-read-says C N d r e = ap (says d) e
-
--- and the two parts, by the reader's own limits
-module _ (d : List ℕ) where
-  part-said : (r : Read) → (partOf d (namePlace r) ≡ nameIn (says d r)) × (partOf d (payloadPlace r) ≡ payloadIn (says d r))
-  part-said (Refused n) = (refl, refl)
-  part-said (Good h) = go (h .small)
-    where
-      go : (b : Bool) → let s : Said = pick b (small (h .sequence) (partOf d (h .name)) (partOf d (h .payload))) (fragment (fragmentIn d h)) in
-          (partOf d (h .name) ≡ nameIn s) × (partOf d (h .payload) ≡ payloadIn s)
-      go true = (refl, refl)
-      go false = (refl, refl)
-
-  pub name-said : nameOf d ≡ nameIn (said maxPayload maxFragments d)
-  unfolding nameOf said
-  name-said = part-said (readDatagram maxPayload maxFragments d) .0
-
-  pub payload-said : payloadOf d ≡ payloadIn (said maxPayload maxFragments d)
-  unfolding payloadOf said
-  payload-said = part-said (readDatagram maxPayload maxFragments d) .1
+read-says {C} {N} {d} e = record { answer = e; told = ap (says d) e }

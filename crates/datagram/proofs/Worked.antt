@@ -13,7 +13,8 @@ use Rattle.wire.specs.Bytes.{be, bytes}
 use Rattle.wire.specs.Choice.{pick}
 use Rattle.wire.proofs.Choices.{pick-all}
 use Rattle.datagram.specs.Limits.{maxPayload, maxFragments}
-use Rattle.datagram.specs.Name.{goodName, untilZero, nameLength}
+use Rattle.names.specs.Name.{goodName}
+use Rattle.datagram.specs.Name.{untilZero, nameLength}
 use Rattle.datagram.specs.Read.{magicIn, sizeIn, numberIn, countIn, smallMagic, fragmentMagic, place, fragmentHeader, goodForm, formed, smallTo, zeroTo, readSmall, readFragment, readDatagram, partOf}
 use Rattle.datagram.specs.Said.{Said, refused, small, fragment, fragmentIn, says, said}
 use Rattle.datagram.specs.Worked.{Case, cases}

@@ -1,5 +1,4 @@
 pub mod Limits
-pub mod Scan
 pub mod Name
 pub mod Read
 pub mod Said

@@ -1,5 +1,6 @@
 -- The numbers of documents 01 and 02 (L10) that bound datagrams. Nothing else in any specs/ writes them out.
 use Prim.Native.Nat.{ℕ}
+pub use Rattle.names.specs.Limits.{maxName}
 
 -- the largest payload
 abbrev pub maxPayload : ℕ
@@ -12,7 +13,3 @@ maxFragments = 1_024
 -- the longest datagram
 abbrev pub maxDatagram : ℕ
 maxDatagram = 65_535
-
--- the longest name
-abbrev pub maxName : ℕ
-maxName = 63

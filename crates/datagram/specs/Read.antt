@@ -6,7 +6,8 @@ use lib.Dec.{eqb, leb, ltb}
 use lib.ListN.{length, take, drop}
 use Rattle.wire.specs.Bytes.{be}
 use Rattle.wire.specs.Choice.{pick}
-use Rattle.datagram.specs.Limits.{maxPayload, maxFragments, maxDatagram}
+use Rattle.forms.specs.Form.{goodFragment}
+use Rattle.datagram.specs.Limits.{maxDatagram}
 use Rattle.datagram.specs.Name.{nameLength}
 use Rattle.datagram.specs.declared.Named.{Named}
 use Rattle.datagram.specs.declared.Named.the-variants.{Nameless, Long}
@@ -75,16 +76,9 @@ readSmall d = smallTo d (nameLength (drop 8 d))
 
 -- ---- fragment: 20 bytes of header; in fragment 0 the name and a zero byte follow; in all others data follows at once
 
--- fragment 0 has offset 0; a fragment with k above 0 has data
-abbrev pub goodStart : ℕ → ℕ → ℕ → Bool
-goodStart number offset n = pick (eqb number 0) (eqb offset 0) (leb 1 n)
-
--- and offset and data length together are at most P; for k = n - 1 they equal P
+-- the form of a fragment, with the length of its data
 unfoldable pub goodForm : Header → Bool
-goodForm h =
-    goodStart (h .number) (h .offset) (h .payload .len)
-    && (leb (h .offset + h .payload .len) (h .size)
-    && pick (eqb (h .number + 1) (h .count)) (eqb (h .offset + h .payload .len) (h .size)) true)
+goodForm h = goodFragment (h .size) (h .offset) (h .number) (h .count) (h .payload .len)
 
 -- the header of a fragment whose name and data stand there
 abbrev pub fragmentHeader : List ℕ → Place → ℕ → Header
@@ -123,21 +117,7 @@ readDatagram maxSize maxCount d =
     (pick (ltb (length d) 20) (Refused 1) (readFragment maxSize maxCount d))
     (Refused 2))))
 
--- ---- the name and the payload, as the parts of the datagram that hold them, by the reader's own limits
-
-abbrev pub namePlace : Read → Place
-namePlace (Good h) = h .name
-namePlace (Refused n) = place 0 0
-
-abbrev pub payloadPlace : Read → Place
-payloadPlace (Good h) = h .payload
-payloadPlace (Refused n) = place 0 0
+-- ---- a part of the datagram, by its place
 
 abbrev pub partOf : List ℕ → Place → List ℕ
 partOf d p = take (p .len) (drop (p .at) d)
-
-unfoldable pub nameOf : List ℕ → List ℕ
-nameOf d = partOf d (namePlace (readDatagram maxPayload maxFragments d))
-
-unfoldable pub payloadOf : List ℕ → List ℕ
-payloadOf d = partOf d (payloadPlace (readDatagram maxPayload maxFragments d))

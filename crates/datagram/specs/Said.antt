@@ -1,4 +1,5 @@
 -- The reader's answer in document 01's values: a refusal's number; a small message's sequence, name and payload; or a fragment. Definitions only.
+use mathlib.Core.Path.{_≡_}
 use mathlib.Core.List.{List, []}
 use Prim.Native.Nat.{ℕ}
 use Rattle.wire.specs.Choice.{pick}
@@ -52,3 +53,8 @@ payloadIn (fragment f) = f .bytes
 -- what the datagram d says, for payloads of at most maxSize bytes in at most maxCount fragments
 unfoldable pub said : ℕ → ℕ → List ℕ → Said
 said maxSize maxCount d = says d (readDatagram maxSize maxCount d)
+
+-- what the reader gives of the datagram d: its answer, and that the answer says what the datagram says
+pub record Reads (maxSize maxCount : ℕ) (d : List ℕ) (r : Read) : Type 0 where
+  pub answer : r ≡ readDatagram maxSize maxCount d
+  pub told : says d r ≡ said maxSize maxCount d

@@ -1,22 +1,22 @@
-// What a datagram says: its header as numbers, with the places of its name and its data; and these two as parts of the datagram.
+// What a datagram says: its header as numbers, with the places of its name and its data.
 ghost use mathlib.Core.Path.{_≡_};
 ghost use Prim.Native.Nat.{_+_, _≤_, _<_, min};
 ghost use lib.ListN.{length, drop};
-ghost use lib.Dec.{eqb};
 ghost use Rattle.wire.specs.Bytes.{be};
-ghost use Rattle.datagram.specs.Scan.{within, start, lowAfter, highAfter, after, first, next, scan};
-ghost use Rattle.datagram.specs.Name.{goodName, untilZero, nameLength};
+ghost use Rattle.datagram.specs.Name.{untilZero, nameLength};
 ghost use Rattle.datagram.specs.Limits.{maxDatagram, maxName};
-ghost use Rattle.datagram.specs.Read.{goodStart, goodForm, formed, readSmall, readFragment, readDatagram, namePlace, payloadPlace, nameOf, payloadOf, partOf};
+ghost use Rattle.datagram.specs.Read.{formed, readSmall, readFragment, partOf};
+ghost use Rattle.datagram.specs.Said.{Reads};
 
-// The largest payload, the most fragments of a message, the longest datagram and the longest name.
+// The largest payload, the most fragments of a message, and the longest datagram.
 pub const MAX_PAYLOAD: usize = 1048576;
 
 pub const MAX_FRAGMENTS: u32 = 1024;
 
 pub const MAX_DATAGRAM: usize = 65535;
 
-pub const MAX_NAME: usize = 63;
+// The longest name.
+pub const MAX_NAME: usize = names::MAX_NAME;
 
 // "LC02" and "LC03", as numbers of four bytes.
 pub const SMALL_MAGIC: u32 = 0x4c433032;
@@ -52,137 +52,6 @@ pub enum Named {
     Long(usize),
 }
 
-// Where a scan of UTF-8 stands: how many bytes of a code point are to come, and from which to which the next may be.
-struct Scan {
-    left: u8,
-    low: u8,
-    high: u8,
-}
-
-fn within(low: u8, high: u8, x: u8) -> bool
-    ensures { λ r. ⌜ r ≡ within low high x ⌝ }
-{
-    if x < low {
-        return false;
-    }
-    x <= high
-}
-
-// The lowest byte after the first byte x of a code point: no overlong form.
-fn low_after(x: u8) -> u8
-    ensures { λ r. ⌜ r ≡ lowAfter x ⌝ }
-{
-    if x == 0xe0 {
-        return 0xa0;
-    }
-    if x == 0xf0 {
-        return 0x90;
-    }
-    0x80
-}
-
-// The highest: no surrogate, and nothing above 10FFFF.
-fn high_after(x: u8) -> u8
-    ensures { λ r. ⌜ r ≡ highAfter x ⌝ }
-{
-    if x == 0xed {
-        return 0x9f;
-    }
-    if x == 0xf4 {
-        return 0x8f;
-    }
-    0xbf
-}
-
-// After the first byte x of a code point that has n more.
-fn after(n: u8, x: u8) -> Scan
-    ensures { λ r. ⌜ r ≡ after n x ⌝ }
-{
-    Scan {
-        left: n,
-        low: low_after(x),
-        high: high_after(x),
-    }
-}
-
-// What the first byte of a code point leads to.
-fn first(x: u8) -> Scan
-    ensures { λ r. ⌜ r ≡ first x ⌝ }
-{
-    if within(32, 126, x) {
-        return Scan {
-            left: 0,
-            low: 0x80,
-            high: 0xbf,
-        };
-    }
-    if within(0xc2, 0xdf, x) {
-        return after(1, x);
-    }
-    if within(0xe0, 0xef, x) {
-        return after(2, x);
-    }
-    if within(0xf0, 0xf4, x) {
-        return after(3, x);
-    }
-    Scan {
-        left: 1,
-        low: 1,
-        high: 0,
-    }
-}
-
-// What any byte leads to: a byte that may not follow leads where none helps.
-fn next(s: Scan, x: u8) -> Scan
-    ensures { λ r. ⌜ r ≡ next s x ⌝ }
-{
-    if s.left == 0 {
-        return first(x);
-    }
-    if within(s.low, s.high, x) {
-        return Scan {
-            left: s.left - 1,
-            low: 0x80,
-            high: 0xbf,
-        };
-    }
-    Scan {
-        left: 1,
-        low: 1,
-        high: 0,
-    }
-}
-
-// Whole code points, each allowed.
-fn well_formed(name: &[u8]) -> bool
-    ensures { λ r. ⌜ r ≡ eqb (scan start (now (name .entry)) .left) 0 ⌝ }
-{
-    let mut s = Scan {
-        left: 0,
-        low: 0x80,
-        high: 0xbf,
-    };
-    let mut i: usize = 0;
-    while i < name.len() {
-        s = next(s, name[i]);
-        i += 1;
-    }
-    s.left == 0
-}
-
-// The name rule: 1 to 63 bytes of UTF-8. The reader and the cutter ask it here.
-pub fn good_name(name: &[u8]) -> bool
-    ensures { λ r. ⌜ r ≡ goodName (now (name .entry)) ⌝ }
-{
-    if name.len() < 1 {
-        return false;
-    }
-    if MAX_NAME < name.len() {
-        return false;
-    }
-    well_formed(name)
-}
-
 // How many bytes stand before the first zero byte, at most one more than a name has.
 fn until_zero(b: &[u8]) -> usize
     ensures { λ r. ⌜ r ≡ min (untilZero (now (b .entry))) (maxName + 1) ⌝ }
@@ -206,16 +75,10 @@ fn name_length(b: &[u8]) -> Named
     if b.len() <= c {
         return Named::Nameless;
     }
-    if good_name(&b[..c]) {
+    if names::good_name(&b[..c]) {
         return Named::Long(c);
     }
     Named::Nameless
-}
-
-fn wide(x: u32) -> usize
-    ensures { λ r. ⌜ r ≡ x ⌝ }
-{
-    x as usize
 }
 
 fn byte(x: u8) -> u32
@@ -260,36 +123,6 @@ fn read_small(d: &[u8]) -> Read
     })
 }
 
-// Fragment 0 begins the payload; any other has data.
-fn good_start(number: u32, offset: u32, n: usize) -> bool
-    ensures { λ r. ⌜ r ≡ goodStart number offset n ⌝ }
-{
-    if number == 0 {
-        return offset == 0;
-    }
-    1 <= n
-}
-
-// The form of a fragment. Offset and length are added in 64 bits, so that a huge offset cannot pass.
-fn good_form(h: Header) -> bool
-    requires { ⌜ h .payload .len ≤ maxDatagram ⌝ }
-    ensures { λ r. ⌜ r ≡ goodForm h ⌝ }
-{
-    let n = h.payload.len;
-    if !good_start(h.number, h.offset, n) {
-        return false;
-    }
-    let end = wide(h.offset) + n;
-    let size = wide(h.size);
-    if size < end {
-        return false;
-    }
-    if wide(h.number) + 1 == wide(h.count) {
-        return end == size;
-    }
-    true
-}
-
 // The fragment whose name stands there, and whose data begins at a place.
 fn formed_of(d: &[u8], name: Place, at: usize) -> Read
     requires { ⌜ (20 ≤ length (now d)) × (length (now d) ≤ maxDatagram) ⌝ }
@@ -306,7 +139,7 @@ fn formed_of(d: &[u8], name: Place, at: usize) -> Read
         name: name,
         payload: Place { at: at, len: n },
     };
-    if good_form(h) {
+    if forms::good_fragment(h.size, h.offset, h.number, h.count, n as u32) {
         return Read::Good(h);
     }
     Read::Refused(7)
@@ -327,7 +160,7 @@ fn read_fragment(d: &[u8], max_size: usize, max_count: u32) -> Read
     if count <= number {
         return Read::Refused(5);
     }
-    if max_size < wide(four(d, 8)) {
+    if max_size < four(d, 8) as usize {
         return Read::Refused(6);
     }
     if number != 0 {
@@ -341,7 +174,7 @@ fn read_fragment(d: &[u8], max_size: usize, max_count: u32) -> Read
 
 // What a datagram says, for payloads of at most max_size bytes in at most max_count fragments.
 pub fn read_datagram(d: &[u8], max_size: usize, max_count: u32) -> Read
-    ensures { λ r. ⌜ r ≡ readDatagram «max_size» «max_count» (now (d .entry)) ⌝ }
+    ensures { λ r. ⌜ Reads «max_size» «max_count» (now (d .entry)) r ⌝ }
 {
     if MAX_DATAGRAM < d.len() {
         return Read::Refused(3);
@@ -360,41 +193,6 @@ pub fn read_datagram(d: &[u8], max_size: usize, max_count: u32) -> Read
         return Read::Refused(1);
     }
     read_fragment(d, max_size, max_count)
-}
-
-// Where the name and the payload stand: nowhere, for a refused datagram.
-fn name_place(r: Read) -> Place
-    ensures { λ p. ⌜ p ≡ namePlace r ⌝ }
-{
-    match r {
-        Read::Good(h) => h.name,
-        Read::Refused(_) => Place { at: 0, len: 0 },
-    }
-}
-
-fn payload_place(r: Read) -> Place
-    ensures { λ p. ⌜ p ≡ payloadPlace r ⌝ }
-{
-    match r {
-        Read::Good(h) => h.payload,
-        Read::Refused(_) => Place { at: 0, len: 0 },
-    }
-}
-
-// The name, as the part of the datagram that holds it: empty for a refused datagram, and for a fragment above 0.
-pub fn name_part(d: &[u8]) -> &[u8]
-    ensures { λ r. ⌜ now r ≡ nameOf (now (d .entry)) ⌝ }
-{
-    let p = name_place(read_datagram(d, MAX_PAYLOAD, MAX_FRAGMENTS));
-    wire::part(d, p.at, p.len)
-}
-
-// The payload of a small message, or the data of a fragment, as the part of the datagram that holds it: empty for a refused datagram.
-pub fn payload_part(d: &[u8]) -> &[u8]
-    ensures { λ r. ⌜ now r ≡ payloadOf (now (d .entry)) ⌝ }
-{
-    let p = payload_place(read_datagram(d, MAX_PAYLOAD, MAX_FRAGMENTS));
-    wire::part(d, p.at, p.len)
 }
 
 // A part of a datagram by its place.

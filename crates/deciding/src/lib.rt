@@ -91,7 +91,7 @@ fn at_open(
     let a = b + slots::HELD;
     let e = a + slots::HELD_WORDS;
     let held = &state[a..e];
-    if slots::is_held(held, words::as_size(h.number)) {
+    if held::is_held(held, words::as_size(h.number)) {
         if same_fragment(state, names, store, ledger, s, h, d) {
             return Verdict::Again;
         }
@@ -100,7 +100,7 @@ fn at_open(
     let from = receiver_state::SLOT_LEDGER * s;
     let to = from + receiver_state::SLOT_LEDGER;
     let p = h.payload;
-    if slots::fits_all(
+    if fitting::fits_all(
         held,
         &ledger[from..to],
         h.count,

@@ -1,6 +1,6 @@
 -- A record's answer by its cases, and the packet that was written. Assumes nothing.
-use mathlib.Core.Path.{_≡_, refl, ap, sym, _∙_, subst}
-use mathlib.Core.List.{List, [], _∷_, _++_}
+use mathlib.Core.Path.{_≡_, ap, sym, _∙_, subst}
+use mathlib.Core.List.{List, _++_}
 use Prim.Native.Nat.{ℕ, _+_, _^_, _≤_, _<_}
 use native.Mathlib.Omega.{arith}
 use lib.ListN.{length, getD, take, drop, replicate, length-take}
@@ -8,17 +8,17 @@ use lib.Seq.{take-at, length-take-le}
 use borrow.Author.Tests.{lt-ltb, le-ltb}
 use Rattle.wire.specs.Bytes.{be, Bytes}
 use Rattle.wire.specs.Overlay.{overlay}
-use Rattle.wire.proofs.Overlays.{overlay-eq}
+use Rattle.wire.proofs.Overlays.{overlay-eq, overlay-all}
 use Rattle.wire.proofs.Numbers.{be-lt}
 use Rattle.moss.specs.Limits.{sessionLength, maxPacket, tooShort}
 use Rattle.moss.specs.Packet.{Given, gives, refuses}
-use Rattle.moss.specs.Answers.{writes}
-use Rattle.moss.specs.Write.{packetBytes, writtenOf, outputOf, WritesPacket}
-use Rattle.moss.specs.declared.Written.{Written}
-use Rattle.moss.specs.declared.Written.the-variants as written
-use Rattle.moss.proofs.Plans.{Makes, written-makes}
-use Rattle.moss.proofs.Laying.{bytes-drop}
-use Rattle.moss.proofs.Trips.{packet-length}
+use Rattle.moss_writer.specs.Write.{writes}
+use Rattle.moss_writer.specs.Write.{packetBytes, writtenOf, outputOf, WritesPacket}
+use Rattle.moss_writer.specs.declared.Written.{Written}
+use Rattle.moss_writer.specs.declared.Written.the-variants as written
+use Rattle.moss_writer.proofs.Plans.{Makes, written-makes}
+use Rattle.moss_writer.proofs.Laying.{bytes-drop}
+use Rattle.moss_writer.proofs.Trips.{packet-length}
 use Rattle.text.specs.Text.{decimal}
 use Rattle.gauge_bytes.specs.Lines.{recordHead, recordBytes, recordAnswer, answerText, line}
 
@@ -31,14 +31,8 @@ unfolding recordAnswer
 answer-whole b h = rw (le-ltb (length b) recordHead h)
 
 -- ten bytes taken by value
-overlay-front : (d l : List ℕ) → length d ≤ length l → overlay d 0 l ≡ take (length d) l
-unfolding overlay
-overlay-front [] l h = refl
-overlay-front (x ∷ d) [] h = absurd (let z : ⊥ = omega arith in z)
-overlay-front (x ∷ d) (y ∷ l) h = ap (λ (t : List ℕ). y ∷ t) (overlay-front d l (omega arith))
-
 pub session-front : (b : List ℕ) → recordHead ≤ length b → overlay (replicate sessionLength 0) 0 b ≡ take sessionLength b
-session-front b h = overlay-front (replicate sessionLength 0) b (omega arith)
+session-front b h = overlay-all (replicate sessionLength 0) b (omega arith)
 
 -- what the writer left at the start of the output is the record's packet
 module _ (b out : List ℕ) (n : ℕ) (out′ : List ℕ) (whole : recordHead ≤ length b) (counter : be 4 (drop 10 b) < 2 ^ 32) (byte : getD b 14 0 < 256)

@@ -7,7 +7,7 @@ use Rattle.wire.specs.Choice.{pick}
 use Rattle.wire.specs.Bytes.{be}
 use Rattle.moss.specs.Limits.{sessionLength, maxPacket, tooShort}
 use Rattle.moss.specs.Packet.{Given, gives, refuses}
-use Rattle.moss.specs.Write.{packetBytes, writtenOf}
+use Rattle.moss_writer.specs.Write.{packetBytes, writtenOf}
 use Rattle.text.specs.Text.{decimal, hex}
 
 -- a record: 10 session bytes, 4-byte sequence, type byte, message blocks

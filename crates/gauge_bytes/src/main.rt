@@ -8,7 +8,7 @@ ghost use Rattle.moss.specs.Limits.{maxPacket};
 ghost use Rattle.text.specs.Text.{decimal, hex};
 ghost use Rattle.output.specs.Output.{Pours};
 ghost use Rattle.gauge_bytes.specs.Lines.{line};
-use moss::Written;
+use moss_writer::Written;
 use stream::Input;
 use stream::Kind;
 use stream::Next;
@@ -55,7 +55,7 @@ fn one_more(out: &mut [u8], at: usize, n: u64, packet: &mut [u8], b: &[u8]) -> u
     let sequence = word_at(b, SEQUENCE_AT);
     let kind = b[KIND_AT];
     let blocks = wire::part(b, RECORD_HEAD, b.len());
-    let w = moss::write_packet(session, sequence, kind, blocks, packet);
+    let w = moss_writer::write_packet(session, sequence, kind, blocks, packet);
     match w {
         Written::Bytes(n) => pour_bytes(out, next, packet, n),
         Written::Refused(number) => pour_refused(out, next, number),

@@ -1,7 +1,7 @@
 -- The gauge by its cases. Assumes nothing.
 use mathlib.Core.Path.{_≡_, refl, ap, sym, _∙_}
 use mathlib.Core.Bool.{Bool, true, false, _&&_}
-use mathlib.Core.List.{List, [], _∷_}
+use mathlib.Core.List.{List}
 use Prim.Native.Nat.{ℕ, zero, suc, _+_, _-_, _%_, _^_, _≤_, _<_}
 use native.Mathlib.Omega.{arith}
 use lib.ListN.{length, take, drop, replicate, length-drop}
@@ -9,6 +9,7 @@ use Rattle.wire.specs.Choice.{pick}
 use Rattle.wire.specs.Same.{same}
 use Rattle.wire.specs.Overlay.{overlay}
 use Rattle.wire.proofs.Choices.{and-false}
+use Rattle.wire.proofs.Overlays.{overlay-all}
 use Rattle.watch.specs.Noted.{Noted, first}
 use Rattle.watch.specs.Difference.{difference, told}
 use Rattle.watch.specs.Watching.{moves}
@@ -50,16 +51,10 @@ module _ (g : Gauge) (p : Packet) where
   after-stays h = rw h
 
 -- ten bytes taken by value are the session
-overlay-front : (d l : List ℕ) → length d ≤ length l → overlay d 0 l ≡ take (length d) l
-unfolding overlay
-overlay-front [] l h = refl
-overlay-front (x ∷ d) [] h = absurd (let z : ⊥ = omega arith in z)
-overlay-front (x ∷ d) (y ∷ l) h = ap (λ (t : List ℕ). y ∷ t) (overlay-front d l (omega arith))
-
 pub session-taken : (b : List ℕ) (p : Packet) → packetOf b ≡ gives p → overlay (replicate sessionLength 0) 0 (drop sessionPlace b) ≡ p .session
 session-taken b p e =
     let g = packet-good b p e in
-    overlay-front (replicate sessionLength 0) (drop sessionPlace b) (omega (arith, length-drop sessionPlace b, g .whole)) ∙ sym (g .session)
+    overlay-all (replicate sessionLength 0) (drop sessionPlace b) (omega (arith, length-drop sessionPlace b, g .whole)) ∙ sym (g .session)
 
 pub session-compared : (b s : List ℕ) (p : Packet) (h : Header) → packetOf b ≡ gives p → h ≡ headerOf p → length s ≡ sessionLength
     → same (take (length s) (drop (h .session) b)) s ≡ same (p .session) s

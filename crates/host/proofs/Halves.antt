@@ -9,7 +9,7 @@ use lib.ListN.{length}
 use Rattle.wire.specs.Choice.{pick}
 use Rattle.wire.proofs.Choices.{pick-all}
 use Rattle.datagram.specs.Limits.{maxPayload, maxFragments}
-use Rattle.datagram.specs.Name.{goodName}
+use Rattle.names.specs.Name.{goodName}
 use Rattle.cutter.specs.Limits.{leastSize, mostSize}
 use Rattle.cutter.specs.Cut.{countOf, lengthOf, Answer, gives, refused, planOf, cutAnswer}
 use Rattle.cutter.proofs.Sizes.{Done, made, made-short}

@@ -12,7 +12,7 @@ fn told(at: usize, written: Written) -> u64
 {
     match written {
         Written::Next(next) => ((next - at) as u64) * 4294967296,
-        Written::Refused(n) => super::wide(n),
+        Written::Refused(n) => n as u64,
     }
 }
 

@@ -20,7 +20,7 @@ pub use flight::qm_log_begin;
 pub extern "C" fn qm_checksum(bytes: &[u8]) -> u32
     ensures { λ r. ⌜ r ≡ sum (now (bytes .entry)) % 2 ^ 32 ⌝ }
 {
-    wire::checksum(bytes)
+    checksum::checksum(bytes)
 }
 
 // 1 for a small message, 2 for a fragment.
@@ -68,12 +68,6 @@ pub extern "C" fn qm_read_datagram(datagram: &[u8], fields: &mut [u32]) -> u32
     }
 }
 
-fn wide(x: u32) -> u64
-    ensures { λ r. ⌜ r ≡ x ⌝ }
-{
-    x as u64
-}
-
 // Writes datagram `index` of a message at the start of out: count * 2^32 + length, or the number of the refusal.
 #[no_mangle]
 pub extern "C" fn qm_cut(
@@ -88,6 +82,6 @@ pub extern "C" fn qm_cut(
 {
     match cutter::cut_datagram(name, payload, sequence, size, index, out) {
         Cut::Made { count, len } => (count as u64) * 4294967296 + (len as u64),
-        Cut::Refused(n) => wide(n),
+        Cut::Refused(n) => n as u64,
     }
 }

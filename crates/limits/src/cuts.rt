@@ -39,9 +39,9 @@ fn front_of(case: &[u8], cut: Cut) -> usize {
 
 fn pour_parts(out: &mut [u8], at: usize, d: &[u8]) -> usize {
     let a = output::pour(out, at, b"name:");
-    let b = output::pour_hex(out, a, datagram::name_part(d));
+    let b = output::pour_hex(out, a, parts::name_part(d));
     let c = output::pour(out, b, b" payload:");
-    output::pour_hex(out, c, datagram::payload_part(d))
+    output::pour_hex(out, c, parts::payload_part(d))
 }
 
 // The name part and the payload part of what was made, or of the front of it.

@@ -380,7 +380,7 @@ fn frame_of(m: &[u8]) -> u32
     if sum == 0 {
         return 0;
     }
-    if sum == wire::checksum(&m[..end]) as u64 {
+    if sum == checksum::checksum(&m[..end]) as u64 {
         return 0;
     }
     22

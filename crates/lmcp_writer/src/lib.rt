@@ -336,7 +336,7 @@ fn put_checksum(out: &mut [u8], calculate: bool, end: usize)
     ensures { λ _. ⌜ now (out .exit) ≡ overlay (now (out .entry)) end (bytes 4 (pick calculate (checksumOf (take end (now (out .entry)))) 0)) ⌝ }
 {
     if calculate {
-        let sum = wire::checksum(&out[..end]);
+        let sum = checksum::checksum(&out[..end]);
         wire::put_number(out, end, 4, sum as u64);
         return;
     }

@@ -6,9 +6,9 @@ use native.Mathlib.Omega.{arith}
 use lib.ListN.{length, set, length-append, length-set}
 use borrow.Author.Tests.{lt-ltb, le-ltb}
 use Rattle.wire.specs.Overlay.{overlay}
-use Rattle.wire.specs.Seven.{seven}
+use Rattle.seven.specs.Seven.{seven}
 use Rattle.wire.proofs.Overlays.{overlay-append, overlay-one, length-overlay}
-use Rattle.wire.proofs.Sevens.{groups-length}
+use Rattle.seven.proofs.Sevens.{groups-length}
 use Rattle.datagram.specs.Limits.{maxDatagram, maxPayload}
 use Rattle.log.specs.Editions.{edition2, secondByte, headBytes}
 use Rattle.log.specs.Entries.{Entry, entryOf, entryBytes}

@@ -7,7 +7,7 @@ use lib.Dec.{ltb}
 use lib.ListN.{length, take, drop}
 use Rattle.wire.specs.Choice.{pick}
 use Rattle.wire.specs.Taken.{Taken, taken, refused, follow}
-use Rattle.wire.specs.Seven.{sevenIn}
+use Rattle.seven.specs.Seven.{sevenIn}
 use Rattle.datagram.specs.Limits.{maxDatagram}
 use Rattle.log.specs.Editions.{Edition, headIn}
 use Rattle.log.specs.Entries.{Entry, entryOf}

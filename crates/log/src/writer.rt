@@ -3,7 +3,7 @@ ghost use mathlib.Core.Path.{_≡_};
 ghost use Prim.Native.Nat.{_+_, _≤_};
 ghost use lib.ListN.{length};
 ghost use Rattle.wire.specs.Overlay.{overlay};
-ghost use Rattle.wire.specs.Seven.{seven};
+ghost use Rattle.seven.specs.Seven.{seven};
 ghost use Rattle.datagram.specs.Limits.{maxDatagram};
 ghost use Rattle.log.specs.Entries.{entryBytes, entryOf};
 ghost use Rattle.log.specs.Writes.{Began, Appended};
@@ -21,12 +21,12 @@ pub fn begin(out: &mut [u8], limit: u64) -> Written
     if (datagram::MAX_PAYLOAD as u64) < limit {
         return Written::Refused(45);
     }
-    let n = 1 + wire::seven_length(limit);
+    let n = 1 + seven::seven_length(limit);
     if out.len() < n {
         return Written::Refused(13);
     }
     out[0] = super::EDITION;
-    wire::put_seven(out, 1, limit);
+    seven::put_seven(out, 1, limit);
     Written::Next(n)
 }
 
@@ -36,7 +36,7 @@ fn entry_length(sender: u64, tick: u64, datagram: &[u8]) -> usize
     ensures { λ r. ⌜ r ≡ length (entryBytes (entryOf sender tick (now (datagram .entry)))) ⌝ }
 {
     let n = datagram.len();
-    wire::seven_length(sender) + wire::seven_length(tick) + wire::seven_length(n as u64) + n
+    seven::seven_length(sender) + seven::seven_length(tick) + seven::seven_length(n as u64) + n
 }
 
 // An entry at a place that has room for it.
@@ -44,13 +44,13 @@ fn put_entry(out: &mut [u8], at: usize, sender: u64, tick: u64, datagram: &[u8])
     requires { ⌜ at + length (entryBytes (entryOf sender tick (now datagram))) ≤ length (now out) ⌝ }
     ensures { λ _. ⌜ now (out .exit) ≡ overlay (now (out .entry)) at (entryBytes (entryOf sender tick (now (datagram .entry)))) ⌝ }
 {
-    let a = at + wire::seven_length(sender);
-    let b = a + wire::seven_length(tick);
+    let a = at + seven::seven_length(sender);
+    let b = a + seven::seven_length(tick);
     let n = datagram.len() as u64;
-    let c = b + wire::seven_length(n);
-    wire::put_seven(out, at, sender);
-    wire::put_seven(out, a, tick);
-    wire::put_seven(out, b, n);
+    let c = b + seven::seven_length(n);
+    seven::put_seven(out, at, sender);
+    seven::put_seven(out, a, tick);
+    seven::put_seven(out, b, n);
     wire::put_bytes(out, c, datagram);
 }
 

@@ -7,7 +7,7 @@ use lib.ListN.{length, take, drop, length-append, length-drop}
 use lib.Seq.{drop-append-seam, take-append-seam}
 use Rattle.wire.specs.Bytes.{Bytes}
 use Rattle.wire.specs.Taken.{Taken, taken, refused}
-use Rattle.wire.proofs.Sevens.{drop-bytes}
+use Rattle.wire.proofs.Numbers.{drop-bytes}
 use Rattle.datagram.specs.Read.{readDatagram}
 use Rattle.datagram.specs.declared.Read.{Read}
 use Rattle.datagram.specs.declared.Read.the-variants.{Good, Refused}

@@ -7,7 +7,7 @@ use lib.ListN.{length, take, drop, length-append, length-drop}
 use lib.Seq.{drop-append-seam}
 use Rattle.wire.specs.Bytes.{Bytes}
 use Rattle.wire.specs.Taken.{Taken, taken, refused}
-use Rattle.wire.proofs.Sevens.{drop-bytes}
+use Rattle.wire.proofs.Numbers.{drop-bytes}
 use Rattle.datagram.specs.Read.{readDatagram}
 use Rattle.log.specs.Entries.{Entry, AllKeep, entryBytes, bodyOf}
 use Rattle.log.specs.Listed.{Listed, whole, broken, after, more, oneMore, listBy, entryIn}

@@ -4,7 +4,8 @@ use mathlib.Core.List.{List, map, zipWith}
 use Rattle.wire.specs.Bytes.{be, bytes}
 use Rattle.wire.specs.Overlay.{overlay}
 use Rattle.wire.specs.Sum.{sum}
-use Rattle.datagram.specs.Name.{goodName, untilZero, nameLength}
+use Rattle.names.specs.Name.{goodName}
+use Rattle.datagram.specs.Name.{untilZero, nameLength}
 use Rattle.datagram.specs.Read.{readSmall, goodForm, formed, readFragment, readDatagram}
 use Rattle.datagram.specs.Said.{said}
 use Rattle.cutter.specs.Cut.{countOf, smallBytes, headBytes, pieceOf, fragmentBytes, datagramOf}

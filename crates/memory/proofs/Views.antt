@@ -15,9 +15,9 @@ use borrow.Author.Tests.{lt-ltb, le-ltb, eq-eqb, ne-eqb}
 use Rattle.wire.specs.Choice.{pick}
 use Rattle.wire.proofs.Choices.{either, pick-all}
 use Rattle.words.specs.Builds.{build}
-use Rattle.words.specs.Ranks.{rankOf, lowerRank, ranksLowered, lowestRanked}
+use Rattle.ranks.specs.Ranks.{rankOf, lowerRank, ranksLowered, lowestRanked}
 use Rattle.words.proofs.Builds.{length-build, getD-build, build-is}
-use Rattle.words.proofs.Ranks.{lowered-length, lowered-other}
+use Rattle.ranks.proofs.Ranks.{lowered-length, lowered-other}
 use Rattle.steps.specs.Limits.{sendersMost, keysEach}
 use Rattle.steps.specs.Search.{first}
 use Rattle.steps.specs.Memory.{keyOf, Place, noPlace, vacant, isOf, remembered, has, Memory, placeAt, keptAt, isRemembered, furthestBack, orElse, placeFor, countOf, pushed, withKey, sunk, remember, freed, forgetKeys}

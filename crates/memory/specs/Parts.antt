@@ -5,8 +5,8 @@ use lib.Dec.{eqb, ltb}
 use lib.ListN.{getD, set}
 use Rattle.wire.specs.Choice.{pick}
 use Rattle.steps.specs.Limits.{sendersMost, keysEach}
-use Rattle.words.specs.Ranks.{ranksLowered}
-use Rattle.words.specs.declared.Ranked.{Ranked}
+use Rattle.ranks.specs.Ranks.{ranksLowered}
+use Rattle.ranks.specs.declared.Ranked.{Ranked}
 use Rattle.memory.specs.Words.{turnsAt, turnAt, senderAt, usedAt, sequencesAt}
 
 -- the turns as ranks: no other word says whether a place has one

@@ -1,6 +1,6 @@
 // The memory of delivered keys: the last words of a receiver's state. 16 places for senders, each with its last 32 sequences.
 // Every public function is total over any slice.
-use words::Ranked;
+use ranks::Ranked;
 ghost use mathlib.Core.Path.{_≡_};
 ghost use Prim.Native.Nat.{_+_, _≤_, _<_, _-_};
 ghost use lib.ListN.{length, getD};
@@ -148,7 +148,7 @@ fn place_for(memory: &[u64], sender: u64) -> usize
     if free < SENDERS_MOST {
         return free;
     }
-    words::lowest_ranked(memory, turns(), SENDERS_MOST)
+    ranks::lowest_ranked(memory, turns(), SENDERS_MOST)
 }
 
 // How many sequences of the sender count at place i.
@@ -195,7 +195,7 @@ fn settle(memory: &mut [u64], i: usize, sender: u64)
     ensures { λ _. ⌜ now (memory .exit) ≡ settledIn (now (memory .entry)) i sender ⌝ }
 {
     let t = words::word(&*memory, TURNS + i);
-    words::lower_ranks(&mut *memory, turns(), SENDERS_MOST, t);
+    ranks::lower_ranks(&mut *memory, turns(), SENDERS_MOST, t);
     words::put_word(&mut *memory, TURNS + i, SENDERS_MOST as u64 - 1);
     words::put_word(memory, i, sender);
 }

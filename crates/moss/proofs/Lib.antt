@@ -3,7 +3,5 @@ pub mod Trails
 pub mod Packets
 pub mod Parts
 pub mod Looks
-pub mod Plans
-pub mod Laying
-pub mod Trips
+pub mod Faults
 pub mod Once

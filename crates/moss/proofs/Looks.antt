@@ -2,19 +2,17 @@
 use mathlib.Core.Path.{_≡_, refl, ap, sym, _∙_}
 use mathlib.Core.Option.{Option, none, some}
 use mathlib.Core.List.{List}
-use Prim.Native.Nat.{ℕ, _+_}
+use Prim.Native.Nat.{ℕ}
 use native.Mathlib.Omega.{arith}
 use lib.ListN.{length}
 use Rattle.moss.specs.Limits.{headLength, notFilled}
 use Rattle.moss.specs.Packet.{Given, gives, refuses, Packet, sessionPlace, sequenceIn, kindIn, held}
 use Rattle.moss.specs.Message.{placeIn}
-use Rattle.moss.specs.Answers.{headersOf, reads, locates}
+use Rattle.moss.specs.Answers.{headersOf}
 use Rattle.moss.specs.Walk.{start, pastAll, walked, looked, pointed}
 use Rattle.moss.specs.declared.Header.{Header}
 use Rattle.moss.specs.declared.Trail.{Trail}
-use Rattle.moss.specs.declared.Walked.{Walked}
 use Rattle.moss.specs.declared.Walked.the-variants.{Filled, Broken}
-use Rattle.moss.specs.declared.Looked.{Looked}
 use Rattle.moss.specs.declared.Looked.the-variants as look
 use Rattle.moss.proofs.Trails.{all-count, walk-points}
 

@@ -1,20 +1,15 @@
--- No second answer satisfies a contract of this crate. `message` and `session_at` say `r ≡ definition inputs`: wire's one-answer is their
+-- No second answer satisfies a contract of this crate. `message`, `session_at` and `block_fault` say `r ≡ definition inputs`: wire's one-answer is their
 -- theorem. Assumes nothing.
 use mathlib.Core.Path.{_≡_, refl, ap, sym, _∙_}
-use mathlib.Core.List.{List}
-use Prim.Native.Nat.{ℕ}
 use Rattle.wire.proofs.Once.{one-answer}
 use Rattle.moss.specs.Packet.{Given, gives, refuses}
 use Rattle.moss.specs.Message.{Part}
-use Rattle.moss.specs.Answers.{reads, locates, writes}
-use Rattle.moss.specs.Write.{WrittenTo}
+use Rattle.moss.specs.Answers.{reads, locates}
 use Rattle.moss.specs.declared.Header.{Header}
 use Rattle.moss.specs.declared.Read.{Read}
 use Rattle.moss.specs.declared.Read.the-variants as read
 use Rattle.moss.specs.declared.Located.{Located}
 use Rattle.moss.specs.declared.Located.the-variants as part
-use Rattle.moss.specs.declared.Written.{Written}
-use Rattle.moss.specs.declared.Written.the-variants as written
 
 -- `read_packet`
 pub read-once : {g : Given Header} (r s : Read) → reads r ≡ g → reads s ≡ g → r ≡ s
@@ -39,17 +34,3 @@ place-once r s p q = sym (back r) ∙ ap enum (one-answer (locates r) (locates s
     back : (r : Located) → enum (locates r) ≡ r
     back (part.At at len) = refl
     back (part.Refused number) = refl
-
--- `write_packet` and `lay_block`: the answer and every byte of the output
-pub write-once : {said : Given ℕ} {at : ℕ} {b out : List ℕ} (r s : Written) (x y : List ℕ) → WrittenTo said at b out r x → WrittenTo said at b out s y
-    → (r ≡ s) × (x ≡ y)
-write-once r s x y p q =
-    (sym (back r) ∙ ap enum (one-answer (writes r) (writes s) (p .answer) (q .answer)) ∙ back s, one-answer x y (p .output) (q .output))
-  where
-    enum : Given ℕ → Written
-    enum (gives n) = written.Bytes n
-    enum (refuses number) = written.Refused number
-
-    back : (r : Written) → enum (writes r) ≡ r
-    back (written.Bytes n) = refl
-    back (written.Refused number) = refl

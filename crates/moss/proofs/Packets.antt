@@ -2,7 +2,7 @@
 use mathlib.Core.Path.{_≡_, refl, ap, sym, _∙_}
 use mathlib.Core.Bool.{Bool, true, false, not, _||_}
 use mathlib.Core.Option.{Option, none, some}
-use mathlib.Core.List.{List, [], _∷_}
+use mathlib.Core.List.{List}
 use Prim.Native.Nat.{ℕ, _≤_, _<_}
 use native.Mathlib.Omega.{arith}
 use lib.Dec.{eqb, ltb}
@@ -10,8 +10,8 @@ use lib.ListN.{length, drop}
 use borrow.Author.Tests.{eq-eqb, ne-eqb, lt-ltb, le-ltb, eqb-true, ltb-false, not-false}
 use Rattle.wire.specs.Choice.{pick}
 use Rattle.wire.proofs.Choices.{or-l, or-r}
-use Rattle.moss.specs.Limits.{headLength, maxPacket, tooShort, wrongLength, wrongType, notFilled}
-use Rattle.moss.specs.Packet.{Given, gives, refuses, Packet, lengthIn, sessionIn, sequenceIn, kindIn, knownKind, carried, held, packetOf}
+use Rattle.moss.specs.Limits.{headLength, maxPacket, tooShort, wrongLength, wrongType}
+use Rattle.moss.specs.Packet.{gives, refuses, Packet, lengthIn, sessionIn, sequenceIn, kindIn, knownKind, carried, held, packetOf}
 
 module _ (b : List ℕ) where
   pub packet-short : length b < headLength → packetOf b ≡ refuses tooShort

@@ -3,19 +3,19 @@ use mathlib.Core.Path.{_≡_, refl, ap, sym, _∙_}
 use mathlib.Core.Bool.{Bool, true, false}
 use mathlib.Core.Option.{Option, none, some}
 use mathlib.Core.List.{List, [], _∷_}
-use Prim.Native.Nat.{ℕ, zero, suc, _+_, _≤_, _<_}
+use Prim.Native.Nat.{ℕ, zero, suc, _+_, _≤_}
 use native.Mathlib.Omega.{arith}
-use lib.Dec.{eqb, ltb}
+use lib.Dec.{eqb}
 use lib.ListN.{length, take, drop, length-drop}
 use lib.Seq.{length-take-le, drop-drop}
 use borrow.Author.Tests.{ltb-false}
 use Rattle.wire.specs.Choice.{pick}
 use Rattle.wire.specs.Bytes.{be}
-use Rattle.moss.specs.Limits.{headLength, maxPacket, noMessage, letterU}
+use Rattle.moss.specs.Limits.{headLength, maxPacket, letterU}
 use Rattle.moss.specs.Blocks.{isCut, firstMessage, behind, before, nothingIn, firstThen, messagesWithin, messagesIn}
-use Rattle.moss.specs.Packet.{Given, gives, refuses, Packet, kindIn, carried, packetOf}
+use Rattle.moss.specs.Packet.{Given, gives, refuses, Packet, kindIn, packetOf}
 use Rattle.moss.specs.Message.{Part, located, placeIn, nth, messageIn}
-use Rattle.moss.proofs.Packets.{Good, packet-good}
+use Rattle.moss.proofs.Packets.{packet-good}
 
 -- ---- a block and the messages behind it, taken apart
 

@@ -1,6 +1,5 @@
 -- What the walk has found when it has passed all blocks: their number, and the message that was looked out for. Assumes nothing.
 use mathlib.Core.Path.{_≡_, refl, ap, sym, _∙_}
-use mathlib.Core.Bool.{Bool, true, false}
 use mathlib.Core.List.{List, [], _∷_}
 use Prim.Native.Nat.{ℕ, zero, suc, _+_, _≤_, _<_}
 use native.Mathlib.Omega.{arith}
@@ -8,7 +7,7 @@ use native.Mathlib.Decide.{decLt}
 use lib.ListN.{length}
 use borrow.Author.Tests.{eq-eqb, ne-eqb, lt-ltb, le-ltb}
 use Rattle.moss.specs.Limits.{noMessage}
-use Rattle.moss.specs.Packet.{Given, gives, refuses}
+use Rattle.moss.specs.Packet.{gives, refuses}
 use Rattle.moss.specs.Message.{Part, located}
 use Rattle.moss.specs.Walk.{start, past, pastAll, pointed}
 use Rattle.moss.specs.declared.Trail.{Trail}

@@ -5,16 +5,15 @@ use mathlib.Core.Option.{Option, none, some}
 use mathlib.Core.List.{List, [], _∷_}
 use Prim.Native.Nat.{ℕ, zero, suc, _+_, _-_, _≤_, _<_}
 use native.Mathlib.Omega.{arith}
-use lib.ListN.{length, take, drop, length-drop, drop-of-length-le}
+use lib.ListN.{length, drop, length-drop, drop-of-length-le}
 use lib.Seq.{length-take-le, drop-drop}
 use lib.Dec.{eqb}
 use borrow.Author.Tests.{lt-ltb, le-ltb}
 use Rattle.wire.specs.Choice.{pick}
 use Rattle.wire.specs.Bytes.{be}
 use Rattle.moss.specs.Blocks.{isCut, firstMessage, behind, before, nothingIn, messagesWithin, messagesIn}
-use Rattle.moss.specs.Walk.{past, pastAll, walked}
+use Rattle.moss.specs.Walk.{past, walked}
 use Rattle.moss.specs.declared.Trail.{Trail}
-use Rattle.moss.specs.declared.Walked.{Walked}
 use Rattle.moss.specs.declared.Walked.the-variants.{Filled, Broken}
 
 -- any number of turns that is enough gives the same

@@ -1,6 +1,4 @@
 -- What each case of the code's answers means, in the paper's values. Definitions only.
-use mathlib.Core.List.{List}
-use Prim.Native.Nat.{ℕ}
 use lib.ListN.{length}
 use Rattle.moss.specs.Packet.{Given, gives, refuses, Packet, sessionPlace}
 use Rattle.moss.specs.Message.{Part}
@@ -9,8 +7,6 @@ use Rattle.moss.specs.declared.Read.{Read}
 use Rattle.moss.specs.declared.Read.the-variants as read
 use Rattle.moss.specs.declared.Located.{Located}
 use Rattle.moss.specs.declared.Located.the-variants as part
-use Rattle.moss.specs.declared.Written.{Written}
-use Rattle.moss.specs.declared.Written.the-variants as written
 
 -- a packet's numbers: where its session stands, its sequence, its type, its count of messages
 abbrev pub headerOf : Packet → Header
@@ -27,7 +23,3 @@ reads (read.Refused number) = refuses number
 abbrev pub locates : Located → Given Part
 locates (part.At at len) = gives (record { at = at; len = len })
 locates (part.Refused number) = refuses number
-
-abbrev pub writes : Written → Given ℕ
-writes (written.Bytes n) = gives n
-writes (written.Refused number) = refuses number

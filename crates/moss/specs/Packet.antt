@@ -1,8 +1,8 @@
 -- What a MossUDP packet says: source document 002, and refusals 50 to 53 in that order. Definitions only.
 use mathlib.Core.Bool.{Bool, not, _||_}
 use mathlib.Core.Option.{Option, none, some}
-use mathlib.Core.List.{List, [], _∷_}
-use Prim.Native.Nat.{ℕ, _+_}
+use mathlib.Core.List.{List}
+use Prim.Native.Nat.{ℕ}
 use lib.Dec.{eqb, ltb}
 use lib.ListN.{length, getD, take, drop}
 use Rattle.wire.specs.Choice.{pick}
@@ -46,6 +46,14 @@ knownKind k = eqb k letterU || (eqb k letterH || eqb k letterE)
 -- U carries message blocks, H and E carry none
 abbrev pub carried : ℕ → List ℕ → Option (List (List ℕ))
 carried k b = pick (eqb k letterU) (messagesIn b) (nothingIn b)
+
+-- what is wrong with the bytes that a packet of a type is to carry: 0 where nothing is
+abbrev pub fillFault : Option (List (List ℕ)) → ℕ
+fillFault none = notFilled
+fillFault (some ms) = 0
+
+unfoldable pub blockFault : ℕ → List ℕ → ℕ
+blockFault k b = pick (knownKind k) (fillFault (carried k b)) wrongType
 
 -- ---- the packet
 

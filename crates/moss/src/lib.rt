@@ -1,17 +1,15 @@
 // MossUDP packets: 4 bytes of length, 10 of session, 4 of sequence, a type U, H or E, and for U message blocks, each a 2-byte length and
-// its bytes. One walk over the blocks serves the reader, the n-th message and the writer.
+// its bytes. One walk over the blocks serves the reader, the n-th message and, by what is wrong with blocks, the writer.
 ghost use mathlib.Core.Path.{_≡_};
 ghost use Prim.Native.Nat.{_+_, _<_, _≤_};
-ghost use lib.ListN.{length, drop, replicate};
+ghost use lib.ListN.{drop, replicate};
 ghost use Rattle.wire.specs.Bytes.{be};
 ghost use Rattle.wire.specs.Overlay.{overlay};
 ghost use Rattle.moss.specs.Blocks.{messagesIn};
-ghost use Rattle.moss.specs.Packet.{packetOf, held, carried, knownKind, kindIn};
+ghost use Rattle.moss.specs.Packet.{packetOf, held, carried, knownKind, kindIn, blockFault};
 ghost use Rattle.moss.specs.Message.{placeIn, messageIn};
 ghost use Rattle.moss.specs.Answers.{headersOf, reads, locates};
-ghost use Rattle.moss.specs.Limits.{headLength, maxPacket, sessionLength};
-ghost use Rattle.moss.specs.Answers.{writes};
-ghost use Rattle.moss.specs.Write.{packetBytes, writtenOf, WritesPacket, LaysBlock};
+ghost use Rattle.moss.specs.Limits.{headLength, sessionLength};
 ghost use Rattle.moss.specs.Walk.{start, past, walked, looked, pointed};
 
 // The bytes of a session, of a header, and of the longest packet.
@@ -21,15 +19,12 @@ pub const HEAD: usize = 4 + SESSION + 4 + 1;
 
 pub const MAX_PACKET: usize = 65535;
 
-// The longest message: a block's length has 2 bytes.
-pub const MAX_MESSAGE: usize = 65535;
-
 // Where the session, the sequence and the type stand.
 pub const SESSION_AT: usize = 4;
 
-const SEQUENCE_AT: usize = 14;
+pub const SEQUENCE_AT: usize = 14;
 
-const KIND_AT: usize = 18;
+pub const KIND_AT: usize = 18;
 
 // The types: data, heartbeat, end of session.
 pub const U: u8 = b'U';
@@ -67,12 +62,6 @@ pub enum Read {
 // Where a message begins, and its length.
 pub enum Located {
     At(usize, usize),
-    Refused(u32),
-}
-
-// How many bytes were written.
-pub enum Written {
-    Bytes(usize),
     Refused(u32),
 }
 
@@ -171,6 +160,20 @@ fn is_known(kind: u8) -> bool
     kind == E
 }
 
+// What is wrong with message blocks for a packet of this type, 52 or 53: 0 where nothing is. The writer asks it.
+pub fn block_fault(kind: u8, blocks: &[u8]) -> u32
+    ensures { λ r. ⌜ r ≡ blockFault kind (now (blocks .entry)) ⌝ }
+{
+    if !is_known(kind) {
+        return WRONG_TYPE;
+    }
+    let w = walk_kind(kind, blocks, 0, 0);
+    match w {
+        Walked::Filled(_) => 0,
+        Walked::Broken => NOT_FILLED,
+    }
+}
+
 // The number of four bytes at a place.
 fn word_at(b: &[u8], at: usize) -> u32
     ensures { λ r. ⌜ r ≡ be 4 (drop at (now (b .entry))) ⌝ }
@@ -266,71 +269,4 @@ pub fn session_at(b: &[u8], at: usize) -> [u8; 10]
     let mut session = [0u8; SESSION];
     wire::put_bytes(&mut session, 0, wire::part(b, at, b.len()));
     session
-}
-
-// Lays one message block at a place of the output: its length, then its bytes.
-pub fn lay_block(out: &mut [u8], at: usize, message: &[u8]) -> Written
-    ensures { λ r. ⌜ LaysBlock (now (message .entry)) at (now (out .entry)) r (now (out .exit)) ⌝ }
-{
-    let n = message.len();
-    if MAX_MESSAGE < n {
-        return Written::Refused(WRONG_LENGTH);
-    }
-    if wire::room(out.len(), at) < 2 + n {
-        return Written::Refused(OUTPUT_SHORT);
-    }
-    wire::put_number(&mut *out, at, 2, n as u64);
-    wire::put_bytes(&mut *out, at + 2, message);
-    Written::Bytes(2 + n)
-}
-
-// How long a packet with these blocks is, or why there is none.
-fn plan(kind: u8, blocks: &[u8], room: usize) -> Written
-    ensures { λ r. ⌜ writes r ≡ writtenOf kind (now (blocks .entry)) room ⌝ }
-{
-    if MAX_PACKET - HEAD < blocks.len() {
-        return Written::Refused(WRONG_LENGTH);
-    }
-    if !is_known(kind) {
-        return Written::Refused(WRONG_TYPE);
-    }
-    let w = walk_kind(kind, blocks, 0, 0);
-    let Walked::Filled(_) = w else {
-        return Written::Refused(NOT_FILLED);
-    };
-    let n = HEAD + blocks.len();
-    if room < n {
-        return Written::Refused(OUTPUT_SHORT);
-    }
-    Written::Bytes(n)
-}
-
-fn put_packet(out: &mut [u8], session: [u8; 10], sequence: u32, kind: u8, blocks: &[u8])
-    requires { ⌜ length (now blocks) ≤ maxPacket ⌝ }
-    ensures { λ _. ⌜ now (out .exit) ≡ overlay (now (out .entry)) 0 (packetBytes session sequence kind (now (blocks .entry))) ⌝ }
-{
-    let n = HEAD + blocks.len();
-    wire::put_number(&mut *out, 0, 4, n as u64);
-    wire::put_bytes(&mut *out, SESSION_AT, &session);
-    wire::put_number(&mut *out, SEQUENCE_AT, 4, sequence as u64);
-    wire::put_number(&mut *out, KIND_AT, 1, kind as u64);
-    wire::put_bytes(&mut *out, HEAD, blocks);
-}
-
-// Writes a packet of these message blocks, as they will lie, at the start of the output.
-pub fn write_packet(
-    session: [u8; 10],
-    sequence: u32,
-    kind: u8,
-    blocks: &[u8],
-    out: &mut [u8],
-) -> Written
-    ensures { λ r. ⌜ WritesPacket session sequence kind (now (blocks .entry)) (now (out .entry)) r (now (out .exit)) ⌝ }
-{
-    let r = plan(kind, blocks, out.len());
-    let Written::Bytes(_) = r else {
-        return r;
-    };
-    put_packet(&mut *out, session, sequence, kind, blocks);
-    r
 }

@@ -4,3 +4,4 @@ pub mod Proper
 pub mod Seen
 pub mod Told
 pub mod Walks
+pub mod Once

@@ -150,7 +150,8 @@ fn enter_elements(
     sure: &mut [u64],
     had: Sizes,
 ) -> Taken
-    ensures { λ r. ⌜ Leaves (enterMarks tile (marksIn two (length (drop 4 (now (list .entry)))) (drop 4 (now (list .entry)))) (now (pits .entry)) (now (sure .entry)) had) r (now (pits .exit)) (now (sure .exit)) ⌝ }
+    ensures { λ r. ⌜ Leaves (enterMarks tile (marksIn two (length (drop 4 (now (list .entry)))) (drop 4 (now (list .entry)))) (now (pits .entry)) (now (sure .entry)) had) r
+        (now (pits .exit)) (now (sure .exit)) ⌝ }
 {
     let mut now = had;
     let mut place: usize = 4;
@@ -221,7 +222,8 @@ pub fn put_lines(
     sure: &[u64],
     had: Sizes,
 )
-    ensures { λ _. ⌜ Lays (now (tiles .entry)) (now (pits .entry)) (now (sure .entry)) had (now (tile .entry)) (now (pit .entry)) (now (certain .entry)) (now (tile .exit)) (now (pit .exit)) (now (certain .exit)) ⌝ }
+    ensures { λ _. ⌜ Lays (now (tiles .entry)) (now (pits .entry)) (now (sure .entry)) had (now (tile .entry)) (now (pit .entry)) (now (certain .entry))
+        (now (tile .exit)) (now (pit .exit)) (now (certain .exit)) ⌝ }
 {
     let n = had.tiles;
     let mut i: usize = 0;

@@ -18,11 +18,11 @@ use Rattle.steps.specs.declared.Answer.the-variants.{Kept, Delivered}
 use Rattle.steps.specs.Memory.{keyOf, remember}
 use Rattle.steps.specs.Slots.{Slot, slotAt, oldest, noName, filled, allHeld, opening, release, seat}
 use Rattle.steps.specs.Slots as step
-use Rattle.steps.specs.Receive.{Machine, After, withSlots, row, storeWith, ledgerWith, step5, beginAt}
+use Rattle.steps.specs.Receive.{Machine, After, withSlots, row, storeWith, ledgerWith, step5}
 use Rattle.steps.proofs.Branches.{step5-delivered, step5-kept}
 use Rattle.steps.proofs.Seats.{set-there, seat-free, seat-full}
-use Rattle.words.specs.Ranks.{lowestRanked}
-use Rattle.words.proofs.Ranks.{lowest-is}
+use Rattle.ranks.specs.Ranks.{lowestRanked}
+use Rattle.ranks.proofs.Ranks.{lowest-is}
 use Rattle.slots.specs.declared.Found.the-variants.{At, Nothing}
 use Rattle.slots.specs.Words.{turns, at, senderWord, sequenceWord, sizeWord, freeIn, firstBelow}
 use Rattle.receiver_state.specs.View.{roomWord, nameIn, slotsOf, memoryOf, view}
@@ -32,10 +32,9 @@ use Rattle.receiver_state.proofs.Firsts.{optionOf, first-within}
 use Rattle.receiver_state.proofs.Bridge.{slots-length, free-slot, oldest-slot}
 use Rattle.receiver_state.proofs.Cases.{row-is, key-is, size-is, name-is}
 use Rattle.receiver.specs.Calls.{Leaves}
-use Rattle.receiver.specs.Inside.{Slots, Releases, Occupies, Delivers, Seats, Puts, Begins}
+use Rattle.receiver.specs.Inside.{Slots, Releases, Occupies, Delivers, Seats, Begins}
 use Rattle.receiver.specs.declared.Outcome.{Outcome}
 use Rattle.receiver.specs.declared.Seat.{Seat}
-use Rattle.receiver.specs.declared.Stored.the-variants as stored
 
 -- ---- a whole message is handed over
 
@@ -132,34 +131,17 @@ module _ (w n : List ℕ) where
         };
       }
 
--- ---- steps 4 and 5
+-- ---- step 4
 
-step5-same : (m : Machine) (slots slots′ : List Slot) (store ledger : List ℕ) (gone : Emptied) (s : ℕ) (f : Fragment)
-    → step5 (withSlots m slots (m .memory)) slots′ store ledger gone s f ≡ step5 m slots′ store ledger gone s f
-unfolding step5
-step5-same m slots slots′ store ledger gone s f = refl
-
-pub began : (w n : List ℕ) (sender : ℕ) (h : Header) (d : List ℕ) (t : Seat) (o : Outcome) (w0 n0 w1 n1 w2 n2 : List ℕ) → Seats w n t w0 n0
-    → Occupies w0 n0 (t .at) sender h w1 n1 → Puts w1 n1 (t .at) (t .emptied) h d o w2 n2
-    → Begins w n sender h d (record { outcome = o; stored = stored.In (t .at) h }) w2 n2
-began w n sender h d t o w0 n0 w1 n1 w2 n2 T O P = record { place = t .at; stores = refl; inside = T .inside; leaves = leaves }
-  where
-    k : Key
-    k = keyOf sender (h .sequence)
-
-    leaves : (store ledger : List ℕ) → Leaves (beginAt (view w n) store ledger (keyOf sender (h .sequence)) (fragmentIn d h) (seat (slotsOf w n))) o w2 n2
-        (storeWith (getD w roomWord 0) store (t .at) (fragmentIn d h)) (ledgerWith ledger (t .at) (fragmentIn d h))
-    leaves store ledger =
-        let f : Fragment = fragmentIn d h in
-        let slots : List Slot = seat (slotsOf w n) .slots in
-        let room : getD w1 roomWord 0 ≡ getD w roomWord 0 = ap (λ (m : Machine). m .slotSize) (O d .machine) ∙ ap (λ (m : Machine). m .slotSize) (T .shows .machine) in
-        let e =
-        ap (λ (m : Machine). step5 m (m .slots) store ledger (t .emptied) (t .at) (fragmentIn d h)) (O d .machine)
-        ∙ ap (λ (m : Machine). step5 (withSlots m (set (m .slots) (t .at) (opening (m .slots) (keyOf sender (h .sequence)) (fragmentIn d h))) (m .memory))
-        (set (m .slots) (t .at) (opening (m .slots) (keyOf sender (h .sequence)) (fragmentIn d h))) store ledger (t .emptied) (t .at) (fragmentIn d h)) (T .shows .machine)
-        ∙ step5-same (view w n) _ _ store ledger (t .emptied) (t .at) (fragmentIn d h)
-        ∙ (λ i. step5 (view w n) (set (seat (slotsOf w n) .slots) (T .place i) (opening (seat (slotsOf w n) .slots) (keyOf sender (h .sequence)) (fragmentIn d h))) store ledger
-        (T .emptied i) (T .place i) (fragmentIn d h)) in
-        subst (λ (C : ℕ). Leaves (beginAt (view w n) store ledger (keyOf sender (h .sequence)) (fragmentIn d h) (seat (slotsOf w n))) o w2 n2
-        (storeWith C store (t .at) (fragmentIn d h)) (ledgerWith ledger (t .at) (fragmentIn d h))) room
-        (subst (λ (a : After). Leaves a o w2 n2 (storeWith (getD w1 roomWord 0) store (t .at) (fragmentIn d h)) (ledgerWith ledger (t .at) (fragmentIn d h))) e (P store ledger))
+pub begun : (w n : List ℕ) (sender : ℕ) (h : Header) (t : Seat) (w0 n0 w1 n1 : List ℕ) → Seats w n t w0 n0 → Occupies w0 n0 (t .at) sender h w1 n1
+    → Begins w n sender h t w1 n1
+begun w n sender h t w0 n0 w1 n1 T O = record {
+  place = T .place;
+  emptied = T .emptied;
+  inside = T .inside;
+  shows = λ d. record {
+    machine = O d .machine
+        ∙ ap (λ (m : Machine). withSlots m (set (m .slots) (t .at) (opening (m .slots) (keyOf sender (h .sequence)) (fragmentIn d h))) (m .memory)) (T .shows .machine);
+    shape = O d .shape;
+  };
+}

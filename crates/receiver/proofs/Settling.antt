@@ -3,41 +3,43 @@ use mathlib.Core.Path.{_≡_, refl, sym, _∙_, ap, subst}
 use mathlib.Core.Logic.{_⊎_, inl, inr}
 use mathlib.Core.Bool.{Bool, true, false, _&&_}
 use mathlib.Core.List.{List, []}
-use Prim.Native.Nat.{ℕ, _≤_, _<_}
+use Prim.Native.Nat.{ℕ}
 use native.Mathlib.Omega.{arith}
-use lib.ListN.{length, getD}
+use lib.ListN.{length, getD, set}
 use Rattle.wire.specs.Choice.{pick}
 use Rattle.wire.proofs.Choices.{either}
-use Rattle.datagram.specs.Limits.{maxPayload, maxFragments}
+use Rattle.datagram.specs.Limits.{maxFragments}
 use Rattle.datagram.specs.Read.{readDatagram, partOf}
 use Rattle.datagram.specs.Said.{Fragment, says, said, fragmentIn}
 use Rattle.datagram.specs.Said as spoken
 use Rattle.datagram.specs.declared.Header.{Header}
 use Rattle.datagram.specs.declared.Read.{Read}
 use Rattle.datagram.specs.declared.Read.the-variants as read
-use Rattle.steps.specs.Limits.{slotCount}
 use Rattle.steps.specs.declared.Answer.{Answer}
 use Rattle.steps.specs.declared.Answer.the-variants.{Refused, Kept, Repeat, Delivered}
 use Rattle.steps.specs.declared.PayloadAt.{PayloadAt}
 use Rattle.steps.specs.declared.Emptied.{Emptied}
 use Rattle.steps.specs.declared.Emptied.the-variants.{Nobody}
+use Rattle.steps.specs.Answers.{reply, emptiedKey}
 use Rattle.steps.specs.Memory.{keyOf}
 use Rattle.steps.specs.Slots.{Slot, allHeld, filled, slotAt, seat, opening}
-use Rattle.steps.specs.Receive.{Machine, After, stay, Verdict, refuse, again, deliver, join, begin, decide, act, step5, receive, sequenceOf, sound, step, storeWith, ledgerWith}
+use Rattle.steps.specs.Runs.{heard, from}
+use Rattle.steps.specs.Receive.{Machine, After, withSlots, stay, Verdict, refuse, again, deliver, join, begin, decide, act, step5, receive, sequenceOf, step}
 use Rattle.steps.proofs.Branches.{step-unsound, step-sound, receive-refused, step5-delivered, step5-kept}
 use Rattle.receiver_state.specs.View.{roomWord, slotsOf, view, shaped, ready}
-use Rattle.receiver_state.specs.Inside.{Ready, Told}
+use Rattle.receiver_state.proofs.Cases.{ready-after}
 use Rattle.deciding.specs.Decided.{withHeader, verdictOf, decided}
+use Rattle.deciding.specs.Inside.{Possible}
 use Rattle.deciding.specs.declared.Verdict as code
 use Rattle.deciding.specs.declared.Verdict.the-variants.{Refuse, Again, Deliver, Join, Begin}
 use Rattle.deciding.proofs.Gates.{ready-shaped, ready-sound}
-use Rattle.deciding.proofs.Decides.{said-back, unready, decided-refused, decided-good}
-use Rattle.receiver.specs.Calls.{received, Leaves, Receives}
-use Rattle.receiver.specs.Inside.{stayed, idle, SmallDone, Puts, Begins, enacted, storeAfter, ledgerAfter, Settles}
+use Rattle.deciding.proofs.Decides.{said-back, possible, unready, decided-refused, decided-good}
+use Rattle.receiver.specs.Calls.{received, Leaves, told, Receives}
+use Rattle.receiver.specs.Inside.{stayed, SmallDone, Puts, Begins, enacted, settled, storeAfter, ledgerAfter, Storable, Able, Still, Plans, Settles}
 use Rattle.receiver.specs.declared.Outcome.{Outcome}
-use Rattle.receiver.specs.declared.Settled.{Settled}
-use Rattle.receiver.specs.declared.Stored.{Stored}
-use Rattle.receiver.specs.declared.Stored.the-variants as stored
+use Rattle.receiver.specs.declared.Seat.{Seat}
+use Rattle.receiver.specs.declared.Plan.{Plan}
+use Rattle.receiver.specs.declared.Plan.the-variants as plan
 
 -- ---- step 5 refuses nothing
 
@@ -52,61 +54,98 @@ step5-never X m slots store ledger gone s f n e = elim (either (allHeld (filled 
   | inr t ↦ clash X n _ e (inl (ap (λ (a : After). a .answer) (step5-kept m slots store ledger s f t gone)))
 ]
 
--- ---- each verdict
+-- ---- each verdict as a plan
 
-module _ (w n : List ℕ) (sender : ℕ) (d : List ℕ) (v : code.Verdict) where
-  pub settled-refuse : (k : ℕ) (o : Outcome) (r : Settled) → v ≡ Refuse k → o ≡ stayed (Refused k) → r ≡ idle o → Settles w n sender v d r w n
+step5-same : (m : Machine) (slots slots′ : List Slot) (store ledger : List ℕ) (gone : Emptied) (s : ℕ) (f : Fragment)
+    → step5 (withSlots m slots (m .memory)) slots′ store ledger gone s f ≡ step5 m slots′ store ledger gone s f
+unfolding step5
+step5-same m slots slots′ store ledger gone s f = refl
+
+module _ (w n : List ℕ) (sender : ℕ) (v : code.Verdict) where
+  by-verdict : (x : code.Verdict) (p : Plan) (w1 n1 : List ℕ) → v ≡ x → Plans w n sender x p w1 n1 → Plans w n sender v p w1 n1
+  by-verdict x p w1 n1 e P = subst (λ (y : code.Verdict). Plans w n sender y p w1 n1) (sym e) P
+
+  pub planned-refuse : (k : ℕ) → v ≡ Refuse k → Plans w n sender v (plan.Refuse k) w n
+  planned-refuse k e = by-verdict (Refuse k) (plan.Refuse k) w n e (record { does = λ store ledger d. refl; able = λ d q. tt; room = refl; still = (refl, refl) })
+
+  pub planned-again : v ≡ Again → Plans w n sender v plan.Again w n
+  planned-again e = by-verdict Again plan.Again w n e (record { does = λ store ledger d. refl; able = λ d q. tt; room = refl; still = (refl, refl) })
+
+  pub planned-deliver : (h : Header) → v ≡ Deliver h → Plans w n sender v (plan.Deliver h) w n
+  planned-deliver h e = by-verdict (Deliver h) (plan.Deliver h) w n e (record { does = λ store ledger d. refl; able = λ d q. q; room = refl; still = tt })
+
+  pub planned-join : (s : ℕ) (h : Header) → v ≡ Join s h → Plans w n sender v (plan.Hold (record { at = s; emptied = Nobody }) h) w n
+  planned-join s h e = by-verdict (Join s h) (plan.Hold (record { at = s; emptied = Nobody }) h) w n e
+      (record { does = λ store ledger d. refl; able = λ d q. q; room = refl; still = tt })
+
+  pub planned-begin : (h : Header) (t : Seat) (w1 n1 : List ℕ) → v ≡ Begin h → Begins w n sender h t w1 n1 → Plans w n sender v (plan.Hold t h) w1 n1
+  planned-begin h t w1 n1 e B = by-verdict (Begin h) (plan.Hold t h) w1 n1 e (record {
+    does = does;
+    able = λ d q. (ready-after w n w1 n1 _ (B .shows d) (q .0), q .1, B .inside);
+    room = ap (λ (m : Machine). m .slotSize) (B .shows [] .machine);
+    still = tt;
+  })
+    where
+      free : List Slot
+      free = seat (slotsOf w n) .slots
+
+      does : (store ledger d : List ℕ) → settled (view w1 n1) store ledger sender d (plan.Hold t h) ≡ enacted (view w n) store ledger sender d (Begin h)
+      does store ledger d =
+          let f : Fragment = fragmentIn d h in
+          let new : Slot = opening free (keyOf sender (h .sequence)) f in
+          ap (λ (m : Machine). step5 m (m .slots) store ledger (t .emptied) (t .at) f) (B .shows d .machine)
+          ∙ step5-same (view w n) _ _ store ledger (t .emptied) (t .at) f
+          ∙ (λ i. step5 (view w n) (set free (B .place i) new) store ledger (B .emptied i) (B .place i) f)
+
+-- ---- each plan carried out
+
+module _ (w n : List ℕ) (sender : ℕ) (d : List ℕ) (p : Plan) where
+  by-plan : (x : Plan) (o : Outcome) (w1 n1 : List ℕ) → p ≡ x → Settles w n sender x d o w1 n1 → Settles w n sender p d o w1 n1
+  by-plan x o w1 n1 e S = subst (λ (y : Plan). Settles w n sender y d o w1 n1) (sym e) S
+
+  pub settled-refuse : (k : ℕ) (o : Outcome) → p ≡ plan.Refuse k → o ≡ stayed (Refused k) → Settles w n sender p d o w n
   unfolding stay
-  settled-refuse k o r e eo er = subst (λ (y : code.Verdict). Settles w n sender y d r w n) (sym e)
-      (subst (λ (x : Settled). Settles w n sender (Refuse k) d x w n) (sym (er ∙ ap idle eo)) (record {
-        leaves = λ store ledger. record { answer = refl; emptied = refl; name = refl; machine = refl; store = refl; ledger = refl };
-        still = λ j q. (refl, refl, refl);
-        storable = tt;
-      }))
+  settled-refuse k o e eo = by-plan (plan.Refuse k) o w n e (subst (λ (x : Outcome). Settles w n sender (plan.Refuse k) d x w n) (sym eo) (record {
+    leaves = λ store ledger. record { answer = refl; emptied = refl; name = refl; machine = refl; store = refl; ledger = refl };
+    still = (refl, refl);
+  }))
 
-  pub settled-again : (o : Outcome) (r : Settled) → v ≡ Again → o ≡ stayed Repeat → r ≡ idle o → Settles w n sender v d r w n
+  pub settled-again : (o : Outcome) → p ≡ plan.Again → o ≡ stayed Repeat → Settles w n sender p d o w n
   unfolding stay
-  settled-again o r e eo er = subst (λ (y : code.Verdict). Settles w n sender y d r w n) (sym e)
-      (subst (λ (x : Settled). Settles w n sender Again d x w n) (sym (er ∙ ap idle eo)) (record {
-        leaves = λ store ledger. record { answer = refl; emptied = refl; name = refl; machine = refl; store = refl; ledger = refl };
-        still = λ j q. (refl, refl, refl);
-        storable = tt;
-      }))
+  settled-again o e eo = by-plan plan.Again o w n e (subst (λ (x : Outcome). Settles w n sender plan.Again d x w n) (sym eo) (record {
+    leaves = λ store ledger. record { answer = refl; emptied = refl; name = refl; machine = refl; store = refl; ledger = refl };
+    still = (refl, refl);
+  }))
 
-  pub settled-deliver : (h : Header) (o : Outcome) (r : Settled) (w1 : List ℕ) → v ≡ Deliver h → SmallDone w sender d h o w1 → r ≡ idle o → Settles w n sender v d r w1 n
-  settled-deliver h o r w1 e S er = subst (λ (y : code.Verdict). Settles w n sender y d r w1 n) (sym e)
-      (subst (λ (x : Settled). Settles w n sender (Deliver h) d x w1 n) (sym er) (record {
-        leaves = λ store ledger. record {
-          answer = ap (λ (x : Outcome). x .answer) (S .outcome);
-          emptied = ap (λ (x : Outcome). x .emptied) (S .outcome);
-          name = ap (λ (x : Outcome). x .name) (S .outcome);
-          machine = S .remembers .machine n;
-          store = refl;
-          ledger = refl;
-        };
-        still = λ j q. clash _ j _ q (inr (_, (_, ap (λ (x : Outcome). x .answer) (S .outcome))));
-        storable = tt;
-      }))
-
-  pub settled-join : (s : ℕ) (h : Header) (o : Outcome) (w1 n1 : List ℕ) → Ready w n → Told d h → s < slotCount → v ≡ Join s h
-      → Puts w n s Nobody h d o w1 n1 → Settles w n sender v d (record { outcome = o; stored = stored.In s h }) w1 n1
-  settled-join s h o w1 n1 R T b e P = subst (λ (y : code.Verdict). Settles w n sender y d (record { outcome = o; stored = stored.In s h }) w1 n1) (sym e) (record {
-    leaves = P;
-    still = λ j q. step5-never _ (view w n) (slotsOf w n) [] [] Nobody s (fragmentIn d h) j (sym (P [] [] .answer) ∙ q);
-    storable = (b, R .room, T);
+  pub settled-deliver : (h : Header) (o : Outcome) (w1 : List ℕ) → p ≡ plan.Deliver h → SmallDone w sender d h o w1 → Settles w n sender p d o w1 n
+  settled-deliver h o w1 e S = by-plan (plan.Deliver h) o w1 n e (record {
+    leaves = λ store ledger. record {
+      answer = ap (λ (x : Outcome). x .answer) (S .outcome);
+      emptied = ap (λ (x : Outcome). x .emptied) (S .outcome);
+      name = ap (λ (x : Outcome). x .name) (S .outcome);
+      machine = S .remembers .machine n;
+      store = refl;
+      ledger = refl;
+    };
+    still = tt;
   })
 
-  pub settled-begin : (h : Header) (r : Settled) (w1 n1 : List ℕ) → Ready w n → Told d h → v ≡ Begin h → Begins w n sender h d r w1 n1 → Settles w n sender v d r w1 n1
-  settled-begin h r w1 n1 R T e B =
-      let t = seat (slotsOf w n) in
-      subst (λ (y : code.Verdict). Settles w n sender y d r w1 n1) (sym e)
-      (subst (λ (x : Stored). Settles w n sender (Begin h) d (record { outcome = r .outcome; stored = x }) w1 n1) (sym (B .stores)) (record {
-        leaves = B .leaves;
-        still = λ j q. step5-never _ (view w n) _ [] [] (seat (slotsOf w n) .emptied) (seat (slotsOf w n) .at) (fragmentIn d h) j (sym (B .leaves [] [] .answer) ∙ q);
-        storable = (B .inside, R .room, T);
-      }))
+  pub settled-hold : (t : Seat) (h : Header) (o : Outcome) (w1 n1 : List ℕ) → p ≡ plan.Hold t h → Puts w n (t .at) (t .emptied) h d o w1 n1
+      → Settles w n sender p d o w1 n1
+  settled-hold t h o w1 n1 e P = by-plan (plan.Hold t h) o w1 n1 e (record { leaves = P; still = tt })
+
+-- what is known of a plan is enough to store its fragment
+able-storable : (w n d : List ℕ) (p : Plan) → Able w n d p → Storable (getD w roomWord 0) d p
+able-storable w n d (plan.Refuse k) a = tt
+able-storable w n d plan.Again a = tt
+able-storable w n d (plan.Deliver h) a = tt
+able-storable w n d (plan.Hold t h) a = (a .2, a .0 .room, a .1)
 
 -- ---- the whole call
+
+-- what is answered and left, in the values of document 01
+pub told-is : (sender : ℕ) (d : List ℕ) (a : After) (r : Outcome) (w n store ledger : List ℕ) → Leaves a r w n store ledger → told d store r ≡ heard (from sender d) a
+told-is sender d a r w n store ledger L = λ i. record { answer = reply d (L .store i) (L .answer i); emptied = emptiedKey (L .emptied i) }
 
 enact-is : (m : Machine) (store ledger : List ℕ) (sender : ℕ) (d : List ℕ) (h : Header) (v : Verdict)
     → act m store ledger (keyOf sender (h .sequence)) (verdictOf d (withHeader h v)) ≡ enacted m store ledger sender d (withHeader h v)
@@ -161,19 +200,40 @@ module _ (w n store ledger : List ℕ) (sender : ℕ) (d : List ℕ) where
           ap (λ (x : Read). receive (view w n) store ledger sender (says d x)) r ∙ by-header h
           ∙ ap (enacted (view w n) store ledger sender d) (sym (decided-good w n store ledger sender d e h r))
 
-  pub receives : (room : ℕ) (v : code.Verdict) (r : Settled) (w1 n1 store1 ledger1 : List ℕ) → room ≡ getD w roomWord 0 → v ≡ decided w n store ledger sender d
-      → Settles w n sender v d r w1 n1 → store1 ≡ storeAfter room d store (r .stored) → ledger1 ≡ ledgerAfter d ledger (r .stored)
-      → length w1 ≡ length w → length n1 ≡ length n → Receives w n store ledger sender d (r .outcome) w1 n1 store1 ledger1
-  receives room v r w1 n1 store1 ledger1 ec ev S es el lw ln =
+  pub verdict-possible : (v : code.Verdict) → v ≡ decided w n store ledger sender d → Possible w n d v
+  verdict-possible v ev = subst (Possible w n d) (sym ev) (possible w n store ledger sender d)
+
+  pub plan-able : (v : code.Verdict) (p : Plan) (w1 n1 : List ℕ) → v ≡ decided w n store ledger sender d → Plans w n sender v p w1 n1 → Able w1 n1 d p
+  plan-able v p w1 n1 ev P = P .able d (verdict-possible v ev)
+
+  pub plan-storable : (room : ℕ) (v : code.Verdict) (p : Plan) (w1 n1 : List ℕ) → room ≡ getD w roomWord 0 → v ≡ decided w n store ledger sender d
+      → Plans w n sender v p w1 n1 → Storable room d p
+  plan-storable room v p w1 n1 ec ev P = subst (λ (C : ℕ). Storable C d p) (P .room ∙ sym ec) (able-storable w1 n1 d p (plan-able v p w1 n1 ev P))
+
+  -- a refusal leaves everything as it is
+  quiet : (p : Plan) (m : Machine) (C k : ℕ) (w1 n1 w2 n2 store1 ledger1 : List ℕ) → Still p w n w1 n1 → Still p w1 n1 w2 n2
+      → store1 ≡ storeAfter C d store p → ledger1 ≡ ledgerAfter d ledger p → settled m store ledger sender d p .answer ≡ Refused k
+      → (w2 ≡ w) × (n2 ≡ n) × (store1 ≡ store) × (ledger1 ≡ ledger)
+  quiet (plan.Refuse j) m C k w1 n1 w2 n2 store1 ledger1 s t es el q = (t .0 ∙ s .0, t .1 ∙ s .1, es, el)
+  quiet plan.Again m C k w1 n1 w2 n2 store1 ledger1 s t es el q = (t .0 ∙ s .0, t .1 ∙ s .1, es, el)
+  quiet (plan.Deliver h) m C k w1 n1 w2 n2 store1 ledger1 s t es el q = clash _ k _ q (inr (_, (_, refl)))
+  quiet (plan.Hold t h) m C k w1 n1 w2 n2 store1 ledger1 s u es el q = step5-never _ m (m .slots) store ledger (t .emptied) (t .at) (fragmentIn d h) k q
+
+  pub receives : (room : ℕ) (v : code.Verdict) (p : Plan) (o : Outcome) (w1 n1 w2 n2 store1 ledger1 : List ℕ) → room ≡ getD w roomWord 0
+      → v ≡ decided w n store ledger sender d → Plans w n sender v p w1 n1 → Settles w1 n1 sender p d o w2 n2
+      → store1 ≡ storeAfter room d store p → ledger1 ≡ ledgerAfter d ledger p
+      → length w2 ≡ length w → length n2 ≡ length n → Receives w n store ledger sender d o w2 n2 store1 ledger1
+  receives room v p o w1 n1 w2 n2 store1 ledger1 ec ev P S es el lw ln =
       let L = S .leaves store ledger in
-      let a : enacted (view w n) store ledger sender d v ≡ received w n store ledger sender d = ap (enacted (view w n) store ledger sender d) ev ∙ sym received-is in
-      let st : store1 ≡ storeAfter (getD w roomWord 0) d store (r .stored) = es ∙ ap (λ (C : ℕ). storeAfter C d store (r .stored)) ec in
+      let a : settled (view w1 n1) store ledger sender d p ≡ received w n store ledger sender d =
+      P .does store ledger d ∙ ap (enacted (view w n) store ledger sender d) ev ∙ sym received-is in
+      let st : store1 ≡ storeAfter (getD w1 roomWord 0) d store p = es ∙ ap (λ (C : ℕ). storeAfter C d store p) (ec ∙ sym (P .room)) in
+      let all : Leaves (received w n store ledger sender d) o w2 n2 store1 ledger1 = subst (λ (x : After). Leaves x o w2 n2 store1 ledger1) a
+      (record { answer = L .answer; emptied = L .emptied; name = L .name; machine = L .machine; store = st ∙ L .store; ledger = el ∙ L .ledger }) in
       record {
-        leaves = subst (λ (x : After). Leaves x (r .outcome) w1 n1 store1 ledger1) a
-            (record { answer = L .answer; emptied = L .emptied; name = L .name; machine = L .machine; store = st ∙ L .store; ledger = el ∙ L .ledger });
+        leaves = all;
+        tells = told-is sender d _ o w2 n2 store1 ledger1 all;
         words = lw;
         bytes = ln;
-        still = λ k q.
-            let s = S .still k q in
-            (s .0, s .1, es ∙ ap (storeAfter room d store) (s .2), el ∙ ap (ledgerAfter d ledger) (s .2));
+        still = λ k q. quiet p (view w1 n1) room k w1 n1 w2 n2 store1 ledger1 (P .still) (S .still) es el (sym (L .answer) ∙ q);
       }

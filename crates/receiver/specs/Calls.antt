@@ -6,8 +6,9 @@ use Prim.Native.Nat.{ℕ}
 use lib.ListN.{length}
 use Rattle.wire.specs.Choice.{pick}
 use Rattle.steps.specs.declared.Answer.the-variants.{Refused}
-use Rattle.steps.specs.Answers.{Reply, refusedBy, kept, repeat, delivered}
+use Rattle.steps.specs.Answers.{Reply, refusedBy, kept, repeat, delivered, reply, emptiedKey}
 use Rattle.steps.specs.Receive.{Machine, After, opened, stay, step, forget, Forgot}
+use Rattle.steps.specs.Runs.{Heard, heard, from}
 use Rattle.receiver_state.specs.View.{view, shaped}
 use Rattle.receiver.specs.declared.Outcome.{Outcome}
 use Rattle.receiver.specs.declared.Call.{Call}
@@ -32,9 +33,15 @@ pub record Leaves (a : After) (r : Outcome) (w n sto led : List ℕ) : Type 0 wh
   pub store : sto ≡ a .store
   pub ledger : led ≡ a .ledger
 
+-- what an outcome tells in the values of document 01, with the store as the call left it
+abbrev pub told : List ℕ → List ℕ → Outcome → Heard
+told d store r = record { answer = reply d store (r .answer); emptied = emptiedKey (r .emptied) }
+
 -- w, n, store and ledger are lent; w′, n′, store′ and ledger′ are what they hold afterwards
 pub record Receives (w n store ledger : List ℕ) (sender : ℕ) (d : List ℕ) (r : Outcome) (w′ n′ store′ ledger′ : List ℕ) : Type 0 where
   pub leaves : Leaves (received w n store ledger sender d) r w′ n′ store′ ledger′
+  -- the reply, its payload included, and the emptied key
+  pub tells : told d store′ r ≡ heard (from sender d) (received w n store ledger sender d)
   pub words : length w′ ≡ length w
   pub bytes : length n′ ≡ length n
   -- a refusal writes nothing

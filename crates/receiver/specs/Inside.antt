@@ -1,5 +1,6 @@
 -- INSIDE: what the receiver's private functions give. Definitions only; no promise of a public function rests on them.
 use mathlib.Core.Path.{_≡_}
+use mathlib.Core.Bool.{true}
 use mathlib.Core.List.{List}
 use Prim.Native.Nat.{ℕ, _+_, _*_, _≤_, _<_}
 use lib.ListN.{length, getD, set}
@@ -18,15 +19,15 @@ use Rattle.steps.specs.Slots.{Slot, slotAt, release, releaseOne, releaseOf, sea
 use Rattle.steps.specs.Slots as step
 use Rattle.steps.specs.Receive.{Machine, After, withSlots, stay, storeWith, ledgerWith, step5, deliveredSmall, beginAt}
 use Rattle.receiver_state.specs.View.{roomWord, slotsOf, memoryOf, view}
-use Rattle.receiver_state.specs.Inside.{Told, Shows, Remembers}
+use Rattle.receiver_state.specs.Inside.{Ready, Told, Shows, Remembers}
+use Rattle.deciding.specs.Inside.{Possible}
 use Rattle.deciding.specs.declared.Verdict.{Verdict}
 use Rattle.deciding.specs.declared.Verdict.the-variants.{Refuse, Again, Deliver, Join, Begin}
 use Rattle.receiver.specs.Calls.{Leaves}
 use Rattle.receiver.specs.declared.Outcome.{Outcome}
 use Rattle.receiver.specs.declared.Seat.{Seat}
-use Rattle.receiver.specs.declared.Settled.{Settled}
-use Rattle.receiver.specs.declared.Stored.{Stored}
-use Rattle.receiver.specs.declared.Stored.the-variants as stored
+use Rattle.receiver.specs.declared.Plan.{Plan}
+use Rattle.receiver.specs.declared.Plan.the-variants as plan
 
 -- ---- the slots change
 
@@ -75,40 +76,32 @@ pub record SmallDone (w : List ℕ) (sender : ℕ) (d : List ℕ) (h : Header) (
 
 -- ---- the store and the ledger
 
-abbrev pub storeAfter : ℕ → List ℕ → List ℕ → Stored → List ℕ
-storeAfter C d store stored.Nothing = store
-storeAfter C d store (stored.In s h) = storeWith C store s (fragmentIn d h)
+abbrev pub storeAfter : ℕ → List ℕ → List ℕ → Plan → List ℕ
+storeAfter C d store (plan.Refuse k) = store
+storeAfter C d store plan.Again = store
+storeAfter C d store (plan.Deliver h) = store
+storeAfter C d store (plan.Hold t h) = storeWith C store (t .at) (fragmentIn d h)
 
-abbrev pub ledgerAfter : List ℕ → List ℕ → Stored → List ℕ
-ledgerAfter d ledger stored.Nothing = ledger
-ledgerAfter d ledger (stored.In s h) = ledgerWith ledger s (fragmentIn d h)
+abbrev pub ledgerAfter : List ℕ → List ℕ → Plan → List ℕ
+ledgerAfter d ledger (plan.Refuse k) = ledger
+ledgerAfter d ledger plan.Again = ledger
+ledgerAfter d ledger (plan.Deliver h) = ledger
+ledgerAfter d ledger (plan.Hold t h) = ledgerWith ledger (t .at) (fragmentIn d h)
 
 abbrev pub StoredIn : ℕ → List ℕ → List ℕ → ℕ → Fragment → List ℕ → List ℕ → Type 0
 StoredIn C store ledger s f store′ ledger′ = (store′ ≡ storeWith C store s f) × (ledger′ ≡ ledgerWith ledger s f)
 
-abbrev pub StoredBy : ℕ → List ℕ → List ℕ → Stored → List ℕ → List ℕ → List ℕ → Type 0
-StoredBy C store ledger x d store′ ledger′ = (store′ ≡ storeAfter C d store x) × (ledger′ ≡ ledgerAfter d ledger x)
+abbrev pub StoredBy : ℕ → List ℕ → List ℕ → Plan → List ℕ → List ℕ → List ℕ → Type 0
+StoredBy C store ledger p d store′ ledger′ = (store′ ≡ storeAfter C d store p) × (ledger′ ≡ ledgerAfter d ledger p)
 
 -- what is known of a fragment that is to be stored
-abbrev pub Storable : ℕ → List ℕ → Stored → Type 0
-Storable C d stored.Nothing = Unit {0}
-Storable C d (stored.In s h) = (s < slotCount) × (C ≤ maxPayload) × Told d h
+abbrev pub Storable : ℕ → List ℕ → Plan → Type 0
+Storable C d (plan.Refuse k) = Unit {0}
+Storable C d plan.Again = Unit {0}
+Storable C d (plan.Deliver h) = Unit {0}
+Storable C d (plan.Hold t h) = (t .at < slotCount) × (C ≤ maxPayload) × Told d h
 
--- ---- what is done, whatever the store and the ledger
-
--- step 5
-abbrev pub Puts : List ℕ → List ℕ → ℕ → Emptied → Header → List ℕ → Outcome → List ℕ → List ℕ → Type 0
-Puts w n s gone h d r w′ n′ =
-    (store ledger : List ℕ) → Leaves (step5 (view w n) (slotsOf w n) store ledger gone s (fragmentIn d h)) r w′ n′
-    (storeWith (getD w roomWord 0) store s (fragmentIn d h)) (ledgerWith ledger s (fragmentIn d h))
-
--- steps 4 and 5
-pub record Begins (w n : List ℕ) (sender : ℕ) (h : Header) (d : List ℕ) (r : Settled) (w′ n′ : List ℕ) : Type 0 where
-  pub place : ℕ
-  pub stores : r .stored ≡ stored.In place h
-  pub inside : place < slotCount
-  pub leaves : (store ledger : List ℕ) → Leaves (beginAt (view w n) store ledger (keyOf sender (h .sequence)) (fragmentIn d h) (seat (slotsOf w n))) (r .outcome) w′ n′
-      (storeWith (getD w roomWord 0) store place (fragmentIn d h)) (ledgerWith ledger place (fragmentIn d h))
+-- ---- what is to be done
 
 -- what a verdict comes to
 abbrev pub enacted : Machine → List ℕ → List ℕ → ℕ → List ℕ → Verdict → After
@@ -118,12 +111,47 @@ enacted m store ledger sender d (Deliver h) = deliveredSmall m store ledger (key
 enacted m store ledger sender d (Join s h) = step5 m (m .slots) store ledger Nobody s (fragmentIn d h)
 enacted m store ledger sender d (Begin h) = beginAt m store ledger (keyOf sender (h .sequence)) (fragmentIn d h) (seat (m .slots))
 
-abbrev pub idle : Outcome → Settled
-idle r = record { outcome = r; stored = stored.Nothing }
+-- and what a plan comes to, where the slot is open
+abbrev pub settled : Machine → List ℕ → List ℕ → ℕ → List ℕ → Plan → After
+settled m store ledger sender d (plan.Refuse k) = stay m store ledger (Refused k)
+settled m store ledger sender d plan.Again = stay m store ledger Repeat
+settled m store ledger sender d (plan.Deliver h) = deliveredSmall m store ledger (keyOf sender (h .sequence)) (partOf d (h .name)) (length (partOf d (h .payload)))
+settled m store ledger sender d (plan.Hold t h) = step5 m (m .slots) store ledger (t .emptied) (t .at) (fragmentIn d h)
 
-pub record Settles (w n : List ℕ) (sender : ℕ) (v : Verdict) (d : List ℕ) (r : Settled) (w′ n′ : List ℕ) : Type 0 where
-  pub leaves : (store ledger : List ℕ) → Leaves (enacted (view w n) store ledger sender d v) (r .outcome) w′ n′
-      (storeAfter (getD w roomWord 0) d store (r .stored)) (ledgerAfter d ledger (r .stored))
-  -- a refusal writes nothing
-  pub still : (k : ℕ) → r .outcome .answer ≡ Refused k → (w′ ≡ w) × (n′ ≡ n) × (r .stored ≡ stored.Nothing)
-  pub storable : Storable (getD w roomWord 0) d (r .stored)
+-- what is known of a plan, as of a verdict
+abbrev pub Able : List ℕ → List ℕ → List ℕ → Plan → Type 0
+Able w n d (plan.Refuse k) = Unit {0}
+Able w n d plan.Again = Unit {0}
+Able w n d (plan.Deliver h) = Ready w n × Told d h × (h .small ≡ true)
+Able w n d (plan.Hold t h) = Ready w n × Told d h × (t .at < slotCount)
+
+-- a plan that does nothing leaves words and names as they are
+abbrev pub Still : Plan → List ℕ → List ℕ → List ℕ → List ℕ → Type 0
+Still (plan.Refuse k) w n w′ n′ = (w′ ≡ w) × (n′ ≡ n)
+Still plan.Again w n w′ n′ = (w′ ≡ w) × (n′ ≡ n)
+Still (plan.Deliver h) w n w′ n′ = Unit {0}
+Still (plan.Hold t h) w n w′ n′ = Unit {0}
+
+-- step 4: slot r .at is open for that header's message, whatever the datagram
+pub record Begins (w n : List ℕ) (sender : ℕ) (h : Header) (r : Seat) (w′ n′ : List ℕ) : Type 0 where
+  pub place : r .at ≡ seat (slotsOf w n) .at
+  pub emptied : r .emptied ≡ seat (slotsOf w n) .emptied
+  pub inside : r .at < slotCount
+  pub shows : (d : List ℕ) → Slots w n (set (seat (slotsOf w n) .slots) (r .at) (opening (seat (slotsOf w n) .slots) (keyOf sender (h .sequence)) (fragmentIn d h))) w′ n′
+
+-- the plan comes to what the verdict comes to, whatever the store, the ledger and the datagram
+pub record Plans (w n : List ℕ) (sender : ℕ) (v : Verdict) (p : Plan) (w′ n′ : List ℕ) : Type 0 where
+  pub does : (store ledger d : List ℕ) → settled (view w′ n′) store ledger sender d p ≡ enacted (view w n) store ledger sender d v
+  pub able : (d : List ℕ) → Possible w n d v → Able w′ n′ d p
+  pub room : getD w′ roomWord 0 ≡ getD w roomWord 0
+  pub still : Still p w n w′ n′
+
+-- step 5, whatever the store and the ledger
+abbrev pub Puts : List ℕ → List ℕ → ℕ → Emptied → Header → List ℕ → Outcome → List ℕ → List ℕ → Type 0
+Puts w n s gone h d r w′ n′ =
+    (store ledger : List ℕ) → Leaves (step5 (view w n) (slotsOf w n) store ledger gone s (fragmentIn d h)) r w′ n′
+    (storeWith (getD w roomWord 0) store s (fragmentIn d h)) (ledgerWith ledger s (fragmentIn d h))
+
+pub record Settles (w n : List ℕ) (sender : ℕ) (p : Plan) (d : List ℕ) (r : Outcome) (w′ n′ : List ℕ) : Type 0 where
+  pub leaves : (store ledger : List ℕ) → Leaves (settled (view w n) store ledger sender d p) r w′ n′ (storeAfter (getD w roomWord 0) d store p) (ledgerAfter d ledger p)
+  pub still : Still p w n w′ n′

@@ -9,7 +9,8 @@ use steps::Key;
 use steps::PayloadAt;
 ghost use mathlib.Core.Path.{_≡_};
 ghost use mathlib.Core.Bool.{true};
-ghost use Prim.Native.Nat.{_<_, _≤_};
+ghost use mathlib.Core.List.{List};
+ghost use Prim.Native.Nat.{ℕ, _<_, _≤_};
 ghost use lib.ListN.{length, getD};
 ghost use Rattle.datagram.specs.Limits.{maxPayload};
 ghost use Rattle.datagram.specs.Said.{fragmentIn};
@@ -21,7 +22,8 @@ ghost use Rattle.receiver_state.specs.View.{stateWords};
 ghost use Rattle.receiver_state.specs.Inside.{Shaped, Ready, Told, namedIn, Remembers};
 ghost use Rattle.deciding.specs.Inside.{Possible};
 ghost use Rattle.receiver.specs.Calls.{Receives, Opens, Forgets, payloadOf};
-ghost use Rattle.receiver.specs.Inside.{stayed, idle, Releases, Occupies, Keeps, Delivers, SmallDone, Puts, Seats, Begins, Settles, Storable, StoredIn, StoredBy, ReleasesOne, ReleasesAll};
+ghost use Rattle.receiver.specs.Inside.{stayed, Releases, ReleasesOne, ReleasesAll, Occupies, Keeps, Delivers, SmallDone, Puts, Seats};
+ghost use Rattle.receiver.specs.Inside.{Begins, Plans, Able, Settles, Storable, StoredIn, StoredBy};
 
 // The words of a state, the bytes of its names, and the numbers of a ledger.
 pub const STATE_WORDS: usize = receiver_state::STATE_WORDS;
@@ -44,21 +46,18 @@ pub enum Call {
     Refused(u32),
 }
 
-// The fragment that is to be stored, and in which slot.
-enum Stored {
-    Nothing,
-    In(usize, Header),
-}
-
-struct Settled {
-    outcome: Outcome,
-    stored: Stored,
-}
-
 // The slot to take, which is free now, and the key that was emptied for it.
 struct Seat {
     at: usize,
     emptied: Emptied,
+}
+
+// What is to be done once a slot is open: a fragment is held in one place of the code, whether it joins a message or begins one.
+enum Plan {
+    Refuse(u32),
+    Again,
+    Deliver(Header),
+    Hold(Seat, Header),
 }
 
 // ---- what changes in the state
@@ -113,7 +112,7 @@ fn keep(state: &mut [u64], names: &mut [u8], s: usize, h: Header, d: &[u8])
 {
     let a = slots::HEAD + slots::BLOCK * s + slots::HELD;
     let e = a + slots::HELD_WORDS;
-    slots::hold_fragment(&mut state[a..e], words::as_size(h.number));
+    held::hold_fragment(&mut state[a..e], words::as_size(h.number));
     put_name(names, s, h, d);
 }
 
@@ -177,7 +176,7 @@ fn put(state: &mut [u64], names: &mut [u8], s: usize, h: Header, d: &[u8], gone:
     let a = b + slots::HELD;
     let e = a + slots::HELD_WORDS;
     let n = words::word(&*state, b + slots::COUNT);
-    if slots::all_held(&state[a..e], n as usize) {
+    if held::all_held(&state[a..e], n as usize) {
         return deliver(state, names, s, gone);
     }
     Outcome {
@@ -213,19 +212,34 @@ fn take_seat(state: &mut [u64], names: &mut [u8]) -> Seat
     }
 }
 
-// Steps 4 and 5: a slot is taken, and the fragment held there.
-fn begin(state: &mut [u64], names: &mut [u8], sender: u64, h: Header, d: &[u8]) -> Settled
-    requires { ⌜ Ready (now state) (now names) × Told (now d) h ⌝ }
-    ensures { λ r. ⌜ Begins (now (state .entry)) (now (names .entry)) sender h (now (d .entry)) r (now (state .exit)) (now (names .exit)) ⌝ }
+// Step 4: a slot is taken, and the message opened there.
+fn begin(state: &mut [u64], names: &mut [u8], sender: u64, h: Header) -> Seat
+    requires { ⌜ Shaped (now state) (now names) ⌝ }
+    ensures { λ r. ⌜ Begins (now (state .entry)) (now (names .entry)) sender h r (now (state .exit)) (now (names .exit)) ⌝ }
 {
     let seat = take_seat(&mut *state, &mut *names);
     let at = seat.at;
-    let gone = seat.emptied;
-    occupy(&mut *state, &mut *names, at, sender, h);
-    let outcome = put(state, names, at, h, d, gone);
-    Settled {
-        outcome: outcome,
-        stored: Stored::In(at, h),
+    occupy(state, names, at, sender, h);
+    seat
+}
+
+// The verdict as a plan: a message that begins has its slot then.
+fn plan_for(state: &mut [u64], names: &mut [u8], sender: u64, verdict: Verdict) -> Plan
+    requires { ⌜ ((d : List ℕ) × Possible (now state) (now names) d verdict) ⌝ }
+    ensures { λ r. ⌜ Plans (now (state .entry)) (now (names .entry)) sender verdict r (now (state .exit)) (now (names .exit)) ⌝ }
+{
+    match verdict {
+        Verdict::Refuse(n) => Plan::Refuse(n),
+        Verdict::Again => Plan::Again,
+        Verdict::Deliver(h) => Plan::Deliver(h),
+        Verdict::Join(s, h) => Plan::Hold(
+            Seat {
+                at: s,
+                emptied: Emptied::Nobody,
+            },
+            h,
+        ),
+        Verdict::Begin(h) => Plan::Hold(begin(state, names, sender, h), h),
     }
 }
 
@@ -244,30 +258,20 @@ fn small(state: &mut [u64], sender: u64, h: Header, d: &[u8]) -> Outcome
     }
 }
 
-// No fragment is to be stored.
-fn without(outcome: Outcome) -> Settled
-    ensures { λ r. ⌜ r ≡ idle outcome ⌝ }
+// The plan is carried out, but for the store and the ledger.
+fn settle(state: &mut [u64], names: &mut [u8], sender: u64, plan: Plan, d: &[u8]) -> Outcome
+    requires { ⌜ Able (now state) (now names) (now d) plan ⌝ }
+    ensures { λ r. ⌜ Settles (now (state .entry)) (now (names .entry)) sender plan (now (d .entry)) r (now (state .exit)) (now (names .exit)) ⌝ }
 {
-    Settled {
-        outcome: outcome,
-        stored: Stored::Nothing,
-    }
-}
-
-// The verdict is carried out, but for the store and the ledger.
-fn settle(state: &mut [u64], names: &mut [u8], sender: u64, verdict: Verdict, d: &[u8]) -> Settled
-    requires { ⌜ Possible (now state) (now names) (now d) verdict ⌝ }
-    ensures { λ r. ⌜ Settles (now (state .entry)) (now (names .entry)) sender verdict (now (d .entry)) r (now (state .exit)) (now (names .exit)) ⌝ }
-{
-    match verdict {
-        Verdict::Refuse(n) => without(stay(Answer::Refused(n))),
-        Verdict::Again => without(stay(Answer::Repeat)),
-        Verdict::Deliver(h) => without(small(state, sender, h, d)),
-        Verdict::Join(s, h) => Settled {
-            outcome: put(state, names, s, h, d, Emptied::Nobody),
-            stored: Stored::In(s, h),
-        },
-        Verdict::Begin(h) => begin(state, names, sender, h, d),
+    match plan {
+        Plan::Refuse(n) => stay(Answer::Refused(n)),
+        Plan::Again => stay(Answer::Repeat),
+        Plan::Deliver(h) => small(state, sender, h, d),
+        Plan::Hold(seat, h) => {
+            let at = seat.at;
+            let gone = seat.emptied;
+            put(state, names, at, h, d, gone)
+        }
     }
 }
 
@@ -285,12 +289,18 @@ fn put_fragment(store: &mut [u8], ledger: &mut [u32], room: usize, s: usize, h: 
     words::put_entry(ledger, row + 1, p.len as u32);
 }
 
-fn store_in(store: &mut [u8], ledger: &mut [u32], room: u64, stored: Stored, d: &[u8])
-    requires { ⌜ Storable room (now d) stored ⌝ }
-    ensures { λ _. ⌜ StoredBy room (now (store .entry)) (now (ledger .entry)) stored (now (d .entry)) (now (store .exit)) (now (ledger .exit)) ⌝ }
+fn store_in(store: &mut [u8], ledger: &mut [u32], room: u64, plan: Plan, d: &[u8])
+    requires { ⌜ Storable room (now d) plan ⌝ }
+    ensures { λ _. ⌜ StoredBy room (now (store .entry)) (now (ledger .entry)) plan (now (d .entry)) (now (store .exit)) (now (ledger .exit)) ⌝ }
 {
-    if let Stored::In(s, h) = stored {
-        put_fragment(store, ledger, room as usize, s, h, d);
+    match plan {
+        Plan::Refuse(_) => {}
+        Plan::Again => {}
+        Plan::Deliver(_) => {}
+        Plan::Hold(seat, h) => {
+            let at = seat.at;
+            put_fragment(store, ledger, room as usize, at, h, d);
+        }
     }
 }
 
@@ -308,11 +318,9 @@ pub fn receive(
 {
     let room = words::word(&*state, receiver_state::SLOT_SIZE);
     let verdict = deciding::decide(&*state, &*names, &*store, &*ledger, sender, d);
-    let settled = settle(state, names, sender, verdict, d);
-    let stored = settled.stored;
-    let outcome = settled.outcome;
-    store_in(store, ledger, room, stored, d);
-    outcome
+    let plan = plan_for(&mut *state, &mut *names, sender, verdict);
+    store_in(store, ledger, room, plan, d);
+    settle(state, names, sender, plan, d)
 }
 
 // The delivered payload, as the part of the store or of the datagram that holds it: empty for any other answer.

@@ -29,8 +29,8 @@ use Rattle.steps.proofs.Stores.{write-out}
 use Rattle.memory.specs.Words.{memoryWords, memoryIn}
 use Rattle.words.specs.Builds.{build}
 use Rattle.words.proofs.Builds.{length-build, getD-build, build-is}
-use Rattle.words.specs.Ranks.{rankOf, lowerRank, ranksLowered, lowestRanked}
-use Rattle.words.proofs.Ranks.{Lowest, lowest-is}
+use Rattle.ranks.specs.Ranks.{rankOf, lowerRank, ranksLowered, lowestRanked}
+use Rattle.ranks.proofs.Ranks.{Lowest, lowest-is}
 use Rattle.slots.specs.declared.Found.{Found}
 use Rattle.slots.specs.declared.Found.the-variants.{At, Nothing}
 use Rattle.slots.specs.Words.{headWords, blockWords, blockAt, turns, at, senderWord, sequenceWord, sizeWord, countWord, turnWord, heldWord, firstBelow, freeIn, busyIn, keyIn, soundIn}

@@ -26,7 +26,8 @@ use Rattle.steps.specs.Slots.{Slot, slotAt, findOpen, padded, filled, allHeld}
 use Rattle.steps.specs.Receive.{Machine, withSlots, row, offsetOf, lengthOf, placeOf, sameMessage, sameFragment, agrees, agreesWithAll, Verdict, again, begin, refuse, step2, step3, decide}
 use Rattle.steps.proofs.Tables.{all-cong}
 use Rattle.steps.proofs.Seats.{set-there}
-use Rattle.slots.specs.Words.{blockWords, blockAt, at, senderWord, sequenceWord, sizeWord, countWord, heldWord, fitsIn}
+use Rattle.slots.specs.Words.{blockWords, blockAt, at, senderWord, sequenceWord, sizeWord, countWord, heldWord}
+use Rattle.fitting.specs.Fits.{fitsIn}
 use Rattle.receiver_state.specs.View.{stateWords, block, nameIn, slotIn, slotOf, slotsOf, memoryOf, view}
 use Rattle.receiver_state.specs.Inside.{Shows, Ready}
 use Rattle.receiver_state.proofs.Windows.{window-get, window-inner}

@@ -28,8 +28,8 @@ use Rattle.steps.specs.Slots.{Slot, noName, padded, noSlot, slotAt, openCount, 
 use Rattle.steps.specs.Receive.{Machine, withSlots}
 use Rattle.steps.proofs.Helds.{hold-length}
 use Rattle.steps.proofs.Stores.{write-out}
-use Rattle.words.specs.Ranks.{ranksLowered}
-use Rattle.words.proofs.Ranks.{lowered-length}
+use Rattle.ranks.specs.Ranks.{ranksLowered}
+use Rattle.ranks.proofs.Ranks.{lowered-length}
 use Rattle.slots.specs.Words.{blockWords, blockAt, turns, at, senderWord, sequenceWord, sizeWord, countWord, turnWord, heldWord, busyIn}
 use Rattle.receiver_state.specs.View.{stateWords, nameBytes, block, nameIn, slotIn, slotOf, slotsOf, memoryOf, view}
 use Rattle.receiver_state.specs.Inside.{Shaped, Shows, namedIn}

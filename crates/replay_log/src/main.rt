@@ -25,7 +25,9 @@ fn one_more(
     log: &[u8],
     entry: EntryAt,
 ) -> usize
-    ensures { λ r. ⌜ Replayed limits (now (state .entry)) (now (names .entry)) (now (store .entry)) (now (ledger .entry)) (entry .sender) (entrySaid (now (log .entry)) entry .datagram) n (now (out .entry)) at (now (state .exit)) (now (names .exit)) (now (store .exit)) (now (ledger .exit)) (now (out .exit)) r ⌝ }
+    ensures { λ r. ⌜ Replayed limits (now (state .entry)) (now (names .entry)) (now (store .entry)) (now (ledger .entry))
+        (entry .sender) (entrySaid (now (log .entry)) entry .datagram) n (now (out .entry)) at
+        (now (state .exit)) (now (names .exit)) (now (store .exit)) (now (ledger .exit)) (now (out .exit)) r ⌝ }
 {
     let d = wire::part(log, entry.at, entry.len);
     let outcome = bounded::receive_within(state, names, store, ledger, limits, entry.sender, d);

@@ -60,7 +60,8 @@ fn one_more(
     ledger: &mut [u32],
     d: &[u8],
 ) -> usize
-    ensures { λ r. ⌜ Replayed (now (state .entry)) (now (names .entry)) (now (store .entry)) (now (ledger .entry)) (now (d .entry)) n (now (out .entry)) at (now (state .exit)) (now (names .exit)) (now (store .exit)) (now (ledger .exit)) (now (out .exit)) r ⌝ }
+    ensures { λ r. ⌜ Replayed (now (state .entry)) (now (names .entry)) (now (store .entry)) (now (ledger .entry)) (now (d .entry)) n (now (out .entry)) at
+        (now (state .exit)) (now (names .exit)) (now (store .exit)) (now (ledger .exit)) (now (out .exit)) r ⌝ }
 {
     let outcome = receiver::receive(state, names, store, ledger, 0, d);
     let answer = outcome.answer;

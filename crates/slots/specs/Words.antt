@@ -4,12 +4,10 @@ use mathlib.Core.Bool.{Bool, true, false, not, _&&_, _||_}
 use mathlib.Core.List.{List}
 use Prim.Native.Nat.{ℕ, zero, suc, _+_, _*_}
 use lib.ListN.{getD}
-use lib.Dec.{eqb, leb, ltb}
-use Rattle.wire.specs.Choice.{pick}
+use lib.Dec.{eqb, leb}
 use Rattle.datagram.specs.Limits.{maxFragments}
-use Rattle.steps.specs.Held.{heldWords, isHeld}
-use Rattle.steps.specs.Receive.{inOrder}
-use Rattle.words.specs.declared.Ranked.{Ranked}
+use Rattle.steps.specs.Held.{heldWords}
+use Rattle.ranks.specs.declared.Ranked.{Ranked}
 use Rattle.slots.specs.declared.Found.{Found}
 use Rattle.slots.specs.declared.Found.the-variants.{At, Nothing}
 
@@ -75,13 +73,3 @@ keyIn w s q i = busyIn w i && (eqb (at w i senderWord) s && eqb (at w i sequence
 -- an open slot's size is at most that of a slot, and its count at most that of fragments
 abbrev pub soundIn : List ℕ → ℕ → ℕ → Bool
 soundIn w room i = freeIn w i || (leb (at w i sizeWord) room && leb (at w i countWord) maxFragments)
-
--- ---- fragments
-
--- fragment k from o on d bytes, and j from p on e bytes
-abbrev pub agreesAt : ℕ → ℕ → ℕ → ℕ → ℕ → ℕ → Bool
-agreesAt k o d j p e = pick (ltb j k) (inOrder j (p + e) k o) (inOrder k (o + d) j p)
-
--- it agrees with fragment j where that is held; the slot's ledger has offset and length of each
-abbrev pub fitsIn : List ℕ → List ℕ → ℕ → ℕ → ℕ → ℕ → Bool
-fitsIn h l k o d j = not (isHeld h j) || agreesAt k o d j (getD l (2 * j) 0) (getD l (2 * j + 1) 0)

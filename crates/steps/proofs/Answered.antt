@@ -5,7 +5,8 @@ use mathlib.Core.List.{List, [], _∷_, map, zipWith}
 use Prim.Native.Nat.{ℕ}
 use Rattle.wire.specs.Bytes.{be}
 use Rattle.wire.specs.Overlay.{overlay}
-use Rattle.datagram.specs.Name.{goodName, untilZero, nameLength}
+use Rattle.names.specs.Name.{goodName}
+use Rattle.datagram.specs.Name.{untilZero, nameLength}
 use Rattle.datagram.specs.Read.{readSmall, goodForm, formed, readFragment, readDatagram}
 use Rattle.datagram.specs.Said.{said}
 use Rattle.steps.specs.Held.{noneHeld, isHeld, hold}
@@ -31,5 +32,7 @@ pub memory-cases :
     ∷ (true ∷ false ∷ true ∷ [])
     ∷ (false ∷ true ∷ [])
     ∷ []
-unfolding pastMemory besideMast seventeenth forgottenKeys placeFreed openAfter rememberAll forgetKeys forget releaseOf B-of step sound receive decide act stay step3 step5 sameFragment agrees seat oldest release lower opening openCount filled opened emptyMemory isRemembered remember placeFor withKey memoryOk among isHeld hold noneHeld said readDatagram readSmall readFragment formed goodForm nameLength goodName untilZero be overlay
+unfolding pastMemory besideMast seventeenth forgottenKeys placeFreed openAfter rememberAll forgetKeys forget releaseOf B-of step sound receive decide act stay
+    step3 step5 sameFragment agrees seat oldest release lower opening openCount filled opened emptyMemory isRemembered remember placeFor withKey memoryOk among
+    isHeld hold noneHeld said readDatagram readSmall readFragment formed goodForm nameLength goodName untilZero be overlay
 memory-cases = refl

@@ -7,3 +7,4 @@ pub mod Enterings
 pub mod Halves
 pub mod Moves
 pub mod Sets
+pub mod Once

@@ -2,7 +2,6 @@ pub mod Choices
 pub mod Numbers
 pub mod Overlays
 pub mod Parts
-pub mod Sevens
 pub mod Signs
 pub mod Sums
 pub mod Once

@@ -137,6 +137,13 @@ overlay-front d s n h g =
     let f : 0 + length (take n s) ≤ length d = rw l (omega arith) in
     rw l at (overlay-at d 0 (take n s) f)
 
+-- bytes that leave nothing of what stood there
+pub overlay-all : (d s : List ℕ) → length d ≤ length s → overlay d 0 s ≡ take (length d) s
+unfolding overlay
+overlay-all [] s h = refl
+overlay-all (x ∷ d) [] h = absurd (not-suc-le-zero h)
+overlay-all (x ∷ d) (y ∷ s) h = ap (λ (l : List ℕ). y ∷ l) (overlay-all d s (le-of-suc-le-suc h))
+
 -- the lowest byte of a number after those above it
 pub overlay-number : (d : List ℕ) (at k v : ℕ) → 0 < k
     → set (overlay d at (bytes (k - 1) (v / 256))) (at + (k - 1)) (v % 256) ≡ overlay d at (bytes k v)

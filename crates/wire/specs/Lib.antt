@@ -2,8 +2,6 @@ pub mod Bytes
 pub mod Choice
 pub mod Overlay
 pub mod Same
-pub mod Seven
 pub mod Signed
-pub mod Strides
 pub mod Sum
 pub mod Taken

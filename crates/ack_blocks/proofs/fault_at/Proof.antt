@@ -25,40 +25,49 @@ size-at-requires c κs = search needs
 
 returns-2 : tie.Need-returns-2
 returns-2 c =
-    let a = c .before .before .before .before .before .args in
+    let at-size-at = c .before in
+    let k = at-size-at .before .before in
+    let start = k .before .before in
+    let a = start .args in
     let s = drop (a .at) (a .b .now) in
-    let k = c .before .before .before in
-    sym (fault-cut s (omega (arith, k .kind-at .ensures)) (omega (arith, c .before .size-at .ensures .0, length-drop (a .at) (a .b .now))))
+    sym (fault-cut s (omega (arith, k .kind-at .ensures)) (omega (arith, at-size-at .size-at .ensures .0, length-drop (a .at) (a .b .now))))
 
 run-fault-requires : tie.Need-run-fault-requires
 run-fault-requires c κs = search needs
 
 returns-3 : tie.Need-returns-3
 returns-3 c =
-    let a = c .before .before .before .before .before .before .before .args in
+    let at-if3 = c .before in
+    let z = at-if3 .before .before in
+    let k = z .before .before in
+    let start = k .before .before in
+    let a = start .args in
     let s = drop (a .at) (a .b .now) in
-    let k = c .before .before .before .before .before in
-    let z = c .before .before .before in
-    c .run-fault .ensures ∙ sym (fault-run s (omega (arith, k .kind-at .ensures)) (omega (arith, z .size-at .ensures .0, length-drop (a .at) (a .b .now))) (sym (k .kind-at .ensures) ∙ c .before .if3 .taken))
+    c .run-fault .ensures ∙ sym (fault-run s (omega (arith, k .kind-at .ensures)) (omega (arith, z .size-at .ensures .0, length-drop (a .at) (a .b .now))) (sym (k .kind-at .ensures) ∙ at-if3 .if3 .taken))
 
 map-fault-requires : tie.Need-map-fault-requires
 map-fault-requires c κs = search needs
 
 returns-4 : tie.Need-returns-4
 returns-4 c =
-    let a = c .before .before .before .before .before .before .before .before .args in
+    let at-if4 = c .before in
+    let at-if3 = at-if4 .before in
+    let z = at-if3 .before .before in
+    let k = z .before .before in
+    let start = k .before .before in
+    let a = start .args in
     let s = drop (a .at) (a .b .now) in
-    let k = c .before .before .before .before .before .before in
-    let z = c .before .before .before .before in
-    c .map-fault .ensures ∙ sym (fault-map s (omega (arith, k .kind-at .ensures)) (omega (arith, z .size-at .ensures .0, length-drop (a .at) (a .b .now))) (λ h. c .before .before .if3 .left (k .kind-at .ensures ∙ h)) (sym (k .kind-at .ensures) ∙ c .before .if4 .taken))
+    c .map-fault .ensures ∙ sym (fault-map s (omega (arith, k .kind-at .ensures)) (omega (arith, z .size-at .ensures .0, length-drop (a .at) (a .b .now))) (λ h. at-if3 .if3 .left (k .kind-at .ensures ∙ h)) (sym (k .kind-at .ensures) ∙ at-if4 .if4 .taken))
 
 returns-5 : tie.Need-returns-5
 returns-5 c =
-    let a = c .before .before .before .before .before .before .before .args in
+    let at-if3 = c .before in
+    let z = at-if3 .before .before in
+    let k = z .before .before in
+    let start = k .before .before in
+    let a = start .args in
     let s = drop (a .at) (a .b .now) in
-    let k = c .before .before .before .before .before in
-    let z = c .before .before .before in
-    sym (fault-none s (omega (arith, k .kind-at .ensures)) (omega (arith, z .size-at .ensures .0, length-drop (a .at) (a .b .now))) (λ h. c .before .if3 .left (k .kind-at .ensures ∙ h)) (λ h. c .if4 .left (k .kind-at .ensures ∙ h)))
+    sym (fault-none s (omega (arith, k .kind-at .ensures)) (omega (arith, z .size-at .ensures .0, length-drop (a .at) (a .b .now))) (λ h. at-if3 .if3 .left (k .kind-at .ensures ∙ h)) (λ h. c .if4 .left (k .kind-at .ensures ∙ h)))
 
 pub fault-at-spec : {M : Type 1} → statement M
 fault-at-spec =

@@ -18,9 +18,12 @@ field-requires c κs = search needs
 
 returns : tie.Need-returns
 returns c =
-    let a = c .before .before .before .before .args in
+    let at-field = c .before in
+    let at-kind-at = at-field .before in
+    let start = at-kind-at .before .before in
+    let a = start .args in
     let s = drop (a .at) (a .b .now) in
-    ap (λ (x : ℕ). eqb (a .n) x) (c .before .field .ensures .0) ∙ ap (λ (k : Block). has k (a .n)) (sym (block-single s (sym (c .before .before .kind-at .ensures) ∙ c .if1 .taken)))
+    ap (λ (x : ℕ). eqb (a .n) x) (at-field .field .ensures .0) ∙ ap (λ (k : Block). has k (a .n)) (sym (block-single s (sym (at-kind-at .kind-at .ensures) ∙ c .if1 .taken)))
 
 field-requires-2 : tie.Need-field-requires-2
 field-requires-2 c κs = search needs
@@ -30,24 +33,32 @@ is-between-requires c κs = search needs
 
 returns-2 : tie.Need-returns-2
 returns-2 c =
-    let a = c .before .before .before .before .before .before .before .args in
+    let at-field2 = c .before in
+    let at-if2 = at-field2 .before in
+    let at-field = at-if2 .before .before in
+    let k = at-field .before in
+    let start = k .before .before in
+    let a = start .args in
     let s = drop (a .at) (a .b .now) in
-    let k = c .before .before .before .before .before in
     c .is-between .ensures
-    ∙ (λ i. between (c .before .before .before .before .field .ensures .0 i) (c .before .field2 .ensures .0 i) (a .n))
-    ∙ ap (λ (k : Block). has k (a .n)) (sym (block-run s (sym (k .kind-at .ensures) ∙ c .before .before .if2 .taken)))
+    ∙ (λ i. between (at-field .field .ensures .0 i) (at-field2 .field2 .ensures .0 i) (a .n))
+    ∙ ap (λ (k : Block). has k (a .n)) (sym (block-run s (sym (k .kind-at .ensures) ∙ at-if2 .if2 .taken)))
 
 map-has-requires : tie.Need-map-has-requires
 map-has-requires c κs = search needs
 
 returns-3 : tie.Need-returns-3
 returns-3 c =
-    let a = c .before .before .before .before .before .before .args in
+    let at-if2 = c .before in
+    let at-if1 = at-if2 .before in
+    let at-field = at-if1 .before in
+    let k = at-field .before in
+    let start = k .before .before in
+    let a = start .args in
     let s = drop (a .at) (a .b .now) in
-    let k = c .before .before .before .before in
-    let e = block-map s (λ h. c .before .before .if1 .left (k .kind-at .ensures ∙ h)) (λ h. c .before .if2 .left (k .kind-at .ensures ∙ h)) in
+    let e = block-map s (λ h. at-if1 .if1 .left (k .kind-at .ensures ∙ h)) (λ h. at-if2 .if2 .left (k .kind-at .ensures ∙ h)) in
     c .map-has .ensures
-    ∙ ap (λ (x : ℕ). inMap x (bitsIn s) (mapIn s) (a .n)) (c .before .before .before .field .ensures .0)
+    ∙ ap (λ (x : ℕ). inMap x (bitsIn s) (mapIn s) (a .n)) (at-field .field .ensures .0)
     ∙ ap (λ (k : Block). has k (a .n)) (sym e)
 
 pub has-at-spec : {M : Type 1} → statement M

@@ -21,9 +21,12 @@ bits-at-requires c κs = search needs
 
 returns-2 : tie.Need-returns-2
 returns-2 c =
-    let a = c .before .before .before .before .args in
+    let at-bits-at = c .before in
+    let at-if1 = at-bits-at .before in
+    let start = at-if1 .before .before in
+    let a = start .args in
     let s = drop (a .at) (a .b .now) in
-    sym (map-past (a .first) (bitsIn s) (mapIn s) (a .n) (c .before .before .if1 .left) (omega (arith, c .before .bits-at .ensures .0)))
+    sym (map-past (a .first) (bitsIn s) (mapIn s) (a .n) (at-if1 .if1 .left) (omega (arith, at-bits-at .bits-at .ensures .0)))
 
 add-field : tie.Need-add-field
 add-field c = search needs
@@ -39,12 +42,15 @@ shr-result c = search needs
 
 returns-3 : tie.Need-returns-3
 returns-3 c =
-    let a = c .before .before .before .before .before .args in
+    let at-bits-at = c .before .before in
+    let at-if1 = at-bits-at .before in
+    let start = at-if1 .before .before in
+    let a = start .args in
     let s = drop (a .at) (a .b .now) in
     let i = a .n - a .first in
-    let below : i < bitsIn s = omega (arith, c .before .before .bits-at .ensures .0) in
+    let below : i < bitsIn s = omega (arith, at-bits-at .bits-at .ensures .0) in
     let byte = c .field .ensures .0 ∙ map-byte s (i / 8) (omega arith) in
-    sym (map-bit (a .first) (bitsIn s) (mapIn s) (a .n) (c .before .before .before .if1 .left) below ∙ ap (λ (x : ℕ). eqb (x / 2 ^ (7 - i % 8) % 2) 1) (sym byte))
+    sym (map-bit (a .first) (bitsIn s) (mapIn s) (a .n) (at-if1 .if1 .left) below ∙ ap (λ (x : ℕ). eqb (x / 2 ^ (7 - i % 8) % 2) 1) (sym byte))
 
 pub map-has-spec : {M : Type 1} → statement M
 map-has-spec =

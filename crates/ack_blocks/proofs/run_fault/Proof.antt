@@ -16,15 +16,21 @@ field-requires-2 c κs = search needs
 
 returns : tie.Need-returns
 returns c =
-    let a = c .before .before .before .before .args in
+    let at-field2 = c .before in
+    let at-field = at-field2 .before in
+    let start = at-field .before .before in
+    let a = start .args in
     let s = drop (a .at) (a .b .now) in
-    sym (rw (lt-ltb (lastIn s) (firstIn s) (omega (arith, c .before .field2 .ensures .0, c .before .before .field .ensures .0))))
+    sym (rw (lt-ltb (lastIn s) (firstIn s) (omega (arith, at-field2 .field2 .ensures .0, at-field .field .ensures .0))))
 
 returns-2 : tie.Need-returns-2
 returns-2 c =
-    let a = c .before .before .before .before .args in
+    let at-field2 = c .before in
+    let at-field = at-field2 .before in
+    let start = at-field .before .before in
+    let a = start .args in
     let s = drop (a .at) (a .b .now) in
-    sym (rw (le-ltb (lastIn s) (firstIn s) (omega (arith, c .before .field2 .ensures .0, c .before .before .field .ensures .0))))
+    sym (rw (le-ltb (lastIn s) (firstIn s) (omega (arith, at-field2 .field2 .ensures .0, at-field .field .ensures .0))))
 
 pub run-fault-spec : {M : Type 1} → statement M
 run-fault-spec = tie.close (tie.spec field-requires field-requires-2 returns returns-2)

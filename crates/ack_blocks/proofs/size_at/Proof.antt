@@ -20,9 +20,11 @@ returns c =
 
 returns-2 : tie.Need-returns-2
 returns-2 c =
-    let a = c .before .before .before .before .args in
+    let at-kind-at = c .before .before in
+    let start = at-kind-at .before .before in
+    let a = start .args in
     let s = drop (a .at) (a .b .now) in
-    (sym (size-run s (sym (c .before .before .kind-at .ensures) ∙ c .if2 .taken)), (omega arith, omega arith))
+    (sym (size-run s (sym (at-kind-at .kind-at .ensures) ∙ c .if2 .taken)), (omega arith, omega arith))
 
 bits-at-requires : tie.Need-bits-at-requires
 bits-at-requires c κs = search needs
@@ -35,11 +37,15 @@ add-result c = search needs
 
 returns-3 : tie.Need-returns-3
 returns-3 c =
-    let a = c .before .before .before .before .before .before .args in
+    let at-bits-at = c .before in
+    let at-if2 = at-bits-at .before in
+    let at-if1 = at-if2 .before in
+    let k = at-if1 .before in
+    let start = k .before .before in
+    let a = start .args in
     let s = drop (a .at) (a .b .now) in
-    let k = c .before .before .before .before in
-    let m : c .map-bytes .result ≡ mapBytes (bitsIn s) = c .map-bytes .ensures .0 ∙ ap mapBytes (c .before .bits-at .ensures .0) in
-    let e = size-map s (λ h. c .before .before .before .if1 .left (k .kind-at .ensures ∙ h)) (λ h. c .before .before .if2 .left (k .kind-at .ensures ∙ h)) in
+    let m : c .map-bytes .result ≡ mapBytes (bitsIn s) = c .map-bytes .ensures .0 ∙ ap mapBytes (at-bits-at .bits-at .ensures .0) in
+    let e = size-map s (λ h. at-if1 .if1 .left (k .kind-at .ensures ∙ h)) (λ h. at-if2 .if2 .left (k .kind-at .ensures ∙ h)) in
     (ap (λ (n : ℕ). 11 + n) m ∙ sym e, (omega arith, omega arith))
 
 pub size-at-spec : {M : Type 1} → statement M

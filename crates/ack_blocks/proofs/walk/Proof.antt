@@ -27,10 +27,14 @@ fault-at-requires c κs = record { place = omega arith; fits = omega arith }
 
 returns : tie.Need-returns Inv-loop μ-loop
 returns c =
-    let a = c .before .before .before .before .before .args in
-    let l = c .before .before .before .loop in
-    let e = c .before .fault-at .ensures in
-    sym (l .inv ∙ walk-bad (a .b .now) (l .found) (a .n) (l .at) (c .before .before .loop-test .taken) (λ h. c .if1 .taken (e ∙ h)) ∙ ap refuses (sym e))
+    let at-fault-at = c .before in
+    let at-loop-test = at-fault-at .before in
+    let turn = at-loop-test .before in
+    let start = turn .before .before in
+    let a = start .args in
+    let l = turn .loop in
+    let e = at-fault-at .fault-at .ensures in
+    sym (l .inv ∙ walk-bad (a .b .now) (l .found) (a .n) (l .at) (at-loop-test .loop-test .taken) (λ h. c .if1 .taken (e ∙ h)) ∙ ap refuses (sym e))
 
 has-at-requires : tie.Need-has-at-requires Inv-loop μ-loop
 has-at-requires c κs = search needs
@@ -49,25 +53,37 @@ loop-less c = search needs
 
 loop-again : tie.Need-loop-again Inv-loop μ-loop
 loop-again c =
-    let a = c .before .before .before .before .before .before .before .before .args in
-    let l = c .before .before .before .before .before .before .loop in
-    let t = c .before .before .before .before .before in
-    let e = c .before .before .before .before .fault-at .ensures in
-    let f = c .before .either-of .ensures ∙ ap (λ (t : Bool). l .found || t) (c .before .before .has-at .ensures) in
-    l .inv ∙ walk-next (a .b .now) (l .found) (a .n) (l .at) (t .loop-test .taken) (sym e ∙ c .before .before .before .if1 .left)
+    let at-either-of = c .before in
+    let at-has-at = at-either-of .before in
+    let at-if1 = at-has-at .before in
+    let at-fault-at = at-if1 .before in
+    let t = at-fault-at .before in
+    let turn = t .before in
+    let start = turn .before .before in
+    let a = start .args in
+    let l = turn .loop in
+    let e = at-fault-at .fault-at .ensures in
+    let f = at-either-of .either-of .ensures ∙ ap (λ (t : Bool). l .found || t) (at-has-at .has-at .ensures) in
+    l .inv ∙ walk-next (a .b .now) (l .found) (a .n) (l .at) (t .loop-test .taken) (sym e ∙ at-if1 .if1 .left)
     ∙ (λ i. also (sym f i) (told (a .n) (blocksIn (drop (l .at + sym (c .size-at .ensures .0) i) (a .b .now)))))
 
 returns-2 : tie.Need-returns-2 Inv-loop μ-loop
 returns-2 c =
-    let a = c .before .before .before .before .args in
-    let l = c .before .before .loop in
-    sym (l .inv ∙ walk-end (a .b .now) (l .found) (a .n) (l .at) (c .before .loop-test .left) ∙ ap gives (c .if2 .taken))
+    let at-loop-test = c .before in
+    let turn = at-loop-test .before in
+    let start = turn .before .before in
+    let a = start .args in
+    let l = turn .loop in
+    sym (l .inv ∙ walk-end (a .b .now) (l .found) (a .n) (l .at) (at-loop-test .loop-test .left) ∙ ap gives (c .if2 .taken))
 
 returns-3 : tie.Need-returns-3 Inv-loop μ-loop
 returns-3 c =
-    let a = c .before .before .before .before .args in
-    let l = c .before .before .loop in
-    sym (l .inv ∙ walk-end (a .b .now) (l .found) (a .n) (l .at) (c .before .loop-test .left) ∙ ap gives (c .if2 .left))
+    let at-loop-test = c .before in
+    let turn = at-loop-test .before in
+    let start = turn .before .before in
+    let a = start .args in
+    let l = turn .loop in
+    sym (l .inv ∙ walk-end (a .b .now) (l .found) (a .n) (l .at) (at-loop-test .loop-test .left) ∙ ap gives (c .if2 .left))
 
 pub walk-spec : {M : Type 1} → statement M
 walk-spec =

@@ -52,17 +52,19 @@ same-length-2 c = search needs
 returns-2 : tie.Need-returns-2
 returns-2 c =
     let at-pour-answer = c .before .before in
-    let place = at-pour-answer .before .before in
-    let start = place .before .before .before .before .before .before .before .before .before .before in
+    let q = at-pour-answer .before .before in
+    let at-part = q .before in
+    let at-number = at-part .before in
+    let at-if1 = at-number .before in
+    let d = at-if1 .before .before .before in
+    let start = d .before .before .before .before in
     let a = start .args in
-    let q = place in
-    let d = q .before .before .before .before .before .before in
     let b = a .b .now in
-    let blocks = q .before .part .ensures ∙ take-all (length b) (drop 8 b) (omega (arith, length-drop 8 b)) in
-    let number = q .before .before .number .ensures .value in
+    let blocks = at-part .part .ensures ∙ take-all (length b) (drop 8 b) (omega (arith, length-drop 8 b)) in
+    let number = at-number .number .ensures .value in
     pours-is (pours-then (d .pour-decimal .ensures) (at-pour-answer .pour-answer .ensures))
     (ap (λ (g : Given Bool). decimal (a .n) ++ answerText g)
-    (q .ask .ensures ∙ (λ i. asked (blocks i) (number i)) ∙ sym (answer-whole b (q .before .before .before .if1 .left))))
+    (q .ask .ensures ∙ (λ i. asked (blocks i) (number i)) ∙ sym (answer-whole b (at-if1 .if1 .left))))
 
 pub one-more-spec : {M : Type 1} → statement M
 one-more-spec =

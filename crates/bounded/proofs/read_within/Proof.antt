@@ -16,7 +16,7 @@ read-datagram-requires c κs = search needs
 returns : tie.Need-returns
 returns c =
     let f = c .before in
-    c .read-datagram .ensures ∙ rw (f .before .least .ensures, f .fewest .ensures) refl
+    c .read-datagram .ensures .answer ∙ rw (f .before .least .ensures, f .fewest .ensures) refl
 
 pub read-within-spec : {M : Type 1} → statement M
 read-within-spec =

@@ -88,11 +88,12 @@ same-length-6 c = search needs
 
 returns-2 : tie.Need-returns-2
 returns-2 c =
-    let w = c .before .before .before .before .before .before .before .before .before .before .before .before .before .before .before .before .before .before in
+    let at-if1 = c .before .before .before .before .before .before in
+    let w = at-if1 .before .before .before .before .before .before .before .before .before .before .before .before in
     let own = w .before .before .before .before .before .before .before .before .before in
     let st = own .before .before .before .before .before .before .before .before .before in
     let a = st .args in
-    given-then (a .log .now) (a .store .now) (a .ledger .now) (a .numbers .now) (a .entries) (st .pre) _ (own .limits-in .ensures) (w .walk .result) _ _ _ _ _ _ (w .walk .ensures) (c .before .before .before .before .before .before .if1 .left) _ (c .given .ensures)
+    given-then (a .log .now) (a .store .now) (a .ledger .now) (a .numbers .now) (a .entries) (st .pre) _ (own .limits-in .ensures) (w .walk .result) _ _ _ _ _ _ (w .walk .ensures) (at-if1 .if1 .left) _ (c .given .ensures)
 
 pub afresh-spec : {M : Type 1} → statement M
 afresh-spec =

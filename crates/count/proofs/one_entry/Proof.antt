@@ -1,6 +1,5 @@
 -- The datagram is received, the answer told, and what is delivered taken. Assumes nothing.
-use mathlib.Core.Path.{_≡_, refl, sym, ap, _∙_}
-use Prim.Native.Nat.{ℕ, _<_}
+use mathlib.Core.Path.{ap}
 use native.Mathlib.Omega.{arith}
 use Rattle.log.specs.Told.{entrySaid}
 use Rattle.count.specs.declared.Totals.{Totals}
@@ -18,18 +17,25 @@ receive-within-requires c κs = search needs
 told-requires : tie.Need-told-requires
 told-requires c κs = search needs
 
-one-answer-requires : tie.Need-one-answer-requires
-one-answer-requires c κs =
-    let k = c .before .before .before .before .before in
-    let a = k .before .before .before .before .before .before .before .before .before .before .before .before .before .before .before .before .before .before .before .before .before .before .before in
-    omega (arith, ap (λ (t : Totals). t .lists) (k .told .ensures), lists-stay (a .args .totals) (k .before .before .before .before .before .before .before .before .before .receive-within .result .answer), a .pre .lists)
+payload-requires : tie.Need-payload-requires
+payload-requires c κs = search needs
+
+one-payload-requires : tie.Need-one-payload-requires
+one-payload-requires c κs =
+    let at-told = c .before .before .before .before .before .before in
+    let at-received = at-told .before .before .before .before .before .before .before .before .before in
+    let start = at-received .before .before .before .before .before .before .before .before .before .before .before .before .before .before in
+    omega (arith, ap (λ (t : Totals). t .lists) (at-told .told .ensures), lists-stay (start .args .totals) (at-received .receive-within .result .answer), start .pre .lists)
 
 same-length : tie.Need-same-length
 same-length c =
-    c .before .before .before .before .before .before .before .before .before .before .before .before .before .before .before .before .before .before .before .before .before .state .given
+    let at-state = c .before .before .before .before .before .before .before .before .before .before .before .before .before .before .before .before .before .before .before .before .before .before in
+    at-state .state .given
 
 same-length-2 : tie.Need-same-length-2
-same-length-2 c = search needs
+same-length-2 c =
+    let at-names = c .before .before .before .before .before .before .before .before .before .before .before .before .before .before .before .before .before .before .before .before in
+    at-names .names .given
 
 same-length-3 : tie.Need-same-length-3
 same-length-3 c = search needs
@@ -51,13 +57,16 @@ same-length-8 c = search needs
 
 returns : tie.Need-returns
 returns c =
-    let o = c .before .before .before .before .before .before .before in
-    let k = o .before .before .before .before .before .before in
-    let r = k .before .before .before .before .before .before .before .before .before in
-    let d = r .before .before .before .before .before in
-    let a = d .before .before .before .before .before .before .before .before .before .args in
+    let at-taken = c .before .before .before .before .before .before .before in
+    let at-payload = at-taken .before .before .before .before .before in
+    let at-told = at-payload .before .before in
+    let at-received = at-told .before .before .before .before .before .before .before .before .before in
+    let at-part = at-received .before .before .before .before .before in
+    let start = at-part .before .before .before .before .before .before .before .before .before in
+    let a = start .args in
     entry-goes (a .limits) (entrySaid (a .log .now) (a .entry)) (a .state .now) (a .names .now) (a .store .now) (a .ledger .now) (a .numbers .now) (a .tiles .now) (a .pits .now) (a .sure .now) (a .totals) (a .sizes)
-    _ (d .part .ensures) (r .receive-within .result) _ _ _ _ (r .receive-within .ensures) (k .told .result) (k .told .ensures) (o .one-answer .result) _ _ _ _ (o .one-answer .ensures)
+    _ (at-part .part .ensures) (at-received .receive-within .result) _ _ _ _ (at-received .receive-within .ensures) (at-told .told .result) (at-told .told .ensures)
+    _ (at-payload .payload .ensures) (at-taken .one-payload .result) _ _ _ _ (at-taken .one-payload .ensures)
 
 pub one-entry-spec : {M : Type 1} → statement M
 one-entry-spec =
@@ -66,7 +75,8 @@ one-entry-spec =
     part-requires
     receive-within-requires
     told-requires
-    one-answer-requires
+    payload-requires
+    one-payload-requires
     same-length
     same-length-2
     same-length-3

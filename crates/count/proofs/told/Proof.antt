@@ -15,7 +15,9 @@ add-after : tie.Need-add-after
 add-after c = search needs
 
 returns : tie.Need-returns
-returns c = ap (toldOf (c .before .before .before .args .t)) (sym (c .before .enum-told .given .1))
+returns c =
+    let start = c .before .before .before in
+    ap (toldOf (start .args .t)) (sym (c .before .enum-told .given .1))
 
 enum-told-2 : tie.Need-enum-told-2
 enum-told-2 c = search needs
@@ -24,7 +26,9 @@ add-after-2 : tie.Need-add-after-2
 add-after-2 c = search needs
 
 returns-2 : tie.Need-returns-2
-returns-2 c = ap (toldOf (c .before .before .before .args .t)) (sym (c .before .enum-told2 .given .1))
+returns-2 c =
+    let start = c .before .before .before in
+    ap (toldOf (start .args .t)) (sym (c .before .enum-told2 .given .1))
 
 enum-told-3 : tie.Need-enum-told-3
 enum-told-3 c = search needs
@@ -33,7 +37,9 @@ add-after-3 : tie.Need-add-after-3
 add-after-3 c = search needs
 
 returns-3 : tie.Need-returns-3
-returns-3 c = ap (toldOf (c .before .before .before .args .t)) (sym (c .before .enum-told3 .given .1))
+returns-3 c =
+    let start = c .before .before .before in
+    ap (toldOf (start .args .t)) (sym (c .before .enum-told3 .given .1))
 
 enum-known-answer : tie.Need-enum-known-answer
 enum-known-answer c = search needs
@@ -43,9 +49,11 @@ one-refused-requires c κs = search needs
 
 returns-4 : tie.Need-returns-4
 returns-4 c =
-    let t = c .before .before .before .before .before .args .t in
+    let at-answer = c .before .before .before in
+    let start = at-answer .before .before in
+    let t = start .args .t in
     ap (λ (l : List ℕ). record { kept = t .kept; repeated = t .repeated; delivered = t .delivered; refused = l; lists = t .lists }) (c .one-refused .ensures)
-    ∙ ap (toldOf t) (sym (c .before .before .before .answer .given .1))
+    ∙ ap (toldOf t) (sym (at-answer .answer .given .1))
 
 pub told-spec : {M : Type 1} → statement M
 told-spec =

@@ -55,9 +55,11 @@ nothing-requires c κs = search needs
 
 loop-holds : tie.Need-loop-holds Inv-loop μ-loop
 loop-holds c =
-    let a = c .before .before .before .before .before .before .before .before .before .args in
-    let p = c .before .before .before .before .before .before .before .before .before .pre in
-    let b : Bytes (a .log .now) = λ i. c .before .before .before .before .before .before .before .before .shared-slice-known .given i .fits in
+    let at-shared-slice-known = c .before .before .before .before .before .before .before .before in
+    let start = at-shared-slice-known .before in
+    let a = start .args in
+    let p = start .pre in
+    let b : Bytes (a .log .now) = λ i. at-shared-slice-known .shared-slice-known .given i .fits in
     record {
       entries = [];
       passed = passed-none (a .log .now) b;
@@ -79,72 +81,110 @@ enum-told : tie.Need-enum-told Inv-loop μ-loop
 enum-told c = search needs
 
 same-length : tie.Need-same-length Inv-loop μ-loop
-same-length c = c .before .before .before .loop .inv .state-long
+same-length c =
+    let turn = c .before .before .before in
+    turn .loop .inv .state-long
 
 same-length-2 : tie.Need-same-length-2 Inv-loop μ-loop
-same-length-2 c = c .before .before .before .loop .inv .names-long
+same-length-2 c =
+    let turn = c .before .before .before in
+    turn .loop .inv .names-long
 
 same-length-3 : tie.Need-same-length-3 Inv-loop μ-loop
-same-length-3 c = c .before .before .before .loop .inv .store-long
+same-length-3 c =
+    let turn = c .before .before .before in
+    turn .loop .inv .store-long
 
 same-length-4 : tie.Need-same-length-4 Inv-loop μ-loop
-same-length-4 c = c .before .before .before .loop .inv .ledger-long
+same-length-4 c =
+    let turn = c .before .before .before in
+    turn .loop .inv .ledger-long
 
 same-length-5 : tie.Need-same-length-5 Inv-loop μ-loop
-same-length-5 c = c .before .before .before .loop .inv .numbers-long
+same-length-5 c =
+    let turn = c .before .before .before in
+    turn .loop .inv .numbers-long
 
 same-length-6 : tie.Need-same-length-6 Inv-loop μ-loop
-same-length-6 c = c .before .before .before .loop .inv .tiles-long
+same-length-6 c =
+    let turn = c .before .before .before in
+    turn .loop .inv .tiles-long
 
 same-length-7 : tie.Need-same-length-7 Inv-loop μ-loop
-same-length-7 c = c .before .before .before .loop .inv .pits-long
+same-length-7 c =
+    let turn = c .before .before .before in
+    turn .loop .inv .pits-long
 
 same-length-8 : tie.Need-same-length-8 Inv-loop μ-loop
-same-length-8 c = c .before .before .before .loop .inv .sure-long
+same-length-8 c =
+    let turn = c .before .before .before in
+    turn .loop .inv .sure-long
 
 returns : tie.Need-returns Inv-loop μ-loop
 returns c =
-    let l = c .before .before .before in
-    let a = l .before .before .before .before .before .before .before .before .before .before .args in
-    let b : Bytes (a .log .now) = λ i. l .before .before .before .before .before .before .before .before .before .shared-slice-known .given i .fits in
+    let at-read-on = c .before .before in
+    let l = at-read-on .before in
+    let at-shared-slice-known = l .before .before .before .before .before .before .before .before .before in
+    let start = at-shared-slice-known .before in
+    let a = start .args in
+    let b : Bytes (a .log .now) = λ i. at-shared-slice-known .shared-slice-known .given i .fits in
     let v = l .loop .inv in
-    let q = sym (c .before .before .read-on .ensures) ∙ c .enum-told .given .1 in
+    let q = sym (at-read-on .read-on .ensures) ∙ c .enum-told .given .1 in
     λ es e. not-both es (v .entries) (sym e ∙ passed-broken (a .log .now) b (v .entries) (l .loop .place) (v .passed) _ q)
 
 enum-told-2 : tie.Need-enum-told-2 Inv-loop μ-loop
 enum-told-2 c = search needs
 
 same-length-9 : tie.Need-same-length-9 Inv-loop μ-loop
-same-length-9 c = c .before .before .before .loop .inv .state-long
+same-length-9 c =
+    let turn = c .before .before .before in
+    turn .loop .inv .state-long
 
 same-length-10 : tie.Need-same-length-10 Inv-loop μ-loop
-same-length-10 c = c .before .before .before .loop .inv .names-long
+same-length-10 c =
+    let turn = c .before .before .before in
+    turn .loop .inv .names-long
 
 same-length-11 : tie.Need-same-length-11 Inv-loop μ-loop
-same-length-11 c = c .before .before .before .loop .inv .store-long
+same-length-11 c =
+    let turn = c .before .before .before in
+    turn .loop .inv .store-long
 
 same-length-12 : tie.Need-same-length-12 Inv-loop μ-loop
-same-length-12 c = c .before .before .before .loop .inv .ledger-long
+same-length-12 c =
+    let turn = c .before .before .before in
+    turn .loop .inv .ledger-long
 
 same-length-13 : tie.Need-same-length-13 Inv-loop μ-loop
-same-length-13 c = c .before .before .before .loop .inv .numbers-long
+same-length-13 c =
+    let turn = c .before .before .before in
+    turn .loop .inv .numbers-long
 
 same-length-14 : tie.Need-same-length-14 Inv-loop μ-loop
-same-length-14 c = c .before .before .before .loop .inv .tiles-long
+same-length-14 c =
+    let turn = c .before .before .before in
+    turn .loop .inv .tiles-long
 
 same-length-15 : tie.Need-same-length-15 Inv-loop μ-loop
-same-length-15 c = c .before .before .before .loop .inv .pits-long
+same-length-15 c =
+    let turn = c .before .before .before in
+    turn .loop .inv .pits-long
 
 same-length-16 : tie.Need-same-length-16 Inv-loop μ-loop
-same-length-16 c = c .before .before .before .loop .inv .sure-long
+same-length-16 c =
+    let turn = c .before .before .before in
+    turn .loop .inv .sure-long
 
 returns-2 : tie.Need-returns-2 Inv-loop μ-loop
 returns-2 c =
-    let l = c .before .before .before in
-    let a = l .before .before .before .before .before .before .before .before .before .before .args in
-    let b : Bytes (a .log .now) = λ i. l .before .before .before .before .before .before .before .before .before .shared-slice-known .given i .fits in
+    let at-read-on = c .before .before in
+    let l = at-read-on .before in
+    let at-shared-slice-known = l .before .before .before .before .before .before .before .before .before in
+    let start = at-shared-slice-known .before in
+    let a = start .args in
+    let b : Bytes (a .log .now) = λ i. at-shared-slice-known .shared-slice-known .given i .fits in
     let v = l .loop .inv in
-    let q = sym (c .before .before .read-on .ensures) ∙ c .enum-told2 .given .1 in
+    let q = sym (at-read-on .read-on .ensures) ∙ c .enum-told2 .given .1 in
     λ es e.
     let w : whole (v .entries) ≡ whole es = sym (passed-all (a .log .now) b (v .entries) (l .loop .place) (v .passed) q) ∙ e in
     let u : v .entries ≡ es = cc in
@@ -158,8 +198,9 @@ one-entry-requires : tie.Need-one-entry-requires Inv-loop μ-loop
 one-entry-requires c κs =
     let l = c .before .before .before .before .before .before .before .before .before .before .before .before .before .before in
     let s = l .before in
-    let a = s .before .before .before .before .before .before .before .before .before .args in
-    let p = s .before .before .before .before .before .before .before .before .before .pre in
+    let start = s .before .before .before .before .before .before .before .before .before in
+    let a = start .args in
+    let p = start .pre in
     let v = l .loop .inv in
     let z = to-come (a .log .now) (v .entries) (l .loop .place) (v .passed) (p .log-whole .entries) (p .log-whole .is) in
     far-few (a .limits) (a .store .now) (a .ledger .now) (a .numbers .now) (v .entries) _ _ _ _ _ _ _ _ _ (v .far)
@@ -167,45 +208,65 @@ one-entry-requires c κs =
 
 same-length-17 : tie.Need-same-length-17 Inv-loop μ-loop
 same-length-17 c =
-    c .before .before .before .before .before .before .before .before .before .before .before .before .before .before .before .before .state .given ∙ c .before .before .before .before .before .before .before .before .before .before .before .before .before .before .before .before .before .before .before .before .before .before .before .before .before .before .before .before .before .before .before .before .loop .inv .state-long
+    let at-state = c .before .before .before .before .before .before .before .before .before .before .before .before .before .before .before .before in
+    let turn = at-state .before .before .before .before .before .before .before .before .before .before .before .before .before .before .before .before in
+    at-state .state .given ∙ turn .loop .inv .state-long
 
 same-length-18 : tie.Need-same-length-18 Inv-loop μ-loop
 same-length-18 c =
-    c .before .before .before .before .before .before .before .before .before .before .before .before .before .before .names .given ∙ c .before .before .before .before .before .before .before .before .before .before .before .before .before .before .before .before .before .before .before .before .before .before .before .before .before .before .before .before .before .before .before .before .loop .inv .names-long
+    let at-names = c .before .before .before .before .before .before .before .before .before .before .before .before .before .before in
+    let turn = at-names .before .before .before .before .before .before .before .before .before .before .before .before .before .before .before .before .before .before in
+    at-names .names .given ∙ turn .loop .inv .names-long
 
 same-length-19 : tie.Need-same-length-19 Inv-loop μ-loop
 same-length-19 c =
-    c .before .before .before .before .before .before .before .before .before .before .before .before .store .given ∙ c .before .before .before .before .before .before .before .before .before .before .before .before .before .before .before .before .before .before .before .before .before .before .before .before .before .before .before .before .before .before .before .before .loop .inv .store-long
+    let at-store = c .before .before .before .before .before .before .before .before .before .before .before .before in
+    let turn = at-store .before .before .before .before .before .before .before .before .before .before .before .before .before .before .before .before .before .before .before .before in
+    at-store .store .given ∙ turn .loop .inv .store-long
 
 same-length-20 : tie.Need-same-length-20 Inv-loop μ-loop
 same-length-20 c =
-    c .before .before .before .before .before .before .before .before .before .before .ledger .given ∙ c .before .before .before .before .before .before .before .before .before .before .before .before .before .before .before .before .before .before .before .before .before .before .before .before .before .before .before .before .before .before .before .before .loop .inv .ledger-long
+    let at-ledger = c .before .before .before .before .before .before .before .before .before .before in
+    let turn = at-ledger .before .before .before .before .before .before .before .before .before .before .before .before .before .before .before .before .before .before .before .before .before .before in
+    at-ledger .ledger .given ∙ turn .loop .inv .ledger-long
 
 same-length-21 : tie.Need-same-length-21 Inv-loop μ-loop
 same-length-21 c =
-    c .before .before .before .before .before .before .before .before .numbers .given ∙ c .before .before .before .before .before .before .before .before .before .before .before .before .before .before .before .before .before .before .before .before .before .before .before .before .before .before .before .before .before .before .before .before .loop .inv .numbers-long
+    let at-numbers = c .before .before .before .before .before .before .before .before in
+    let turn = at-numbers .before .before .before .before .before .before .before .before .before .before .before .before .before .before .before .before .before .before .before .before .before .before .before .before in
+    at-numbers .numbers .given ∙ turn .loop .inv .numbers-long
 
 same-length-22 : tie.Need-same-length-22 Inv-loop μ-loop
 same-length-22 c =
-    c .before .before .before .before .before .before .before .tiles .given ∙ c .before .before .before .before .before .before .before .before .before .before .before .before .before .before .before .before .before .before .before .before .before .before .before .before .before .before .before .before .before .before .before .before .loop .inv .tiles-long
+    let at-tiles = c .before .before .before .before .before .before .before in
+    let turn = at-tiles .before .before .before .before .before .before .before .before .before .before .before .before .before .before .before .before .before .before .before .before .before .before .before .before .before in
+    at-tiles .tiles .given ∙ turn .loop .inv .tiles-long
 
 same-length-23 : tie.Need-same-length-23 Inv-loop μ-loop
 same-length-23 c =
-    c .before .before .before .before .before .pits .given ∙ c .before .before .before .before .before .before .before .before .before .before .before .before .before .before .before .before .before .before .before .before .before .before .before .before .before .before .before .before .before .before .before .before .loop .inv .pits-long
+    let at-pits = c .before .before .before .before .before in
+    let turn = at-pits .before .before .before .before .before .before .before .before .before .before .before .before .before .before .before .before .before .before .before .before .before .before .before .before .before .before .before in
+    at-pits .pits .given ∙ turn .loop .inv .pits-long
 
 same-length-24 : tie.Need-same-length-24 Inv-loop μ-loop
 same-length-24 c =
-    c .before .before .before .sure .given ∙ c .before .before .before .before .before .before .before .before .before .before .before .before .before .before .before .before .before .before .before .before .before .before .before .before .before .before .before .before .before .before .before .before .loop .inv .sure-long
+    let at-sure = c .before .before .before in
+    let turn = at-sure .before .before .before .before .before .before .before .before .before .before .before .before .before .before .before .before .before .before .before .before .before .before .before .before .before .before .before .before .before in
+    at-sure .sure .given ∙ turn .loop .inv .sure-long
 
 returns-3 : tie.Need-returns-3 Inv-loop μ-loop
 returns-3 c =
-    let l = c .before .before .before .before .before .before .before .before .before .before .before .before .before .before .before .before .before .before .before .before .before .before .before .before .before .before .before .before .before .before .before .before in
-    let a = l .before .before .before .before .before .before .before .before .before .before .args in
-    let b : Bytes (a .log .now) = λ i. l .before .before .before .before .before .before .before .before .before .shared-slice-known .given i .fits in
-    let v = l .loop .inv in
-    let g = c .before .before .before .before .before .before .before .before .before .before .before .before .before .before .before .before .before .before .before .before .before .before .before .before .before .before .before .before .before .step .given in
-    let q = sym (c .before .before .before .before .before .before .before .before .before .before .before .before .before .before .before .before .before .before .before .before .before .before .before .before .before .before .before .before .before .before .before .read-on .ensures) ∙ g .1 in
     let o = c .before .before .before .before .before .before .before .before .before .before .before .before .before .before .before .before .before in
+    let at-step = o .before .before .before .before .before .before .before .before .before .before .before .before in
+    let at-read-on = at-step .before .before in
+    let l = at-read-on .before in
+    let at-shared-slice-known = l .before .before .before .before .before .before .before .before .before in
+    let start = at-shared-slice-known .before in
+    let a = start .args in
+    let b : Bytes (a .log .now) = λ i. at-shared-slice-known .shared-slice-known .given i .fits in
+    let v = l .loop .inv in
+    let g = at-step .step .given in
+    let q = sym (at-read-on .read-on .ensures) ∙ g .1 in
     let W = o .one-entry .ensures (heldBy (a .limits) (a .store .now) (a .ledger .now) (a .numbers .now) (v .entries)) (seenBy (a .limits) (a .store .now) (a .ledger .now) (a .numbers .now) (v .entries)) (answersBy (a .limits) (a .store .now) (a .ledger .now) (a .numbers .now) (v .entries)) (v .far .at) in
     let e = entrySaid (a .log .now) (g .0 .0) in
     let P = passed-more (a .log .now) b (v .entries) (l .loop .place) (v .passed) (g .0 .0) q in
@@ -215,12 +276,16 @@ returns-3 c =
 
 loop-less : tie.Need-loop-less Inv-loop μ-loop
 loop-less c =
-    let l = c .before .before .before .before .before .before .before .before .before .before .before .before .before .before .before .before .before .before .before .before .before .before .before .before .before .before .before .before .before .before .before .before in
-    let a = l .before .before .before .before .before .before .before .before .before .before .args in
-    let b : Bytes (a .log .now) = λ i. l .before .before .before .before .before .before .before .before .before .shared-slice-known .given i .fits in
+    let at-step = c .before .before .before .before .before .before .before .before .before .before .before .before .before .before .before .before .before .before .before .before .before .before .before .before .before .before .before .before .before in
+    let at-read-on = at-step .before .before in
+    let l = at-read-on .before in
+    let at-shared-slice-known = l .before .before .before .before .before .before .before .before .before in
+    let start = at-shared-slice-known .before in
+    let a = start .args in
+    let b : Bytes (a .log .now) = λ i. at-shared-slice-known .shared-slice-known .given i .fits in
     let v = l .loop .inv in
-    let g = c .before .before .before .before .before .before .before .before .before .before .before .before .before .before .before .before .before .before .before .before .before .before .before .before .before .before .before .before .before .step .given in
-    let q = sym (c .before .before .before .before .before .before .before .before .before .before .before .before .before .before .before .before .before .before .before .before .before .before .before .before .before .before .before .before .before .before .before .read-on .ensures) ∙ g .1 in
+    let g = at-step .step .given in
+    let q = sym (at-read-on .read-on .ensures) ∙ g .1 in
     let h = ahead (a .log .now) b (g .0 .0) (l .loop .place) q in
     let o = h .on in
     let w = h .within in
@@ -228,13 +293,25 @@ loop-less c =
 
 loop-again : tie.Need-loop-again Inv-loop μ-loop
 loop-again c =
-    let l = c .before .before .before .before .before .before .before .before .before .before .before .before .before .before .before .before .before .before .before .before .before .before .before .before .before .before .before .before .before .before .before .before in
-    let a = l .before .before .before .before .before .before .before .before .before .before .args in
-    let b : Bytes (a .log .now) = λ i. l .before .before .before .before .before .before .before .before .before .shared-slice-known .given i .fits in
+    let at-sure = c .before .before .before in
+    let at-pits = at-sure .before .before in
+    let at-tiles = at-pits .before .before in
+    let at-numbers = at-tiles .before in
+    let at-ledger = at-numbers .before .before in
+    let at-store = at-ledger .before .before in
+    let at-names = at-store .before .before in
+    let at-state = at-names .before .before in
+    let o = at-state .before in
+    let at-step = o .before .before .before .before .before .before .before .before .before .before .before .before in
+    let at-read-on = at-step .before .before in
+    let l = at-read-on .before in
+    let at-shared-slice-known = l .before .before .before .before .before .before .before .before .before in
+    let start = at-shared-slice-known .before in
+    let a = start .args in
+    let b : Bytes (a .log .now) = λ i. at-shared-slice-known .shared-slice-known .given i .fits in
     let v = l .loop .inv in
-    let g = c .before .before .before .before .before .before .before .before .before .before .before .before .before .before .before .before .before .before .before .before .before .before .before .before .before .before .before .before .before .step .given in
-    let q = sym (c .before .before .before .before .before .before .before .before .before .before .before .before .before .before .before .before .before .before .before .before .before .before .before .before .before .before .before .before .before .before .before .read-on .ensures) ∙ g .1 in
-    let o = c .before .before .before .before .before .before .before .before .before .before .before .before .before .before .before .before .before in
+    let g = at-step .step .given in
+    let q = sym (at-read-on .read-on .ensures) ∙ g .1 in
     let W = o .one-entry .ensures (heldBy (a .limits) (a .store .now) (a .ledger .now) (a .numbers .now) (v .entries)) (seenBy (a .limits) (a .store .now) (a .ledger .now) (a .numbers .now) (v .entries)) (answersBy (a .limits) (a .store .now) (a .ledger .now) (a .numbers .now) (v .entries)) (v .far .at) in
     let e = entrySaid (a .log .now) (g .0 .0) in
     let P = passed-more (a .log .now) b (v .entries) (l .loop .place) (v .passed) (g .0 .0) q in
@@ -242,14 +319,14 @@ loop-again c =
       entries = v .entries ++ e ∷ [];
       passed = P;
       far = far-more (a .limits) (a .store .now) (a .ledger .now) (a .numbers .now) (v .entries) _ _ _ _ _ _ _ _ _ (v .far) e (o .one-entry .result) _ _ _ _ _ _ _ _ (v .numbers-long) W (c .if1 .left);
-      state-long = c .before .before .before .before .before .before .before .before .before .before .before .before .before .before .before .before .state .given ∙ v .state-long;
-      names-long = c .before .before .before .before .before .before .before .before .before .before .before .before .before .before .names .given ∙ v .names-long;
-      store-long = c .before .before .before .before .before .before .before .before .before .before .before .before .store .given ∙ v .store-long;
-      ledger-long = c .before .before .before .before .before .before .before .before .before .before .ledger .given ∙ v .ledger-long;
-      numbers-long = c .before .before .before .before .before .before .before .before .numbers .given ∙ v .numbers-long;
-      tiles-long = c .before .before .before .before .before .before .before .tiles .given ∙ v .tiles-long;
-      pits-long = c .before .before .before .before .before .pits .given ∙ v .pits-long;
-      sure-long = c .before .before .before .sure .given ∙ v .sure-long;
+      state-long = at-state .state .given ∙ v .state-long;
+      names-long = at-names .names .given ∙ v .names-long;
+      store-long = at-store .store .given ∙ v .store-long;
+      ledger-long = at-ledger .ledger .given ∙ v .ledger-long;
+      numbers-long = at-numbers .numbers .given ∙ v .numbers-long;
+      tiles-long = at-tiles .tiles .given ∙ v .tiles-long;
+      pits-long = at-pits .pits .given ∙ v .pits-long;
+      sure-long = at-sure .sure .given ∙ v .sure-long;
     }
 
 pub walk-spec : {M : Type 1} → statement M

@@ -20,7 +20,9 @@ write-out-requires : tie.Need-write-out-requires
 write-out-requires c κs = search needs
 
 same-length : tie.Need-same-length
-same-length c = c .before .before .before .before .before .before .out .given
+same-length c =
+    let at-out = c .before .before .before .before .before .before in
+    at-out .out .given
 
 returns : tie.Need-returns
 returns c = search needs

@@ -26,7 +26,8 @@ returns : tie.Need-returns
 returns c =
     let t = c .before .before in
     let told = t .before .before in
-    let a = told .before .before .before .before .args in
+    let start = told .before .before .before .before in
+    let a = start .args in
     pours-is (t .pour-report .ensures) (sym (ap (λ (x : Answer). linesBy x (a .counted .report)) (told .enum-told .given .1)))
 
 same-length-2 : tie.Need-same-length-2
@@ -36,7 +37,8 @@ returns-2 : tie.Need-returns-2
 returns-2 c =
     let t = c .before .before in
     let told = t .before .before .before in
-    let a = told .before .before .before .before .args in
+    let start = told .before .before .before .before in
+    let a = start .args in
     pours-is (t .pour-refusal .ensures) (sym (ap (λ (x : Answer). linesBy x (a .counted .report)) (told .answer .given .1)))
 
 pub pour-count-spec : {M : Type 1} → statement M

@@ -28,7 +28,8 @@ same-length-4 c = search needs
 returns : tie.Need-returns
 returns c =
     let p = c .before .before in
-    let k = p .before .before .before .before .before .before .count-log .ensures in
+    let at-count-log = p .before .before .before .before .before .before in
+    let k = at-count-log .count-log .ensures in
     pours-is (p .pour-count .ensures) (ap countLines (k .gave) ∙ same-lines (k .outcome) ∙ ap outcomeLines (k .says .gave))
 
 pub pour-log-spec : {M : Type 1} → statement M

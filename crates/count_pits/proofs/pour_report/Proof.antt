@@ -23,7 +23,9 @@ slice-aggregate-pour-tiles-2 : tie.Need-slice-aggregate-pour-tiles-2
 slice-aggregate-pour-tiles-2 c = search needs
 
 slice-aggregate-pour-tiles-3 : tie.Need-slice-aggregate-pour-tiles-3
-slice-aggregate-pour-tiles-3 c = let g = c .before .before .before .before .before .before .before .before .before .before .before .before .before .before .before .before .before .before .before .before .before .before .good .1 .1 .0 .1 .1 .1 .1 .1 .1 .1 .1 .1 .1 .1 .0 in search needs
+slice-aggregate-pour-tiles-3 c =
+    let start = c .before .before .before .before .before .before .before .before .before .before .before .before .before .before .before .before .before .before .before .before .before .before in
+    let g = start .good .1 .1 .0 .1 .1 .1 .1 .1 .1 .1 .1 .1 .1 .1 .0 in search needs
 
 pour-tiles-requires : tie.Need-pour-tiles-requires
 pour-tiles-requires c κs = search needs

@@ -12,26 +12,24 @@ returns c = rw (lt-ltb _ _ (c .if1 .taken))
 count-of-requires : tie.Need-count-of-requires
 count-of-requires c κs = search needs
 
-wide-requires : tie.Need-wide-requires
-wide-requires c κs = search needs
+cast-if2 : tie.Need-cast-if2
+cast-if2 c = search needs
 
 returns-2 : tie.Need-returns-2
 unfolding planOf
 returns-2 c =
-    let at-wide = c .before in
-    let at-count-of = at-wide .before in
+    let at-count-of = c .before in
     let at-if1 = at-count-of .before in
-    rw (le-ltb _ _ (at-if1 .if1 .left), lt-ltb _ _ (rw (at-count-of .count-of .ensures, at-wide .wide .ensures) at (c .if2 .taken)))
+    rw (le-ltb _ _ (at-if1 .if1 .left), lt-ltb _ _ (rw (at-count-of .count-of .ensures) at (c .if2 .taken)))
 
 returns-3 : tie.Need-returns-3
 unfolding planOf
 returns-3 c =
     let at-if2 = c .before in
-    let at-wide = at-if2 .before in
-    let at-count-of = at-wide .before in
+    let at-count-of = at-if2 .before in
     let at-if1 = at-count-of .before in
     let n = at-count-of .count-of .ensures in
-    rw (le-ltb _ _ (at-if1 .if1 .left), le-ltb _ _ (rw (n, at-wide .wide .ensures) at (at-if2 .if2 .left)), le-leb _ _ (rw n at (c .if3 .taken)))
+    rw (le-ltb _ _ (at-if1 .if1 .left), le-ltb _ _ (rw n at (at-if2 .if2 .left)), le-leb _ _ (rw n at (c .if3 .taken)))
 
 length-of-requires : tie.Need-length-of-requires
 length-of-requires c κs = search needs
@@ -42,13 +40,12 @@ returns-4 c =
     let at-length-of = c .before in
     let at-if3 = at-length-of .before in
     let at-if2 = at-if3 .before in
-    let at-wide = at-if2 .before in
-    let at-count-of = at-wide .before in
+    let at-count-of = at-if2 .before in
     let at-if1 = at-count-of .before in
     let n = at-count-of .count-of .ensures in
     rw (
       le-ltb _ _ (at-if1 .if1 .left),
-      le-ltb _ _ (rw (n, at-wide .wide .ensures) at (at-if2 .if2 .left)),
+      le-ltb _ _ (rw n at (at-if2 .if2 .left)),
       lt-leb _ _ (rw n at (at-if3 .if3 .left)),
       lt-ltb _ _ (rw (at-length-of .length-of .ensures) at (c .if4 .taken)),
     )
@@ -59,14 +56,13 @@ returns-5 c =
     let at-length-of = c .before in
     let at-if3 = at-length-of .before in
     let at-if2 = at-if3 .before in
-    let at-wide = at-if2 .before in
-    let at-count-of = at-wide .before in
+    let at-count-of = at-if2 .before in
     let at-if1 = at-count-of .before in
     let n = at-count-of .count-of .ensures in
     let l = at-length-of .length-of .ensures in
     rw (
       le-ltb _ _ (at-if1 .if1 .left),
-      le-ltb _ _ (rw (n, at-wide .wide .ensures) at (at-if2 .if2 .left)),
+      le-ltb _ _ (rw n at (at-if2 .if2 .left)),
       lt-leb _ _ (rw n at (at-if3 .if3 .left)),
       le-ltb _ _ (rw l at (c .if4 .left)),
       n,
@@ -79,7 +75,7 @@ plan-spec =
     (tie.spec
     returns
     count-of-requires
-    wide-requires
+    cast-if2
     returns-2
     returns-3
     length-of-requires

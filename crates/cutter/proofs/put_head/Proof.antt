@@ -7,8 +7,8 @@ use borrow.Author.Needs.{needs}
 use Rattle.cutter.proofs.put_head.Statement.{statement}
 use Rattle.cutter.proofs.put_head.Tie as tie
 
-wide-requires : tie.Need-wide-requires
-wide-requires c κs = search needs
+cast-put : tie.Need-cast-put
+cast-put c = search needs
 
 put-requires : tie.Need-put-requires
 put-requires c κs = search needs
@@ -40,9 +40,8 @@ returns c =
     let p3 = p4 .before .before .before .before in
     let p2 = p3 .before .before .before .before in
     let p1 = p2 .before .before .before .before in
-    let d = p1 .before .before .before .before .args .out .now in
-    let w1 = rw (p1 .before .wide .ensures) at (p1 .put .ensures) in
-    let w2 = overlay-next d _ _ _ _ 4 w1 (simp length-bytes) (p2 .put2 .ensures) in
+    let d = p1 .before .before .before .args .out .now in
+    let w2 = overlay-next d _ _ _ _ 4 (p1 .put .ensures) (simp length-bytes) (p2 .put2 .ensures) in
     let w3 = overlay-next d _ _ _ _ 8 w2 (simp (length-append, length-bytes)) (p3 .put3 .ensures) in
     let w4 = overlay-next d _ _ _ _ 12 w3 (simp (length-append, length-bytes)) (p4 .put4 .ensures) in
     let w5 = overlay-next d _ _ _ _ 16 w4 (simp (length-append, length-bytes)) (p5 .put5 .ensures) in
@@ -52,7 +51,7 @@ pub put-head-spec : {M : Type 1} → statement M
 put-head-spec =
     tie.close
     (tie.spec
-    wide-requires
+    cast-put
     put-requires
     put-requires-2
     put-requires-3

@@ -8,8 +8,8 @@ use borrow.Author.Needs.{needs}
 use Rattle.cutter.proofs.put_small.Statement.{statement}
 use Rattle.cutter.proofs.put_small.Tie as tie
 
-wide-requires : tie.Need-wide-requires
-wide-requires c κs = search needs
+cast-put : tie.Need-cast-put
+cast-put c = search needs
 
 put-requires : tie.Need-put-requires
 put-requires c κs = search needs
@@ -43,11 +43,9 @@ returns c =
     let at-put-bytes = at-put3 .before .before .before .before in
     let at-put2 = at-put-bytes .before .before .before .before in
     let at-put = at-put2 .before .before .before .before in
-    let at-wide = at-put .before in
-    let start = at-wide .before .before .before .before .before in
+    let start = at-put .before .before .before .before .before in
     let d = start .args .out .now in
-    let w1 = rw (at-wide .wide .ensures) at (at-put .put .ensures) in
-    let w2 = overlay-next d _ _ _ _ 4 w1 (simp length-bytes) (at-put2 .put2 .ensures) in
+    let w2 = overlay-next d _ _ _ _ 4 (at-put .put .ensures) (simp length-bytes) (at-put2 .put2 .ensures) in
     let w3 = overlay-next d _ _ _ _ 8 w2 (simp (length-append, length-bytes)) (at-put-bytes .put-bytes .ensures) in
     let w4 = overlay-next d _ _ _ _ _ w3 (simp (length-append, length-bytes) (omega arith)) (at-put3 .put3 .ensures) in
     overlay-next d _ _ _ _ _ w4 (simp (length-append, length-bytes) (omega arith)) (at-put-bytes2 .put-bytes2 .ensures)
@@ -56,7 +54,7 @@ pub put-small-spec : {M : Type 1} → statement M
 put-small-spec =
     tie.close
     (tie.spec
-    wide-requires
+    cast-put
     put-requires
     put-requires-2
     put-bytes-requires

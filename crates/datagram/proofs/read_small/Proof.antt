@@ -1,11 +1,16 @@
 -- `datagram::read_small` meets its contract. Assumes nothing.
-use mathlib.Core.Path.{_∙_}
+use mathlib.Core.Path.{_≡_, _∙_}
 use native.Mathlib.Omega.{arith}
+use lib.ListN.{drop}
+use Rattle.datagram.specs.Name.{nameLength}
 use Rattle.datagram.specs.Read.{readSmall}
 use Rattle.datagram.proofs.Names.{named-rest, found-short}
 use borrow.Author.Needs.{needs}
 use Rattle.datagram.proofs.read_small.Statement.{statement}
 use Rattle.datagram.proofs.read_small.Tie as tie
+
+abbrev start : tie.After-name-length → tie.Start
+start c = c .before .before .before
 
 sub-name-length : tie.Need-sub-name-length
 sub-name-length c = search needs
@@ -25,12 +30,18 @@ enum-known-c c = search needs
 enum-told : tie.Need-enum-told
 enum-told c = search needs
 
+-- the name that was found
+named : (c : tie.After-name-length) → nameLength (drop 8 (start c .args .d .now)) ≡ c .name-length .result
+named c = named-rest (start c .args .d .now) 8 _ (c .name-length .ensures)
+
 returns : tie.Need-returns
 unfolding readSmall
-returns c = rw (named-rest (c .before .before .before .before .before .args .d .now) 8 _ (c .before .before .name-length .ensures) ∙ c .enum-told .given .1)
+returns c = rw (named (c .before .before) ∙ c .enum-told .given .1)
 
 add-at : tie.Need-add-at
-add-at c = omega (arith, found-short _ _ (named-rest (c .before .before .before .before .before .before .args .d .now) 8 _ (c .before .before .before .name-length .ensures) ∙ c .before .c .given .1))
+add-at c =
+    let known = c .before in
+    omega (arith, found-short _ _ (named (known .before .before) ∙ known .c .given .1))
 
 room-requires : tie.Need-room-requires
 room-requires c κs = search needs
@@ -44,8 +55,9 @@ cast-t11 c = search needs
 returns-2 : tie.Need-returns-2
 unfolding readSmall
 returns-2 c =
-    let name = named-rest (c .before .before .before .before .before .before .before .before .args .d .now) 8 _ (c .before .before .before .before .before .name-length .ensures) ∙ c .before .before .before .c .given .1 in
-    rw (name, c .four .ensures, c .before .room .ensures)
+    let room = c .before in
+    let known = room .before .before in
+    rw (named (known .before .before) ∙ known .c .given .1, c .four .ensures, room .room .ensures)
 
 pub read-small-spec : {M : Type 1} → statement M
 read-small-spec =

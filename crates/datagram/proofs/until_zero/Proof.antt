@@ -32,8 +32,9 @@ shared-slice-read-if1 c = search needs
 
 returns : tie.Need-returns Inv-loop μ-loop
 returns c =
-    let b = c .before .before .before .before .before .before .args .b .now in
-    omega (arith, c .before .before .before .loop .inv .2, zero-here b (c .before .before .before .loop .i) (omega arith) (c .if1 .taken))
+    let at = c .before .before .before in
+    let b = at .before .before .before .args .b .now in
+    omega (arith, at .loop .inv .2, zero-here b (at .loop .i) (omega arith) (c .if1 .taken))
 
 add-i : tie.Need-add-i Inv-loop μ-loop
 add-i c = search needs
@@ -43,15 +44,17 @@ loop-less c = search needs
 
 loop-again : tie.Need-loop-again Inv-loop μ-loop
 loop-again c =
-    let b = c .before .before .before .before .before .before .args .b .now in
-    (omega arith, c .before .before .before .loop .inv .1, c .before .before .before .loop .inv .2 ∙ zero-later b (c .before .before .before .loop .i) (omega arith) (c .if1 .left))
+    let at = c .before .before .before in
+    let b = at .before .before .before .args .b .now in
+    (omega arith, at .loop .inv .1, at .loop .inv .2 ∙ zero-later b (at .loop .i) (omega arith) (c .if1 .left))
 
 returns-2 : tie.Need-returns-2 Inv-loop μ-loop
 returns-2 c =
-    let b = c .before .before .before .before .args .b .now in
-    elim (decLe (length b) (c .before .loop .i)) [
-      | yes h ↦ omega (arith, c .before .loop .inv .2, zero-end b (c .before .loop .i) h)
-      | no h ↦ omega (arith, c .before .loop .inv .2)
+    let at = c .before in
+    let b = at .before .before .before .args .b .now in
+    elim (decLe (length b) (at .loop .i)) [
+      | yes h ↦ omega (arith, at .loop .inv .2, zero-end b (at .loop .i) h)
+      | no h ↦ omega (arith, at .loop .inv .2)
     ]
 
 pub until-zero-spec : {M : Type 1} → statement M

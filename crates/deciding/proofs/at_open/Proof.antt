@@ -27,12 +27,12 @@ as-word-requires c κs = search needs
 
 returns : tie.Need-returns
 returns c =
-    let args = c .before .before .before .before .before .before .before .before .args in
-    let pre = c .before .before .before .before .before .before .before .before .pre in
+    let at-as-word = c .before in
+    let at-word = at-as-word .before in
+    let start = at-word .before .before .before .before .before .before in
     let if1 = c .if1 in
-    let word = c .before .before .word in
-    let as-word = c .before .as-word in
-    ap (withHeader (args .h)) (sym (step3-other _ _ _ _ _ _ (other-size (args .state .now) (args .names .now) (args .s) (pre .0) (args .d .now) (args .h) (λ q. if1 .taken (word .ensures ∙ q ∙ sym (as-word .ensures))))))
+    let args = start .args in
+    ap (withHeader (args .h)) (sym (step3-other _ _ _ _ _ _ (other-size (args .state .now) (args .names .now) (args .s) (start .pre .0) (args .d .now) (args .h) (λ q. if1 .taken (at-word .word .ensures ∙ q ∙ sym (at-as-word .as-word .ensures))))))
 
 add-word-2 : tie.Need-add-word-2
 add-word-2 c = search needs
@@ -45,12 +45,12 @@ as-word-requires-2 c κs = search needs
 
 returns-2 : tie.Need-returns-2
 returns-2 c =
-    let args = c .before .before .before .before .before .before .before .before .before .before .before .args in
-    let pre = c .before .before .before .before .before .before .before .before .before .before .before .pre in
+    let at-as-word2 = c .before in
+    let at-word2 = at-as-word2 .before in
+    let start = at-word2 .before .before .before .before .before .before .before .before .before in
     let if2 = c .if2 in
-    let word2 = c .before .before .word2 in
-    let as-word2 = c .before .as-word2 in
-    ap (withHeader (args .h)) (sym (step3-other _ _ _ _ _ _ (other-count (args .state .now) (args .names .now) (args .s) (pre .0) (args .d .now) (args .h) (λ q. if2 .taken (word2 .ensures ∙ q ∙ sym (as-word2 .ensures))))))
+    let args = start .args in
+    ap (withHeader (args .h)) (sym (step3-other _ _ _ _ _ _ (other-count (args .state .now) (args .names .now) (args .s) (start .pre .0) (args .d .now) (args .h) (λ q. if2 .taken (at-word2 .word2 .ensures ∙ q ∙ sym (at-as-word2 .as-word2 .ensures))))))
 
 add-a : tie.Need-add-a
 add-a c = search needs
@@ -83,41 +83,41 @@ same-fragment-requires c κs =
 
 returns-3 : tie.Need-returns-3
 returns-3 c =
-    let args = c .before .before .before .before .before .before .before .before .before .before .before .before .before .before .before .before .before .args in
-    let pre = c .before .before .before .before .before .before .before .before .before .before .before .before .before .before .before .before .before .pre in
-    let word = c .before .before .before .before .before .before .before .before .before .before .before .word in
-    let if1 = c .before .before .before .before .before .before .before .before .before .if1 in
-    let as-word = c .before .before .before .before .before .before .before .before .before .before .as-word in
-    let word2 = c .before .before .before .before .before .before .before .before .word2 in
-    let if2 = c .before .before .before .before .before .before .if2 in
-    let as-word2 = c .before .before .before .before .before .before .before .as-word2 in
-    let as-size = c .before .before .before .before .as-size in
-    let is-held = c .before .before .before .is-held in
-    let if3 = c .before .before .if3 in
-    let same-fragment = c .before .same-fragment in
+    let at-same-fragment = c .before in
+    let at-if3 = at-same-fragment .before in
+    let at-is-held = at-if3 .before in
+    let at-as-size = at-is-held .before in
+    let at-if2 = at-as-size .before .before in
+    let at-as-word2 = at-if2 .before in
+    let at-word2 = at-as-word2 .before in
+    let at-if1 = at-word2 .before in
+    let at-as-word = at-if1 .before in
+    let at-word = at-as-word .before in
+    let start = at-word .before .before .before .before .before .before in
     let if4 = c .if4 in
-    let both = same-both (args .state .now) (args .names .now) (args .s) (pre .0) (args .d .now) (args .h) (sym (word .ensures) ∙ if1 .left ∙ as-word .ensures) (sym (word2 .ensures) ∙ if2 .left ∙ as-word2 .ensures) in
-    let held = held-asked (args .state .now) (args .names .now) (args .s) (pre .0) _ (args .h .number) (blockAt (args .s) + heldWord) _ _ refl refl (as-size .ensures .0) (is-held .ensures) in
-    ap (withHeader (args .h)) (sym (step3-again _ _ _ _ _ _ both (held ∙ if3 .taken) (sym (same-fragment .ensures) ∙ if4 .taken)))
+    let args = start .args in
+    let both = same-both (args .state .now) (args .names .now) (args .s) (start .pre .0) (args .d .now) (args .h) (sym (at-word .word .ensures) ∙ at-if1 .if1 .left ∙ at-as-word .as-word .ensures) (sym (at-word2 .word2 .ensures) ∙ at-if2 .if2 .left ∙ at-as-word2 .as-word2 .ensures) in
+    let held = held-asked (args .state .now) (args .names .now) (args .s) (start .pre .0) _ (args .h .number) (blockAt (args .s) + heldWord) _ _ refl refl (at-as-size .as-size .ensures .0) (at-is-held .is-held .ensures) in
+    ap (withHeader (args .h)) (sym (step3-again _ _ _ _ _ _ both (held ∙ at-if3 .if3 .taken) (sym (at-same-fragment .same-fragment .ensures) ∙ if4 .taken)))
 
 returns-4 : tie.Need-returns-4
 returns-4 c =
-    let args = c .before .before .before .before .before .before .before .before .before .before .before .before .before .before .before .before .before .args in
-    let pre = c .before .before .before .before .before .before .before .before .before .before .before .before .before .before .before .before .before .pre in
-    let word = c .before .before .before .before .before .before .before .before .before .before .before .word in
-    let if1 = c .before .before .before .before .before .before .before .before .before .if1 in
-    let as-word = c .before .before .before .before .before .before .before .before .before .before .as-word in
-    let word2 = c .before .before .before .before .before .before .before .before .word2 in
-    let if2 = c .before .before .before .before .before .before .if2 in
-    let as-word2 = c .before .before .before .before .before .before .before .as-word2 in
-    let as-size = c .before .before .before .before .as-size in
-    let is-held = c .before .before .before .is-held in
-    let if3 = c .before .before .if3 in
-    let same-fragment = c .before .same-fragment in
+    let at-same-fragment = c .before in
+    let at-if3 = at-same-fragment .before in
+    let at-is-held = at-if3 .before in
+    let at-as-size = at-is-held .before in
+    let at-if2 = at-as-size .before .before in
+    let at-as-word2 = at-if2 .before in
+    let at-word2 = at-as-word2 .before in
+    let at-if1 = at-word2 .before in
+    let at-as-word = at-if1 .before in
+    let at-word = at-as-word .before in
+    let start = at-word .before .before .before .before .before .before in
     let if4 = c .if4 in
-    let both = same-both (args .state .now) (args .names .now) (args .s) (pre .0) (args .d .now) (args .h) (sym (word .ensures) ∙ if1 .left ∙ as-word .ensures) (sym (word2 .ensures) ∙ if2 .left ∙ as-word2 .ensures) in
-    let held = held-asked (args .state .now) (args .names .now) (args .s) (pre .0) _ (args .h .number) (blockAt (args .s) + heldWord) _ _ refl refl (as-size .ensures .0) (is-held .ensures) in
-    ap (withHeader (args .h)) (sym (step3-differs _ _ _ _ _ _ both (held ∙ if3 .taken) (sym (same-fragment .ensures) ∙ if4 .left)))
+    let args = start .args in
+    let both = same-both (args .state .now) (args .names .now) (args .s) (start .pre .0) (args .d .now) (args .h) (sym (at-word .word .ensures) ∙ at-if1 .if1 .left ∙ at-as-word .as-word .ensures) (sym (at-word2 .word2 .ensures) ∙ at-if2 .if2 .left ∙ at-as-word2 .as-word2 .ensures) in
+    let held = held-asked (args .state .now) (args .names .now) (args .s) (start .pre .0) _ (args .h .number) (blockAt (args .s) + heldWord) _ _ refl refl (at-as-size .as-size .ensures .0) (at-is-held .is-held .ensures) in
+    ap (withHeader (args .h)) (sym (step3-differs _ _ _ _ _ _ both (held ∙ at-if3 .if3 .taken) (sym (at-same-fragment .same-fragment .ensures) ∙ if4 .left)))
 
 mul-from : tie.Need-mul-from
 mul-from c = search needs
@@ -145,47 +145,49 @@ fits-all-requires c κs = search needs
 
 returns-5 : tie.Need-returns-5
 returns-5 c =
-    let args = c .before .before .before .before .before .before .before .before .before .before .before .before .before .before .before .before .before .before .before .before .args in
-    let pre = c .before .before .before .before .before .before .before .before .before .before .before .before .before .before .before .before .before .before .before .before .pre in
-    let word = c .before .before .before .before .before .before .before .before .before .before .before .before .before .before .word in
-    let if1 = c .before .before .before .before .before .before .before .before .before .before .before .before .if1 in
-    let as-word = c .before .before .before .before .before .before .before .before .before .before .before .before .before .as-word in
-    let word2 = c .before .before .before .before .before .before .before .before .before .before .before .word2 in
-    let if2 = c .before .before .before .before .before .before .before .before .before .if2 in
-    let as-word2 = c .before .before .before .before .before .before .before .before .before .before .as-word2 in
-    let as-size = c .before .before .before .before .before .before .before .as-size in
-    let is-held = c .before .before .before .before .before .before .is-held in
-    let if3 = c .before .before .before .before .before .if3 in
-    let fits-all = c .before .fits-all in
+    let at-fits-all = c .before in
+    let at-if3 = at-fits-all .before .before .before .before in
+    let at-is-held = at-if3 .before in
+    let at-as-size = at-is-held .before in
+    let at-if2 = at-as-size .before .before in
+    let at-as-word2 = at-if2 .before in
+    let at-word2 = at-as-word2 .before in
+    let at-if1 = at-word2 .before in
+    let at-as-word = at-if1 .before in
+    let at-word = at-as-word .before in
+    let start = at-word .before .before .before .before .before .before in
     let if5 = c .if5 in
-    let both = same-both (args .state .now) (args .names .now) (args .s) (pre .0) (args .d .now) (args .h) (sym (word .ensures) ∙ if1 .left ∙ as-word .ensures) (sym (word2 .ensures) ∙ if2 .left ∙ as-word2 .ensures) in
-    let held = held-asked (args .state .now) (args .names .now) (args .s) (pre .0) _ (args .h .number) (blockAt (args .s) + heldWord) _ _ refl refl (as-size .ensures .0) (is-held .ensures) in
-    let lent = held-lent (args .state .now) (args .names .now) (args .s) (pre .0) (blockAt (args .s) + heldWord) _ refl refl in
-    let all = agree-all (args .state .now) (args .names .now) (args .s) (pre .0) (args .d .now) (args .h) (args .ledger .now) _ (2 * maxFragments * args .s) _ (args .h .payload .len)
-    lent (pre .3) (pre .2 .few (pre .4)) (sym (word2 .ensures) ∙ if2 .left ∙ as-word2 .ensures) refl refl (sym (pre .2 .long)) in
-    ap (withHeader (args .h)) (sym (step3-join _ _ _ _ _ _ both (held ∙ if3 .left) (sym all ∙ sym (fits-all .ensures) ∙ if5 .taken)))
+    let args = start .args in
+    let both = same-both (args .state .now) (args .names .now) (args .s) (start .pre .0) (args .d .now) (args .h) (sym (at-word .word .ensures) ∙ at-if1 .if1 .left ∙ at-as-word .as-word .ensures) (sym (at-word2 .word2 .ensures) ∙ at-if2 .if2 .left ∙ at-as-word2 .as-word2 .ensures) in
+    let held = held-asked (args .state .now) (args .names .now) (args .s) (start .pre .0) _ (args .h .number) (blockAt (args .s) + heldWord) _ _ refl refl (at-as-size .as-size .ensures .0) (at-is-held .is-held .ensures) in
+    let lent = held-lent (args .state .now) (args .names .now) (args .s) (start .pre .0) (blockAt (args .s) + heldWord) _ refl refl in
+    let all = agree-all (args .state .now) (args .names .now) (args .s) (start .pre .0) (args .d .now) (args .h) (args .ledger .now) _ (2 * maxFragments * args .s) _ (args .h .payload .len)
+    lent (start .pre .3) (start .pre .2 .few (start .pre .4)) (sym (at-word2 .word2 .ensures) ∙ at-if2 .if2 .left ∙ at-as-word2 .as-word2 .ensures) refl refl (sym (start .pre .2 .long)) in
+    ap (withHeader (args .h)) (sym (step3-join _ _ _ _ _ _ both (held ∙ at-if3 .if3 .left) (sym all ∙ sym (at-fits-all .fits-all .ensures) ∙ if5 .taken)))
 
 returns-6 : tie.Need-returns-6
 returns-6 c =
-    let args = c .before .before .before .before .before .before .before .before .before .before .before .before .before .before .before .before .before .before .before .before .args in
-    let pre = c .before .before .before .before .before .before .before .before .before .before .before .before .before .before .before .before .before .before .before .before .pre in
-    let word = c .before .before .before .before .before .before .before .before .before .before .before .before .before .before .word in
-    let if1 = c .before .before .before .before .before .before .before .before .before .before .before .before .if1 in
-    let as-word = c .before .before .before .before .before .before .before .before .before .before .before .before .before .as-word in
-    let word2 = c .before .before .before .before .before .before .before .before .before .before .before .word2 in
-    let if2 = c .before .before .before .before .before .before .before .before .before .if2 in
-    let as-word2 = c .before .before .before .before .before .before .before .before .before .before .as-word2 in
-    let as-size = c .before .before .before .before .before .before .before .as-size in
-    let is-held = c .before .before .before .before .before .before .is-held in
-    let if3 = c .before .before .before .before .before .if3 in
-    let fits-all = c .before .fits-all in
+    let at-fits-all = c .before in
+    let at-if3 = at-fits-all .before .before .before .before in
+    let at-is-held = at-if3 .before in
+    let at-as-size = at-is-held .before in
+    let at-if2 = at-as-size .before .before in
+    let at-as-word2 = at-if2 .before in
+    let at-word2 = at-as-word2 .before in
+    let at-if1 = at-word2 .before in
+    let at-as-word = at-if1 .before in
+    let at-word = at-as-word .before in
+    let start = at-word .before .before .before .before .before .before in
     let if5 = c .if5 in
-    let both = same-both (args .state .now) (args .names .now) (args .s) (pre .0) (args .d .now) (args .h) (sym (word .ensures) ∙ if1 .left ∙ as-word .ensures) (sym (word2 .ensures) ∙ if2 .left ∙ as-word2 .ensures) in
-    let held = held-asked (args .state .now) (args .names .now) (args .s) (pre .0) _ (args .h .number) (blockAt (args .s) + heldWord) _ _ refl refl (as-size .ensures .0) (is-held .ensures) in
-    let lent = held-lent (args .state .now) (args .names .now) (args .s) (pre .0) (blockAt (args .s) + heldWord) _ refl refl in
-    let all = agree-all (args .state .now) (args .names .now) (args .s) (pre .0) (args .d .now) (args .h) (args .ledger .now) _ (2 * maxFragments * args .s) _ (args .h .payload .len)
-    lent (pre .3) (pre .2 .few (pre .4)) (sym (word2 .ensures) ∙ if2 .left ∙ as-word2 .ensures) refl refl (sym (pre .2 .long)) in
-    ap (withHeader (args .h)) (sym (step3-clash _ _ _ _ _ _ both (held ∙ if3 .left) (sym all ∙ sym (fits-all .ensures) ∙ if5 .left)))
+    let args = start .args in
+    let both = same-both (args .state .now) (args .names .now) (args .s) (start .pre .0) (args .d .now) (args .h) (sym (at-word .word .ensures) ∙ at-if1 .if1 .left ∙ at-as-word .as-word .ensures) (sym (at-word2 .word2 .ensures) ∙ at-if2 .if2 .left ∙ at-as-word2 .as-word2 .ensures) in
+    let held = held-asked (args .state .now) (args .names .now) (args .s) (start .pre .0) _ (args .h .number) (blockAt (args .s) + heldWord) _ _ refl refl (at-as-size .as-size .ensures .0) (at-is-held .is-held .ensures) in
+    let lent = held-lent (args .state .now) (args .names .now) (args .s) (start .pre .0) (blockAt (args .s) + heldWord) _ refl refl in
+    let all = agree-all (args .state .now) (args .names .now) (args .s) (start .pre .0) (args .d .now) (args .h) (args .ledger .now) _ (2 * maxFragments * args .s) _ (args .h .payload .len)
+    lent (start .pre .3) (start .pre .2 .few (start .pre .4)) (sym (at-word2 .word2 .ensures) ∙ at-if2 .if2 .left ∙ at-as-word2 .as-word2 .ensures) refl refl (sym (start .pre .2 .long)) in
+    ap (withHeader (args .h)) (sym (step3-clash _ _ _ _ _ _ both (held ∙ at-if3 .if3 .left) (sym all ∙ sym (at-fits-all .fits-all .ensures) ∙ if5 .left)))
 
 pub at-open-spec : {M : Type 1} → statement M
-at-open-spec = tie.close (tie.spec mul-b add-b add-word word-requires as-word-requires returns add-word-2 word-requires-2 as-word-requires-2 returns-2 add-a add-e mul-held sub-held part-held-start part-held-end as-size-requires is-held-requires same-fragment-requires returns-3 returns-4 mul-from add-to mul-fits-all sub-fits-all part-fits-all-start part-fits-all-end cast-fits-all fits-all-requires returns-5 returns-6)
+at-open-spec = tie.close (tie.spec mul-b add-b add-word word-requires as-word-requires returns add-word-2 word-requires-2 as-word-requires-2 returns-2
+    add-a add-e mul-held sub-held part-held-start part-held-end as-size-requires is-held-requires same-fragment-requires returns-3 returns-4
+    mul-from add-to mul-fits-all sub-fits-all part-fits-all-start part-fits-all-end cast-fits-all fits-all-requires returns-5 returns-6)

@@ -17,10 +17,11 @@ is-ready-requires c κs = search needs
 
 returns : tie.Need-returns
 returns c =
-    let args = c .before .before .before .before .before .before .before .args in
-    let is-ready = c .before .is-ready in
+    let at-is-ready = c .before in
+    let start = at-is-ready .before .before .before .before .before .before in
     let if1 = c .if1 in
-    sym (unready (args .state .now) (args .names .now) (args .store .now) (args .ledger .now) (args .sender) (args .d .now) (sym (is-ready .ensures) ∙ not-true _ (if1 .taken)))
+    let args = start .args in
+    sym (unready (args .state .now) (args .names .now) (args .store .now) (args .ledger .now) (args .sender) (args .d .now) (sym (at-is-ready .is-ready .ensures) ∙ not-true _ (if1 .taken)))
 
 word-requires : tie.Need-word-requires
 word-requires c κs = search needs
@@ -39,42 +40,45 @@ passed-on-requires c κs = search needs
 
 returns-2 : tie.Need-returns-2
 returns-2 c =
-    let is-ready = c .before .before .before .before .before .before .is-ready in
-    let if1 = c .before .before .before .before .before .if1 in
-    let read-datagram = c .before .before .before .read-datagram in
-    let args = c .before .before .before .before .before .before .before .before .before .before .before .before .args in
-    let word = c .before .before .before .before .word in
-    let enum-told = c .before .enum-told in
+    let at-enum-told = c .before in
+    let at-read-datagram = at-enum-told .before .before in
+    let at-word = at-read-datagram .before in
+    let at-if1 = at-word .before in
+    let at-is-ready = at-if1 .before in
+    let start = at-is-ready .before .before .before .before .before .before in
     let passed-on = c .passed-on in
-    let ok = sym (is-ready .ensures) ∙ not-false _ (if1 .left) in
-    let reads = sym (read-datagram .ensures ∙ ap (λ k. readDatagram k maxFragments (args .d .now)) (word .ensures)) ∙ enum-told .given .1 in
-    ap Refuse (passed-on .ensures ∙ ap passedOn (enum-told .given .1)) ∙ sym (decided-refused (args .state .now) (args .names .now) (args .store .now) (args .ledger .now) (args .sender) (args .d .now) ok _ reads)
+    let args = start .args in
+    let ok = sym (at-is-ready .is-ready .ensures) ∙ not-false _ (at-if1 .if1 .left) in
+    let reads = sym (at-read-datagram .read-datagram .ensures .answer ∙ ap (λ k. readDatagram k maxFragments (args .d .now)) (at-word .word .ensures)) ∙ at-enum-told .enum-told .given .1 in
+    ap Refuse (passed-on .ensures ∙ ap passedOn (at-enum-told .enum-told .given .1)) ∙ sym (decided-refused (args .state .now) (args .names .now) (args .store .now) (args .ledger .now) (args .sender) (args .d .now) ok _ reads)
 
 by-key-requires : tie.Need-by-key-requires
 by-key-requires c κs =
-    let is-ready = c .before .before .before .before .before .before .is-ready in
-    let if1 = c .before .before .before .before .before .if1 in
-    let read-datagram = c .before .before .before .read-datagram in
-    let args = c .before .before .before .before .before .before .before .before .before .before .before .before .args in
-    let word = c .before .before .before .before .word in
-    let read = c .before .read in
-    let ok = sym (is-ready .ensures) ∙ not-false _ (if1 .left) in
-    let reads = sym (read-datagram .ensures ∙ ap (λ k. readDatagram k maxFragments (args .d .now)) (word .ensures)) ∙ read .given .1 in
+    let at-read = c .before in
+    let at-read-datagram = at-read .before .before in
+    let at-word = at-read-datagram .before in
+    let at-if1 = at-word .before in
+    let at-is-ready = at-if1 .before in
+    let start = at-is-ready .before .before .before .before .before .before in
+    let args = start .args in
+    let ok = sym (at-is-ready .is-ready .ensures) ∙ not-false _ (at-if1 .if1 .left) in
+    let reads = sym (at-read-datagram .read-datagram .ensures .answer ∙ ap (λ k. readDatagram k maxFragments (args .d .now)) (at-word .word .ensures)) ∙ at-read .read .given .1 in
     let w = args .state .now in
     let n = args .names .now in
     (ready-is w n _ _ ok, told _ (args .d .now) _ reads, ready-ledger w n _ _ ok)
 
 returns-3 : tie.Need-returns-3
 returns-3 c =
-    let is-ready = c .before .before .before .before .before .before .before .is-ready in
-    let if1 = c .before .before .before .before .before .before .if1 in
-    let read-datagram = c .before .before .before .before .read-datagram in
-    let args = c .before .before .before .before .before .before .before .before .before .before .before .before .before .args in
-    let word = c .before .before .before .before .before .word in
-    let read = c .before .before .read in
+    let at-read = c .before .before in
+    let at-read-datagram = at-read .before .before in
+    let at-word = at-read-datagram .before in
+    let at-if1 = at-word .before in
+    let at-is-ready = at-if1 .before in
+    let start = at-is-ready .before .before .before .before .before .before in
     let by-key = c .by-key in
-    let ok = sym (is-ready .ensures) ∙ not-false _ (if1 .left) in
-    let reads = sym (read-datagram .ensures ∙ ap (λ k. readDatagram k maxFragments (args .d .now)) (word .ensures)) ∙ read .given .1 in
+    let args = start .args in
+    let ok = sym (at-is-ready .is-ready .ensures) ∙ not-false _ (at-if1 .if1 .left) in
+    let reads = sym (at-read-datagram .read-datagram .ensures .answer ∙ ap (λ k. readDatagram k maxFragments (args .d .now)) (at-word .word .ensures)) ∙ at-read .read .given .1 in
     by-key .ensures ∙ sym (decided-good (args .state .now) (args .names .now) (args .store .now) (args .ledger .now) (args .sender) (args .d .now) ok _ reads)
 
 pub decide-spec : {M : Type 1} → statement M

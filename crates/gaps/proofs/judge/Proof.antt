@@ -22,7 +22,7 @@ returns c =
     let k = c .before .before in
     let r = k .before .before in
     let w = r .before .before .args .w in
-    let e = sym (k .read .given .1) ∙ r .read-datagram .ensures in
+    let e = sym (k .read .given .1) ∙ r .read-datagram .ensures .answer in
     record { answer = c .see .ensures .answer ∙ ap (saidOf w) e; watch = c .see .ensures .watch ∙ ap (afterOf w) e }
 
 returns-2 : tie.Need-returns-2
@@ -30,7 +30,7 @@ returns-2 c =
     let k = c .before in
     let r = k .before .before in
     let w = r .before .before .args .w in
-    let e = sym (k .read2 .given .1) ∙ r .read-datagram .ensures in
+    let e = sym (k .read2 .given .1) ∙ r .read-datagram .ensures .answer in
     record { answer = ap (saidOf w) e; watch = ap (afterOf w) e }
 
 pub judge-spec : {M : Type 1} → statement M

@@ -33,8 +33,8 @@ add-result c =
 enum-known-n : tie.Need-enum-known-n
 enum-known-n c = search needs
 
-wide-requires : tie.Need-wide-requires
-wide-requires c κs = search needs
+cast-result : tie.Need-cast-result
+cast-result c = search needs
 
 same-length : tie.Need-same-length
 same-length c = search needs
@@ -50,9 +50,9 @@ same-length-2 c = search needs
 
 returns-2 : tie.Need-returns-2
 returns-2 c =
-    let at-n = c .before .before in
+    let at-n = c .before in
     let at-cut-datagram = at-n .before .before .before .before in
-    cut-told _ _ _ _ _ _ _ _ _ (at-cut-datagram .cut-datagram .ensures) (c .wide .ensures ∙ sym (ap (λ (r : Cut). codeOf (says r)) (at-n .n .given .1)))
+    cut-told _ _ _ _ _ _ _ _ _ (at-cut-datagram .cut-datagram .ensures) (sym (ap (λ (r : Cut). codeOf (says r)) (at-n .n .given .1)))
 
 pub qm-cut-spec : {M : Type 1} → statement M
 qm-cut-spec =
@@ -63,7 +63,7 @@ qm-cut-spec =
     mul-result
     add-result
     enum-known-n
-    wide-requires
+    cast-result
     same-length
     returns
     same-length-2

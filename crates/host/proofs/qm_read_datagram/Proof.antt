@@ -17,7 +17,7 @@ put-header-requires c κs =
     let at-h = c .before .before in
     let at-read-datagram = at-h .before .before in
     let start = at-read-datagram .before .before .before in
-    places-fit maxPayload maxFragments (start .args .datagram .now) _ (sym (at-read-datagram .read-datagram .ensures) ∙ at-h .h .given .1)
+    places-fit maxPayload maxFragments (start .args .datagram .now) _ (sym (at-read-datagram .read-datagram .ensures .answer) ∙ at-h .h .given .1)
 
 enum-known-n : tie.Need-enum-known-n
 enum-known-n c = search needs
@@ -30,13 +30,13 @@ returns c =
     let at-put-header = c .before .before in
     let at-h = at-put-header .before .before .before in
     let at-read-datagram = at-h .before .before in
-    rw (sym (at-read-datagram .read-datagram .ensures) ∙ at-h .h .given .1) (at-put-header .put-header .ensures)
+    rw (sym (at-read-datagram .read-datagram .ensures .answer) ∙ at-h .h .given .1) (at-put-header .put-header .ensures)
 
 returns-2 : tie.Need-returns-2
 returns-2 c =
     let at-n = c .before in
     let at-read-datagram = at-n .before .before in
-    rw (sym (at-read-datagram .read-datagram .ensures) ∙ at-n .n .given .1) (record { gave = refl; left = refl })
+    rw (sym (at-read-datagram .read-datagram .ensures .answer) ∙ at-n .n .given .1) (record { gave = refl; left = refl })
 
 pub qm-read-datagram-spec : {M : Type 1} → statement M
 qm-read-datagram-spec =

@@ -31,13 +31,17 @@ put-words-requires-4 : tie.Need-put-words-requires-4
 put-words-requires-4 c κs = search needs
 
 slice-aggregate-put-words-5 : tie.Need-slice-aggregate-put-words-5
-slice-aggregate-put-words-5 c = let pits = c .before .before .before .before .before .before .before .before .before .before .before .before .before .before .before .before .before .before .before .before .before .before .before .before .before .before .before .good .1 .0 .1 .1 .1 .1 .1 .1 .1 .1 .1 .1 .0 in search needs
+slice-aggregate-put-words-5 c =
+    let start = c .before .before .before .before .before .before .before .before .before .before .before .before .before .before .before .before .before .before .before .before .before .before .before .before .before .before .before in
+    let pits = start .good .1 .0 .1 .1 .1 .1 .1 .1 .1 .1 .1 .1 .0 in search needs
 
 put-words-requires-5 : tie.Need-put-words-requires-5
 put-words-requires-5 c κs = search needs
 
 slice-aggregate-put-words-6 : tie.Need-slice-aggregate-put-words-6
-slice-aggregate-put-words-6 c = let sure = c .before .before .before .before .before .before .before .before .before .before .before .before .before .before .before .before .before .before .before .before .before .before .before .before .before .before .before .before .before .before .before .before .good .1 .0 .1 .1 .1 .1 .1 .1 .1 .1 .1 .1 .1 .0 in search needs
+slice-aggregate-put-words-6 c =
+    let start = c .before .before .before .before .before .before .before .before .before .before .before .before .before .before .before .before .before .before .before .before .before .before .before .before .before .before .before .before .before .before .before .before in
+    let sure = start .good .1 .0 .1 .1 .1 .1 .1 .1 .1 .1 .1 .1 .1 .0 in search needs
 
 put-words-requires-6 : tie.Need-put-words-requires-6
 put-words-requires-6 c κs = search needs
@@ -53,7 +57,8 @@ returns c =
     let three = four .before .before .before .before .before in
     let two = three .before .before .before .before .before in
     let one = two .before .before .before .before .before in
-    let a = one .before .before .before .before .before .before .before .before .args in
+    let start = one .before .before .before .before .before .before .before .before in
+    let a = start .args in
     laid
     (a .list .now)
     _

@@ -7,7 +7,9 @@ use Rattle.host_count.proofs.qm_count.Statement.{statement}
 use Rattle.host_count.proofs.qm_count.Tie as tie
 
 returns : tie.Need-returns
-returns c = let a = c .before .before .before .before .before .args in not-counted (a .log .now) (a .store .now) (a .ledger .now) (a .numbers .now) (a .report .now) (c .if1 .taken)
+returns c =
+    let start = c .before .before .before .before .before in
+    let a = start .args in not-counted (a .log .now) (a .store .now) (a .ledger .now) (a .numbers .now) (a .report .now) (c .if1 .taken)
 
 count-log-requires : tie.Need-count-log-requires
 count-log-requires c κs = search needs
@@ -35,13 +37,15 @@ same-length-4 c = search needs
 
 returns-2 : tie.Need-returns-2
 returns-2 c =
-    let told = c .before .before .before .before in
+    let at-put-report = c .before .before in
+    let told = at-put-report .before .before in
     let l = told .before .before .before .before .before .before .before .before in
     let test = l .before .before .before .before in
-    let a = test .before .before .before .before .before .args in
+    let start = test .before .before .before .before .before in
+    let a = start .args in
     let e = told .enum-told .given .1 in
     told-as-counted (a .log .now) (a .store .now) (a .ledger .now) (a .numbers .now) (a .report .now) (test .if1 .left) (l .count-log .ensures) (sym (ap codeBy e))
-    (c .before .before .put-report .ensures ∙ sym (ap (λ (z : Answer). leftBy z (l .count-log .result .report) (a .report .now)) e))
+    (at-put-report .put-report .ensures ∙ sym (ap (λ (z : Answer). leftBy z (l .count-log .result .report) (a .report .now)) e))
 
 same-length-5 : tie.Need-same-length-5
 same-length-5 c = search needs
@@ -56,7 +60,8 @@ returns-3 : tie.Need-returns-3
 returns-3 c =
     let l = c .before .before .before .before .before .before .before .before .before in
     let test = l .before .before .before .before in
-    let a = test .before .before .before .before .before .args in
+    let start = test .before .before .before .before .before in
+    let a = start .args in
     let e = c .before .answer .given .1 in
     told-as-counted (a .log .now) (a .store .now) (a .ledger .now) (a .numbers .now) (a .report .now) (test .if1 .left) (l .count-log .ensures) (sym (ap codeBy e))
     (sym (ap (λ (z : Answer). leftBy z (l .count-log .result .report) (a .report .now)) e))

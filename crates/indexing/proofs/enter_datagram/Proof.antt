@@ -24,8 +24,10 @@ enum-told c = search needs
 
 returns : tie.Need-returns
 returns c =
-    let a = c .before .before .before .before .before .args in
-    take-none (a .sender) (a .place) (a .index .now) (a .n) _ _ (sym (c .before .before .read-datagram .ensures) ∙ c .enum-told .given .1)
+    let at-read-datagram = c .before .before in
+    let start = at-read-datagram .before .before .before in
+    let a = start .args in
+    take-none (a .sender) (a .place) (a .index .now) (a .n) _ _ (sym (at-read-datagram .read-datagram .ensures .answer) ∙ c .enum-told .given .1)
 
 cast-enter : tie.Need-cast-enter
 cast-enter c = search needs
@@ -41,9 +43,12 @@ same-length c = search needs
 
 returns-2 : tie.Need-returns-2
 returns-2 c =
-    let a = c .before .before .before .before .before .before .before .before .before .before .before .args in
-    let r = c .before .before .before .before .before .before in
-    take-one (a .sender) (a .place) (a .index .now) _ (a .n) _ _ (sym (r .before .before .read-datagram .ensures) ∙ r .read .given .1) (c .before .before .enter .ensures)
+    let at-enter = c .before .before in
+    let r = at-enter .before .before .before .before in
+    let at-read-datagram = r .before .before in
+    let start = at-read-datagram .before .before .before in
+    let a = start .args in
+    take-one (a .sender) (a .place) (a .index .now) _ (a .n) _ _ (sym (at-read-datagram .read-datagram .ensures .answer) ∙ r .read .given .1) (at-enter .enter .ensures)
 
 pub enter-datagram-spec : {M : Type 1} → statement M
 enter-datagram-spec =

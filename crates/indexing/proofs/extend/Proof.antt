@@ -25,15 +25,21 @@ same-length c = search needs
 
 returns : tie.Need-returns
 returns c =
-    let a = c .before .before .before .before .before .before .before .before .before .before .args in
-    let f = c .before .before .before .before .before in
-    let e = head-added (a .log .now) _ (a .from) _ (sym (f .before .before .first-entry .ensures) ∙ f .first .given .1) in
-    adds-same _ _ (a .index .now) (a .n) _ _ e (c .before .before .add .ensures)
+    let at-add = c .before .before in
+    let f = at-add .before .before .before in
+    let at-first-entry = f .before .before in
+    let start = at-first-entry .before .before .before in
+    let a = start .args in
+    let e = head-added (a .log .now) _ (a .from) _ (sym (at-first-entry .first-entry .ensures) ∙ f .first .given .1) in
+    adds-same _ _ (a .index .now) (a .n) _ _ e (at-add .add .ensures)
 
 returns-2 : tie.Need-returns-2
 returns-2 c =
-    let a = c .before .before .before .before .before .before .args in
-    let e = head-after (a .log .now) (a .from) _ (sym (c .before .before .before .first-entry .ensures) ∙ c .before .first2 .given .1) in
+    let at-first2 = c .before in
+    let at-first-entry = at-first2 .before .before in
+    let start = at-first-entry .before .before .before in
+    let a = start .args in
+    let e = head-after (a .log .now) (a .from) _ (sym (at-first-entry .first-entry .ensures) ∙ at-first2 .first2 .given .1) in
     stops (rowsAdded (a .log .now) (a .from)) (a .index .now) (a .n) _ e
 
 pub extend-spec : {M : Type 1} → statement M

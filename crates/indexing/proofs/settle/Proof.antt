@@ -29,8 +29,10 @@ same-length c = search needs
 
 returns-2 : tie.Need-returns-2
 returns-2 c =
-    let m = c .before .before .merge .ensures in
-    let t = c .before .before .before .before .if1 .left in
+    let at-merge = c .before .before in
+    let at-if1 = at-merge .before .before in
+    let m = at-merge .merge .ensures in
+    let t = at-if1 .if1 .left in
     record { sum = omega arith; size = ap length m ∙ rows-length _ _ _ _; waits = λ h. absurd (omega (arith, t, h)); settles = λ h. (refl, m) }
 
 pub settle-spec : {M : Type 1} → statement M

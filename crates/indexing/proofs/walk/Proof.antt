@@ -37,43 +37,64 @@ part-requires : tie.Need-part-requires Inv-loop μ-loop
 part-requires c κs = search needs
 
 enter-datagram-requires : tie.Need-enter-datagram-requires Inv-loop μ-loop
-enter-datagram-requires c κs = omega (arith, c .before .before .before .before .before .before .before .loop .inv .0, c .before .before .before .before .before .before .loop-test .taken, c .before .before .before .before .before .before .before .before .before .before .before .pre)
+enter-datagram-requires c κs =
+    let at-loop-test = c .before .before .before .before .before .before in
+    let turn = at-loop-test .before in
+    let start = turn .before .before .before .before in
+    omega (arith, turn .loop .inv .0, at-loop-test .loop-test .taken, start .pre)
 
 settle-requires : tie.Need-settle-requires Inv-loop μ-loop
 settle-requires c κs =
-    let t = c .before .before .before .before .enter-datagram .ensures in
-    omega (arith, t .next, t .few, c .before .before .before .before .before .before .before .before .before .before .before .before .loop .inv .0, c .before .before .before .before .before .before .before .before .before .before .before .loop-test .taken, c .before .before .before .before .before .before .before .before .before .before .before .before .before .before .before .before .pre)
+    let at-enter-datagram = c .before .before .before .before in
+    let at-loop-test = at-enter-datagram .before .before .before .before .before .before .before in
+    let turn = at-loop-test .before in
+    let start = turn .before .before .before .before in
+    let t = at-enter-datagram .enter-datagram .ensures in
+    omega (arith, t .next, t .few, turn .loop .inv .0, at-loop-test .loop-test .taken, start .pre)
 
 loop-less : tie.Need-loop-less Inv-loop μ-loop
 loop-less c =
-    let z = c .before .before .before .before .before .before .before .before .before .before .before .before .before .before .before .before .before .before in
-    let a = z .before .args in
-    let l = c .before .before .before .before .before .before .before .before .before .before .before .before .before .before .before .loop in
-    let all : Bytes (a .log .now) = λ i. omega (arith, z .shared-slice-known .given i) in
     let s = c .before .before .before .before .before .before .before .before .before .before .before in
-    let g = next-found (a .limits) (a .log .now) all (l .at) _ (sym (s .before .before .next-entry .ensures) ∙ s .step .given .1) in
+    let at-next-entry = s .before .before in
+    let turn = at-next-entry .before .before in
+    let z = turn .before .before .before in
+    let start = z .before in
+    let a = start .args in
+    let l = turn .loop in
+    let all : Bytes (a .log .now) = λ i. omega (arith, z .shared-slice-known .given i) in
+    let g = next-found (a .limits) (a .log .now) all (l .at) _ (sym (at-next-entry .next-entry .ensures) ∙ s .step .given .1) in
     omega (arith, g .on, g .within)
 
 loop-again : tie.Need-loop-again Inv-loop μ-loop
 loop-again c =
-    let z = c .before .before .before .before .before .before .before .before .before .before .before .before .before .before .before .before .before .before in
-    let a = z .before .args in
-    let l = c .before .before .before .before .before .before .before .before .before .before .before .before .before .before .before .loop in
+    let at-settle = c .before .before in
+    let at-enter-datagram = at-settle .before .before .before .before .before in
+    let at-part = at-enter-datagram .before .before in
+    let s = at-part .before .before in
+    let at-next-entry = s .before .before in
+    let turn = at-next-entry .before .before in
+    let z = turn .before .before .before in
+    let start = z .before in
+    let a = start .args in
+    let l = turn .loop in
     let all : Bytes (a .log .now) = λ i. omega (arith, z .shared-slice-known .given i) in
-    let s = c .before .before .before .before .before .before .before .before .before .before .before in
-    let g = next-found (a .limits) (a .log .now) all (l .at) _ (sym (s .before .before .next-entry .ensures) ∙ s .step .given .1) in
-    let e = c .before .before .before .before .before .before .before .enter-datagram .ensures in
-    let t = c .before .before .settle .ensures in
+    let g = next-found (a .limits) (a .log .now) all (l .at) _ (sym (at-next-entry .next-entry .ensures) ∙ s .step .given .1) in
+    let e = at-enter-datagram .enter-datagram .ensures in
+    let t = at-settle .settle .ensures in
     let w = s .step .given .0 .0 in
     let d : List ℕ → Read = λ b. readDatagram (a .limits .payload) (a .limits .fragments) b in
-    let h = g .rows ∙ ap (λ (b : List ℕ). ahead (rowFor (w .sender) (l .at) (d b)) (rowsFrom (a .limits) (a .log .now) (w .next))) (sym (c .before .before .before .before .before .before .before .before .before .part .ensures)) in
+    let h = g .rows ∙ ap (λ (b : List ℕ). ahead (rowFor (w .sender) (l .at) (d b)) (rowsFrom (a .limits) (a .log .now) (w .next))) (sym (at-part .part .ensures)) in
     (omega (arith, t .sum, e .next, e .few, l .inv .0, g .on), (omega (arith, g .within), going-next _ _ _ _ _ _ _ _ _ (l .inv .1 .1) _ _ h _ _ e _ _ _ t))
 
 enum-told : tie.Need-enum-told Inv-loop μ-loop
 enum-told c = search needs
 
 finish-requires : tie.Need-finish-requires Inv-loop μ-loop
-finish-requires c κs = omega (arith, c .before .before .before .before .before .before .loop .inv .0, c .before .before .before .before .before .loop-test .taken, c .before .before .before .before .before .before .before .before .before .before .pre)
+finish-requires c κs =
+    let at-loop-test = c .before .before .before .before .before in
+    let turn = at-loop-test .before in
+    let start = turn .before .before .before .before in
+    omega (arith, turn .loop .inv .0, at-loop-test .loop-test .taken, start .pre)
 
 same-length : tie.Need-same-length Inv-loop μ-loop
 same-length c = search needs
@@ -83,13 +104,17 @@ same-length-2 c = search needs
 
 returns : tie.Need-returns Inv-loop μ-loop
 returns c =
-    let z = c .before .before .before .before .before .before .before .before .before .before .before .before in
-    let a = z .before .args in
-    let l = c .before .before .before .before .before .before .before .before .before .loop in
+    let at-finish = c .before .before in
+    let k = at-finish .before .before .before in
+    let at-next-entry = k .before .before in
+    let turn = at-next-entry .before .before in
+    let z = turn .before .before .before in
+    let start = z .before in
+    let a = start .args in
+    let l = turn .loop in
     let all : Bytes (a .log .now) = λ i. omega (arith, z .shared-slice-known .given i) in
-    let k = c .before .before .before .before .before in
-    let e = next-ended (a .limits) (a .log .now) all (l .at) (sym (k .before .before .next-entry .ensures) ∙ k .enum-told .given .1) in
-    going-done _ _ _ _ _ _ _ _ _ (l .inv .1 .1) e _ _ (c .before .before .finish .ensures)
+    let e = next-ended (a .limits) (a .log .now) all (l .at) (sym (at-next-entry .next-entry .ensures) ∙ k .enum-told .given .1) in
+    going-done _ _ _ _ _ _ _ _ _ (l .inv .1 .1) e _ _ (at-finish .finish .ensures)
 
 enum-known-step-2 : tie.Need-enum-known-step-2 Inv-loop μ-loop
 enum-known-step-2 c = search needs
@@ -102,11 +127,15 @@ same-length-4 c = c .before .before .before .before .before .loop .inv .1 .1 .he
 
 returns-2 : tie.Need-returns-2 Inv-loop μ-loop
 returns-2 c =
-    let z = c .before .before .before .before .before .before .before .before in
-    let a = z .before .args in
-    let l = c .before .before .before .before .before .loop in
+    let at-step2 = c .before in
+    let at-next-entry = at-step2 .before .before in
+    let turn = at-next-entry .before .before in
+    let z = turn .before .before .before in
+    let start = z .before in
+    let a = start .args in
+    let l = turn .loop in
     let all : Bytes (a .log .now) = λ i. omega (arith, z .shared-slice-known .given i) in
-    let e = next-refused (a .limits) (a .log .now) all (l .at) _ (sym (c .before .before .before .next-entry .ensures) ∙ c .before .step2 .given .1) in
+    let e = next-refused (a .limits) (a .log .now) all (l .at) _ (sym (at-next-entry .next-entry .ensures) ∙ at-step2 .step2 .given .1) in
     record {
       answer = going-refused _ _ _ _ _ _ _ _ _ (l .inv .1 .1) _ e;
       size = l .inv .1 .1 .size;
@@ -114,7 +143,10 @@ returns-2 c =
     }
 
 finish-requires-2 : tie.Need-finish-requires-2 Inv-loop μ-loop
-finish-requires-2 c κs = omega (arith, c .before .before .before .loop .inv .0, c .before .before .before .loop .inv .1 .0, c .before .before .before .before .before .before .before .pre)
+finish-requires-2 c κs =
+    let turn = c .before .before .before in
+    let start = turn .before .before .before .before in
+    omega (arith, turn .loop .inv .0, turn .loop .inv .1 .0, start .pre)
 
 same-length-5 : tie.Need-same-length-5 Inv-loop μ-loop
 same-length-5 c = search needs
@@ -124,12 +156,16 @@ same-length-6 c = search needs
 
 returns-3 : tie.Need-returns-3 Inv-loop μ-loop
 returns-3 c =
-    let z = c .before .before .before .before .before .before .before .before .before in
-    let a = z .before .args in
-    let l = c .before .before .before .before .before .before .loop in
+    let at-finish2 = c .before .before in
+    let at-loop-test = at-finish2 .before .before .before in
+    let turn = at-loop-test .before in
+    let z = turn .before .before .before in
+    let start = z .before in
+    let a = start .args in
+    let l = turn .loop in
     let all : Bytes (a .log .now) = λ i. omega (arith, z .shared-slice-known .given i) in
-    let e = rows-past (a .limits) (a .log .now) all (l .at) (c .before .before .before .before .before .loop-test .left) in
-    going-done _ _ _ _ _ _ _ _ _ (l .inv .1 .1) e _ _ (c .before .before .finish2 .ensures)
+    let e = rows-past (a .limits) (a .log .now) all (l .at) (at-loop-test .loop-test .left) in
+    going-done _ _ _ _ _ _ _ _ _ (l .inv .1 .1) e _ _ (at-finish2 .finish2 .ensures)
 
 pub walk-spec : {M : Type 1} → statement M
 walk-spec =

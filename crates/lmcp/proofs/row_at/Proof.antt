@@ -17,7 +17,10 @@ array-copy-out-result : tie.Need-array-copy-out-result
 array-copy-out-result c = search needs
 
 returns : tie.Need-returns
-returns c = let s = c .before .before .before in rows-are (s .args .version) (s .args .i) true (eq-eqb _ 2 (c .before .before .if1 .taken))
+returns c =
+    let at-if1 = c .before .before in
+    let s = at-if1 .before in
+    rows-are (s .args .version) (s .args .i) true (eq-eqb _ 2 (at-if1 .if1 .taken))
 
 returns-2 : tie.Need-returns-2
 returns-2 c =
@@ -31,7 +34,10 @@ array-copy-out-result-2 : tie.Need-array-copy-out-result-2
 array-copy-out-result-2 c = search needs
 
 returns-3 : tie.Need-returns-3
-returns-3 c = let s = c .before .before .before in rows-are (s .args .version) (s .args .i) false (ne-eqb _ 2 (c .before .before .if1 .left))
+returns-3 c =
+    let at-if1 = c .before .before in
+    let s = at-if1 .before in
+    rows-are (s .args .version) (s .args .i) false (ne-eqb _ 2 (at-if1 .if1 .left))
 
 returns-4 : tie.Need-returns-4
 returns-4 c =

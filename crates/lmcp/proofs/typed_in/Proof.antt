@@ -11,10 +11,18 @@ returns-2 : tie.Need-returns-2
 returns-2 c = typed-high (pitsurv (c .before .before .args .version)) _ _ (c .if2 .taken)
 
 returns-3 : tie.Need-returns-3
-returns-3 c = typed-any (pitsurv (c .before .before .before .args .version)) _ _ (c .before .before .if1 .left) (c .before .if2 .left) (c .if3 .taken)
+returns-3 c =
+    let at-if2 = c .before in
+    let at-if1 = at-if2 .before in
+    let start = at-if1 .before in
+    typed-any (pitsurv (start .args .version)) _ _ (at-if1 .if1 .left) (at-if2 .if2 .left) (c .if3 .taken)
 
 returns-4 : tie.Need-returns-4
-returns-4 c = typed-declared (pitsurv (c .before .before .before .args .version)) _ _ (c .before .before .if1 .left) (c .before .if2 .left) (c .if3 .left)
+returns-4 c =
+    let at-if2 = c .before in
+    let at-if1 = at-if2 .before in
+    let start = at-if1 .before in
+    typed-declared (pitsurv (start .args .version)) _ _ (at-if1 .if1 .left) (at-if2 .if2 .left) (c .if3 .left)
 
 pub typed-in-spec : {M : Type 1} → statement M
 typed-in-spec = tie.close (tie.spec returns returns-2 returns-3 returns-4)

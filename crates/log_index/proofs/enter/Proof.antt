@@ -23,9 +23,13 @@ same-length c = search needs
 returns : tie.Need-returns
 unfolding entered
 returns c =
-    let a = c .before .before .before .before .before .before .before .before .args in
-    rw (lt-ltb _ _ (c .before .before .before .before .before .before .if1 .taken))
-    (c .before .before .insert .ensures ∙ ap (λ (k : ℕ). inserted (a .index .now) k (a .n) 0 (rowOf (a .sender) (a .sequence) (a .place))) (c .before .before .before .before .rank .ensures .0))
+    let at-insert = c .before .before in
+    let at-rank = at-insert .before .before in
+    let at-if1 = at-rank .before .before in
+    let start = at-if1 .before .before in
+    let a = start .args in
+    rw (lt-ltb _ _ (at-if1 .if1 .taken))
+    (at-insert .insert .ensures ∙ ap (λ (k : ℕ). inserted (a .index .now) k (a .n) 0 (rowOf (a .sender) (a .sequence) (a .place))) (at-rank .rank .ensures .0))
 
 returns-2 : tie.Need-returns-2
 unfolding entered

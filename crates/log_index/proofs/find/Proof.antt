@@ -25,21 +25,32 @@ mul-t12 c = search needs
 
 shared-slice-read-t14 : tie.Need-shared-slice-read-t14
 shared-slice-read-t14 c =
-    let a = c .before .before .before .before .before .before .args in
-    let k = c .before .before .before in
-    found-inside (a .index .now) (a .n) (a .sender) (a .sequence) _ _ (k .before .least .ensures) (k .rank .ensures .0) (sym (c .before .before .is-of .ensures) ∙ c .before .if1 .taken)
+    let at-if1 = c .before in
+    let at-is-of = at-if1 .before in
+    let k = at-is-of .before in
+    let at-least = k .before in
+    let start = at-least .before .before in
+    let a = start .args in
+    found-inside (a .index .now) (a .n) (a .sender) (a .sequence) _ _ (at-least .least .ensures) (k .rank .ensures .0) (sym (at-is-of .is-of .ensures) ∙ at-if1 .if1 .taken)
 
 returns : tie.Need-returns
 returns c =
-    let a = c .before .before .before .before .before .before .args in
-    let k = c .before .before .before in
-    found-some (a .index .now) (a .n) (a .sender) (a .sequence) _ _ (k .before .least .ensures) (k .rank .ensures .0) (sym (c .before .before .is-of .ensures) ∙ c .before .if1 .taken)
+    let at-if1 = c .before in
+    let at-is-of = at-if1 .before in
+    let k = at-is-of .before in
+    let at-least = k .before in
+    let start = at-least .before .before in
+    let a = start .args in
+    found-some (a .index .now) (a .n) (a .sender) (a .sequence) _ _ (at-least .least .ensures) (k .rank .ensures .0) (sym (at-is-of .is-of .ensures) ∙ at-if1 .if1 .taken)
 
 returns-2 : tie.Need-returns-2
 returns-2 c =
-    let a = c .before .before .before .before .before .args in
-    let k = c .before .before in
-    found-none (a .index .now) (a .n) (a .sender) (a .sequence) _ _ (k .before .least .ensures) (k .rank .ensures .0) (sym (c .before .is-of .ensures) ∙ c .if1 .left)
+    let at-is-of = c .before in
+    let k = at-is-of .before in
+    let at-least = k .before in
+    let start = at-least .before .before in
+    let a = start .args in
+    found-none (a .index .now) (a .n) (a .sender) (a .sequence) _ _ (at-least .least .ensures) (k .rank .ensures .0) (sym (at-is-of .is-of .ensures) ∙ c .if1 .left)
 
 pub find-spec : {M : Type 1} → statement M
 find-spec =

@@ -39,7 +39,10 @@ mul-index : tie.Need-mul-index
 mul-index c = search needs
 
 slice-write-index : tie.Need-slice-write-index
-slice-write-index c = let p = c .before .before .before .before .before .pre in let l = ap length (c .before .before .move-up .ensures) ∙ moved-length _ _ _ _ in omega (arith, p .0, p .1, l)
+slice-write-index c =
+    let at-move-up = c .before .before in
+    let start = at-move-up .before .before .before in
+    let p = start .pre in let l = ap length (at-move-up .move-up .ensures) ∙ moved-length _ _ _ _ in omega (arith, p .0, p .1, l)
 
 add-index-2 : tie.Need-add-index-2
 add-index-2 c = search needs
@@ -48,22 +51,30 @@ mul-index-2 : tie.Need-mul-index-2
 mul-index-2 c = search needs
 
 slice-write-index-2 : tie.Need-slice-write-index-2
-slice-write-index-2 c = simp length-set (let p = c .before .before .before .before .before .pre in let l = ap length (c .before .before .move-up .ensures) ∙ moved-length _ _ _ _ in omega (arith, p .0, p .1, l))
+slice-write-index-2 c =
+    let at-move-up = c .before .before in
+    let start = at-move-up .before .before .before in
+    simp length-set (let p = start .pre in let l = ap length (at-move-up .move-up .ensures) ∙ moved-length _ _ _ _ in omega (arith, p .0, p .1, l))
 
 mul-index-3 : tie.Need-mul-index-3
 mul-index-3 c = search needs
 
 slice-write-index-3 : tie.Need-slice-write-index-3
-slice-write-index-3 c = simp length-set (let p = c .before .before .before .before .before .pre in let l = ap length (c .before .before .move-up .ensures) ∙ moved-length _ _ _ _ in omega (arith, p .0, p .1, l))
+slice-write-index-3 c =
+    let at-move-up = c .before .before in
+    let start = at-move-up .before .before .before in
+    simp length-set (let p = start .pre in let l = ap length (at-move-up .move-up .ensures) ∙ moved-length _ _ _ _ in omega (arith, p .0, p .1, l))
 
 same-length : tie.Need-same-length
 same-length c = search needs
 
 returns : tie.Need-returns
 returns c =
-    let a = c .before .before .before .before .before .args in
+    let at-move-up = c .before .before in
+    let start = at-move-up .before .before .before in
+    let a = start .args in
     let f : ℕ = 3 * (a .at + a .k) in
-    ap (λ (v : List ℕ). set (set (set v (f + 2) (a .place)) (f + 1) (a .sequence)) f (a .sender)) (c .before .before .move-up .ensures)
+    ap (λ (v : List ℕ). set (set (set v (f + 2) (a .place)) (f + 1) (a .sequence)) f (a .sender)) (at-move-up .move-up .ensures)
     ∙ moved-row (a .index .now) (a .at) (a .n) (a .k) _
 
 pub insert-spec : {M : Type 1} → statement M

@@ -21,20 +21,31 @@ sub-if3 c = search needs
 
 returns-3 : tie.Need-returns-3
 returns-3 c =
-    let a = c .before .before .before .before .before .args in
-    merge-full (a .index .now) (a .n) (a .batch .now) (a .m) (c .before .before .if1 .left) (omega (arith, c .if3 .taken, c .before .if2 .left))
+    let at-if2 = c .before in
+    let at-if1 = at-if2 .before in
+    let start = at-if1 .before .before .before in
+    let a = start .args in
+    merge-full (a .index .now) (a .n) (a .batch .now) (a .m) (at-if1 .if1 .left) (omega (arith, c .if3 .taken, at-if2 .if2 .left))
 
 merge-all-requires : tie.Need-merge-all-requires
-merge-all-requires c κs = (omega (arith, c .before .before .before .if1 .left), omega (arith, c .before .if3 .left, c .before .before .if2 .left))
+merge-all-requires c κs =
+    let at-if3 = c .before in
+    let at-if2 = at-if3 .before in
+    let at-if1 = at-if2 .before in
+    (omega (arith, at-if1 .if1 .left), omega (arith, at-if3 .if3 .left, at-if2 .if2 .left))
 
 same-length : tie.Need-same-length
 same-length c = search needs
 
 returns-4 : tie.Need-returns-4
 returns-4 c =
-    let k = c .before .before .before .before in
-    let a = k .before .before .before .before .before .args in
-    c .before .before .merge-all .ensures ∙ merge-fits (a .index .now) (a .n) (a .batch .now) (a .m) (k .before .before .if1 .left) (omega (arith, k .if3 .left, k .before .if2 .left))
+    let at-merge-all = c .before .before in
+    let k = at-merge-all .before .before in
+    let at-if2 = k .before in
+    let at-if1 = at-if2 .before in
+    let start = at-if1 .before .before .before in
+    let a = start .args in
+    at-merge-all .merge-all .ensures ∙ merge-fits (a .index .now) (a .n) (a .batch .now) (a .m) (at-if1 .if1 .left) (omega (arith, k .if3 .left, at-if2 .if2 .left))
 
 pub merge-spec : {M : Type 1} → statement M
 merge-spec =

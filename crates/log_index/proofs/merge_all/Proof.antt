@@ -25,18 +25,24 @@ sub-j c = search needs
 
 merge-one-requires : tie.Need-merge-one-requires Inv-loop μ-loop
 merge-one-requires c κs =
-    let l = c .before .before .loop in
-    let p = c .before .before .before .before .before .pre in
-    (omega (arith, p .0, l .inv .0, c .before .loop-test .taken), omega (arith, p .1, l .inv .0, l .inv .1 .0, l .inv .1 .1 .0, c .before .loop-test .taken))
+    let at-loop-test = c .before in
+    let turn = at-loop-test .before in
+    let start = turn .before .before .before in
+    let l = turn .loop in
+    let p = start .pre in
+    (omega (arith, p .0, l .inv .0, at-loop-test .loop-test .taken), omega (arith, p .1, l .inv .0, l .inv .1 .0, l .inv .1 .1 .0, at-loop-test .loop-test .taken))
 
 loop-less : tie.Need-loop-less Inv-loop μ-loop
 loop-less c = search needs
 
 loop-again : tie.Need-loop-again Inv-loop μ-loop
 loop-again c =
-    let l = c .before .before .before .before .before .loop in
-    let m = c .before .before .merge-one .ensures in
-    let h = c .before .before .before .before .loop-test .taken in
+    let at-merge-one = c .before .before in
+    let at-loop-test = at-merge-one .before .before in
+    let turn = at-loop-test .before in
+    let l = turn .loop in
+    let m = at-merge-one .merge-one .ensures in
+    let h = at-loop-test .loop-test .taken in
     (omega (arith, l .inv .0), (omega (arith, m .within, l .inv .1 .0), (m .size ∙ l .inv .1 .1 .0, merged-turn (l .j) (l .high) _ _ (l .index) _ h m ∙ l .inv .1 .1 .1)))
 
 same-length : tie.Need-same-length Inv-loop μ-loop

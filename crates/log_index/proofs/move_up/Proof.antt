@@ -41,20 +41,26 @@ mul-index-2 c = search needs
 
 slice-write-index : tie.Need-slice-write-index Inv-loop μ-loop
 slice-write-index c =
-    let l = c .before .before .loop in
-    omega (arith, c .before .before .before .pre .1 .1, l .inv .1 .0, l .inv .1 .1 .0, c .before .loop-test .taken)
+    let at-loop-test = c .before in
+    let turn = at-loop-test .before in
+    let start = turn .before in
+    let l = turn .loop in
+    omega (arith, start .pre .1 .1, l .inv .1 .0, l .inv .1 .1 .0, at-loop-test .loop-test .taken)
 
 loop-less : tie.Need-loop-less Inv-loop μ-loop
 loop-less c = search needs
 
 loop-again : tie.Need-loop-again Inv-loop μ-loop
 loop-again c =
-    let a = c .before .before .before .args in
-    let l = c .before .before .loop in
-    let q = c .before .before .before .pre in
+    let at-loop-test = c .before in
+    let turn = at-loop-test .before in
+    let start = turn .before in
+    let a = start .args in
+    let l = turn .loop in
+    let q = start .pre in
     let e = l .inv .1 .1 .1 in
-    let s = (λ j. set (e j) (l .i - 1 + a .by) (getD (e j) (l .i - 1) 0)) ∙ moved-next (a .index .now) (l .i) (a .to) (a .by) (omega (arith, c .before .loop-test .taken)) (l .inv .1 .0) (q .1 .0) (q .1 .1) in
-    (omega (arith, c .before .loop-test .taken), (omega (arith, l .inv .1 .0), (ap length s ∙ moved-length (a .index .now) (l .i - 1) (a .to) (a .by), s)))
+    let s = (λ j. set (e j) (l .i - 1 + a .by) (getD (e j) (l .i - 1) 0)) ∙ moved-next (a .index .now) (l .i) (a .to) (a .by) (omega (arith, at-loop-test .loop-test .taken)) (l .inv .1 .0) (q .1 .0) (q .1 .1) in
+    (omega (arith, at-loop-test .loop-test .taken), (omega (arith, l .inv .1 .0), (ap length s ∙ moved-length (a .index .now) (l .i - 1) (a .to) (a .by), s)))
 
 same-length : tie.Need-same-length Inv-loop μ-loop
 same-length c = search needs

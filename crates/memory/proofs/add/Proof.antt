@@ -33,7 +33,9 @@ same-length c = search needs
 returns : tie.Need-returns
 unfolding addedIn
 returns c =
-    c .before .before .put-word2 .ensures ∙ rw (c .before .before .before .before .before .before .put-word .ensures, lt-ltb _ _ (c .before .before .before .before .before .before .before .before .if1 .taken))
+    let counted = c .before .before in
+    let put = counted .before .before .before .before in
+    counted .put-word2 .ensures ∙ rw (put .put-word .ensures, lt-ltb _ _ (put .before .before .if1 .taken))
 
 shift-requires : tie.Need-shift-requires
 shift-requires c κs = search needs
@@ -53,7 +55,9 @@ same-length-2 c = search needs
 returns-2 : tie.Need-returns-2
 unfolding addedIn
 returns-2 c =
-    c .before .before .put-word3 .ensures ∙ rw (c .before .before .before .before .before .before .shift .ensures, le-ltb _ _ (c .before .before .before .before .before .before .before .before .if1 .left))
+    let put = c .before .before in
+    let shifted = put .before .before .before .before in
+    put .put-word3 .ensures ∙ rw (shifted .shift .ensures, le-ltb _ _ (shifted .before .before .if1 .left))
 
 pub add-spec : {M : Type 1} → statement M
 add-spec =

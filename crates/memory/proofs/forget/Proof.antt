@@ -23,9 +23,11 @@ same-length-2 c = search needs
 
 returns-2 : tie.Need-returns-2
 returns-2 c =
-    let a = c .before .before .before .before .before .before .args in
-    let e = c .before .before .before .before .if1 .left in
-    let u = c .before .before .free-all .ensures in
+    let freed = c .before .before in
+    let long = freed .before .before in
+    let a = long .before .before .args in
+    let e = long .if1 .left in
+    let u = freed .free-all .ensures in
     left (a .memory .now) _ _ e (ap memoryIn u ∙ forgotten-memory (a .memory .now) (a .sender) e) (ap length u ∙ freed-length (a .memory .now) (a .sender) sendersMost)
 
 pub forget-spec : {M : Type 1} → statement M

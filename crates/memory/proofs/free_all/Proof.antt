@@ -30,12 +30,17 @@ loop-less c = search needs
 
 loop-again : tie.Need-loop-again Inv-loop μ-loop
 loop-again c =
-    let a = c .before .before .before .before .before .before .before .args in
-    let l = c .before .before .before .before .before .loop in
-    (omega arith, freed-more (a .memory .now) (l .memory) _ (a .sender) (l .i) (l .inv .1) (c .before .before .free-at .ensures))
+    let freed = c .before .before in
+    let start = freed .before .before .before in
+    let a = start .before .before .args in
+    let l = start .loop in
+    (omega arith, freed-more (a .memory .now) (l .memory) _ (a .sender) (l .i) (l .inv .1) (freed .free-at .ensures))
 
 same-length : tie.Need-same-length Inv-loop μ-loop
-same-length c = ap length (c .before .loop .inv .1) ∙ freed-length (c .before .before .before .args .memory .now) (c .before .before .before .args .sender) (c .before .loop .i)
+same-length c =
+    let start = c .before in
+    let a = start .before .before .args in
+    ap length (start .loop .inv .1) ∙ freed-length (a .memory .now) (a .sender) (start .loop .i)
 
 returns : tie.Need-returns Inv-loop μ-loop
 returns c =

@@ -24,7 +24,10 @@ same-length-2 : tie.Need-same-length-2
 same-length-2 c = search needs
 
 returns-2 : tie.Need-returns-2
-returns-2 c = c .before .before .put-word .ensures ∙ rw (eq-eqb _ _ (sym (c .before .before .before .before .before .word .ensures) ∙ c .before .before .before .before .if1 .left))
+returns-2 c =
+    let put = c .before .before in
+    let own = put .before .before in
+    put .put-word .ensures ∙ rw (eq-eqb _ _ (sym (own .before .word .ensures) ∙ own .if1 .left))
 
 pub free-at-spec : {M : Type 1} → statement M
 free-at-spec =

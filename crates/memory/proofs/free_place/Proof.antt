@@ -30,8 +30,9 @@ word-requires c κs = search needs
 
 returns : tie.Need-returns Inv-loop μ-loop
 returns c =
-    let l = c .before .before .before .loop in
-    found-at vacant (c .before .before .before .before .before .args .memory .now) (l .i) (omega arith) (l .inv .1) (eq-eqb _ _ (sym (c .before .word .ensures) ∙ c .if1 .taken))
+    let start = c .before .before .before in
+    let l = start .loop in
+    found-at vacant (start .before .before .args .memory .now) (l .i) (omega arith) (l .inv .1) (eq-eqb _ _ (sym (c .before .word .ensures) ∙ c .if1 .taken))
 
 add-i : tie.Need-add-i Inv-loop μ-loop
 add-i c = search needs
@@ -41,8 +42,9 @@ loop-less c = search needs
 
 loop-again : tie.Need-loop-again Inv-loop μ-loop
 loop-again c =
-    let l = c .before .before .before .loop in
-    (omega arith, below-more (λ (j : ℕ). vacant (placeIn (c .before .before .before .before .before .args .memory .now) j) ≡ false) (l .i) (l .inv .1) (ne-eqb _ _ (λ q. c .if1 .left (c .before .word .ensures ∙ q))))
+    let start = c .before .before .before in
+    let l = start .loop in
+    (omega arith, below-more (λ (j : ℕ). vacant (placeIn (start .before .before .args .memory .now) j) ≡ false) (l .i) (l .inv .1) (ne-eqb _ _ (λ q. c .if1 .left (c .before .word .ensures ∙ q))))
 
 returns-2 : tie.Need-returns-2 Inv-loop μ-loop
 returns-2 c =

@@ -45,9 +45,11 @@ word-requires-2 c κs = search needs
 
 returns : tie.Need-returns Inv-loop μ-loop
 returns c =
-    let a = c .before .before .before .before .before .before .before .args in
-    let l = c .before .before .before .loop in
-    sym (key-hit (a .memory .now) (a .i) (a .sequence) (c .before .before .before .before .least .result) (c .before .before .before .before .least .ensures ∙ ap (λ (k : ℕ). min k keysEach) (c .before .before .before .before .before .word .ensures)) (l .j) (omega arith) (sym (c .before .word2 .ensures) ∙ c .if1 .taken))
+    let start = c .before .before .before in
+    let counted = start .before in
+    let a = counted .before .before .before .args in
+    let n = counted .least .ensures ∙ ap (λ (k : ℕ). min k keysEach) (counted .before .word .ensures) in
+    sym (key-hit (a .memory .now) (a .i) (a .sequence) _ n (start .loop .j) (omega arith) (sym (c .before .word2 .ensures) ∙ c .if1 .taken))
 
 add-j : tie.Need-add-j Inv-loop μ-loop
 add-j c = search needs
@@ -57,16 +59,21 @@ loop-less c = search needs
 
 loop-again : tie.Need-loop-again Inv-loop μ-loop
 loop-again c =
-    let a = c .before .before .before .before .before .before .before .args in
-    let l = c .before .before .before .loop in
-    (omega arith, l .inv .1, key-more (a .memory .now) (a .i) (a .sequence) (c .before .before .before .before .least .result) (c .before .before .before .before .least .ensures ∙ ap (λ (k : ℕ). min k keysEach) (c .before .before .before .before .before .word .ensures)) (l .j) (omega arith) (l .inv .2) (λ q. c .if1 .left (c .before .word2 .ensures ∙ q)))
+    let start = c .before .before .before in
+    let counted = start .before in
+    let a = counted .before .before .before .args in
+    let l = start .loop in
+    let n = counted .least .ensures ∙ ap (λ (k : ℕ). min k keysEach) (counted .before .word .ensures) in
+    (omega arith, l .inv .1, key-more (a .memory .now) (a .i) (a .sequence) _ n (l .j) (omega arith) (l .inv .2) (λ q. c .if1 .left (c .before .word2 .ensures ∙ q)))
 
 returns-2 : tie.Need-returns-2 Inv-loop μ-loop
 returns-2 c =
-    let a = c .before .before .before .before .before .args in
-    let l = c .before .loop in
-    let e : l .j ≡ c .before .before .least .result = omega arith in
-    sym (key-missed (a .memory .now) (a .i) (a .sequence) (c .before .before .least .result) (c .before .before .least .ensures ∙ ap (λ (k : ℕ). min k keysEach) (c .before .before .before .word .ensures)) (rw e at (l .inv .2)))
+    let start = c .before in
+    let counted = start .before in
+    let a = counted .before .before .before .args in
+    let n = counted .least .ensures ∙ ap (λ (k : ℕ). min k keysEach) (counted .before .word .ensures) in
+    let e : start .loop .j ≡ counted .least .result = omega arith in
+    sym (key-missed (a .memory .now) (a .i) (a .sequence) _ n (rw e at (start .loop .inv .2)))
 
 pub has-key-spec : {M : Type 1} → statement M
 has-key-spec =

@@ -29,8 +29,9 @@ word-requires c κs = search needs
 
 returns : tie.Need-returns Inv-loop μ-loop
 returns c =
-    let w = c .before .before .before .before .before .args .memory .now in
-    let l = c .before .before .before .loop in
+    let start = c .before .before .before in
+    let w = start .before .before .args .memory .now in
+    let l = start .loop in
     sym (ok-is w ∙ all-not sendersMost (fewAt w) (l .i) (omega arith) (lt-leb _ _ (rw (c .before .word .ensures) at (c .if1 .taken))))
 
 add-i : tie.Need-add-i Inv-loop μ-loop
@@ -41,8 +42,9 @@ loop-less c = search needs
 
 loop-again : tie.Need-loop-again Inv-loop μ-loop
 loop-again c =
-    let w = c .before .before .before .before .before .args .memory .now in
-    let l = c .before .before .before .loop in
+    let start = c .before .before .before in
+    let w = start .before .before .args .memory .now in
+    let l = start .loop in
     (omega arith, all-more (fewAt w) (l .i) (l .inv .1) (le-leb _ _ (rw (c .before .word .ensures) at (c .if1 .left))))
 
 returns-2 : tie.Need-returns-2 Inv-loop μ-loop

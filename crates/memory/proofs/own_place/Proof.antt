@@ -26,8 +26,9 @@ is-of-requires c κs = search needs
 
 returns : tie.Need-returns Inv-loop μ-loop
 returns c =
-    let a = c .before .before .before .before .before .args in
-    let l = c .before .before .before .loop in
+    let start = c .before .before .before in
+    let a = start .before .before .args in
+    let l = start .loop in
     found-at (isOf (a .sender)) (a .memory .now) (l .i) (omega arith) (l .inv .1) (sym (c .before .is-of .ensures) ∙ c .if1 .taken)
 
 add-i : tie.Need-add-i Inv-loop μ-loop
@@ -38,8 +39,9 @@ loop-less c = search needs
 
 loop-again : tie.Need-loop-again Inv-loop μ-loop
 loop-again c =
-    let a = c .before .before .before .before .before .args in
-    let l = c .before .before .before .loop in
+    let start = c .before .before .before in
+    let a = start .before .before .args in
+    let l = start .loop in
     (omega arith, below-more (λ (j : ℕ). isOf (a .sender) (placeIn (a .memory .now) j) ≡ false) (l .i) (l .inv .1) (sym (c .before .is-of .ensures) ∙ c .if1 .left))
 
 returns-2 : tie.Need-returns-2 Inv-loop μ-loop

@@ -3,8 +3,8 @@ use mathlib.Core.Path.{_≡_, sym, _∙_, ap}
 use Prim.Native.Nat.{ℕ}
 use borrow.Author.Needs.{needs}
 use Rattle.steps.specs.Limits.{sendersMost, keysEach}
-use Rattle.words.specs.Ranks.{lowestRanked}
-use Rattle.words.specs.declared.Ranked.{Ranked}
+use Rattle.ranks.specs.Ranks.{lowestRanked}
+use Rattle.ranks.specs.declared.Ranked.{Ranked}
 use Rattle.memory.proofs.Views.{for-own, for-free, for-other}
 use Rattle.memory.proofs.place_for.Statement.{statement}
 use Rattle.memory.proofs.place_for.Tie as tie
@@ -22,8 +22,9 @@ free-place-requires c κs = search needs
 
 returns-2 : tie.Need-returns-2
 returns-2 c =
-    let a = c .before .before .before .before .before .args in
-    for-free (a .memory .now) (a .sender) _ (c .before .before .before .own-place .ensures) (c .before .before .if1 .left) _ (c .before .free-place .ensures) (c .if2 .taken)
+    let other = c .before .before in
+    let a = other .before .before .before .args in
+    for-free (a .memory .now) (a .sender) _ (other .before .own-place .ensures) (other .if1 .left) _ (c .before .free-place .ensures) (c .if2 .taken)
 
 turns-requires : tie.Need-turns-requires
 turns-requires c κs = search needs
@@ -33,8 +34,10 @@ lowest-ranked-requires c κs = search needs
 
 returns-3 : tie.Need-returns-3
 returns-3 c =
-    let a = c .before .before .before .before .before .before .before .args in
-    for-other (a .memory .now) (a .sender) _ (c .before .before .before .before .before .own-place .ensures) (c .before .before .before .before .if1 .left) _ _ (c .before .before .before .free-place .ensures) (c .before .before .if2 .left)
+    let full = c .before .before in
+    let other = full .before .before in
+    let a = other .before .before .before .args in
+    for-other (a .memory .now) (a .sender) _ (other .before .own-place .ensures) (other .if1 .left) _ _ (full .before .free-place .ensures) (full .if2 .left)
     (c .lowest-ranked .ensures ∙ ap (λ (p : Ranked). lowestRanked (a .memory .now) p sendersMost) (c .before .turns .ensures))
 
 pub place-for-spec : {M : Type 1} → statement M

@@ -16,10 +16,16 @@ place-for-requires : tie.Need-place-for-requires
 place-for-requires c κs = search needs
 
 count-of-requires : tie.Need-count-of-requires
-count-of-requires c κs = for-inside (c .before .before .before .before .before .args .memory .now) (c .before .before .before .before .before .args .sender) _ (c .before .place-for .ensures)
+count-of-requires c κs =
+    let found = c .before in
+    let a = found .before .before .before .before .args in
+    for-inside (a .memory .now) (a .sender) _ (found .place-for .ensures)
 
 settle-requires : tie.Need-settle-requires
-settle-requires c κs = for-inside (c .before .before .before .before .before .before .before .args .memory .now) (c .before .before .before .before .before .before .before .args .sender) _ (c .before .before .before .place-for .ensures)
+settle-requires c κs =
+    let found = c .before .before .before in
+    let a = found .before .before .before .before .args in
+    for-inside (a .memory .now) (a .sender) _ (found .place-for .ensures)
 
 add-requires : tie.Need-add-requires
 add-requires c κs =
@@ -33,15 +39,21 @@ same-length c = search needs
 
 returns-2 : tie.Need-returns-2
 returns-2 c =
-    let w = c .before .before .before .before .before .before .before .before .before .before .before .before .before .before .args .memory .now in
-    let s = c .before .before .before .before .before .before .before .before .before .before .before .before .before .before .args .sender in
-    let q = c .before .before .before .before .before .before .before .before .before .before .before .before .before .before .args .sequence in
-    let e = c .before .before .before .before .before .before .before .before .before .before .before .before .if1 .left in
-    let i = c .before .before .before .before .before .before .before .before .before .before .place-for .result in
-    let n = c .before .before .before .before .before .before .before .before .count-of .result in
-    let p = c .before .before .before .before .before .before .before .before .before .before .place-for .ensures in
-    let u = c .before .before .add .ensures ∙ ap (λ v. addedIn v i n q) (c .before .before .before .before .before .before .settle .ensures) in
-    left w _ _ e (ap memoryIn u ∙ remembered-memory w e s q i n p (c .before .before .before .before .before .before .before .before .count-of .ensures)) (ap length u ∙ remembered-length w e s q i n (for-inside w s i p) ∙ sym e)
+    let added = c .before .before in
+    let settled = added .before .before .before .before in
+    let counted = settled .before .before in
+    let found = counted .before .before in
+    let long = found .before .before in
+    let a = long .before .before .args in
+    let w = a .memory .now in
+    let s = a .sender in
+    let q = a .sequence in
+    let e = long .if1 .left in
+    let i = found .place-for .result in
+    let n = counted .count-of .result in
+    let p = found .place-for .ensures in
+    let u = added .add .ensures ∙ ap (λ v. addedIn v i n q) (settled .settle .ensures) in
+    left w _ _ e (ap memoryIn u ∙ remembered-memory w e s q i n p (counted .count-of .ensures)) (ap length u ∙ remembered-length w e s q i n (for-inside w s i p) ∙ sym e)
 
 pub remember-spec : {M : Type 1} → statement M
 remember-spec =

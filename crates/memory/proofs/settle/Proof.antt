@@ -34,7 +34,13 @@ same-length c = search needs
 
 returns : tie.Need-returns
 unfolding settledIn
-returns c = c .before .before .put-word2 .ensures ∙ rw (c .before .before .before .before .before .before .put-word .ensures, c .before .before .before .before .before .before .before .before .before .before .lower-ranks .ensures, c .before .before .before .before .before .before .before .before .before .before .before .turns .ensures, c .before .before .before .before .before .before .before .before .before .before .before .before .before .word .ensures)
+returns c =
+    let sender = c .before .before in
+    let turn = sender .before .before .before .before in
+    let lowered = turn .before .before .before .before in
+    let ranks = lowered .before in
+    let first = ranks .before .before in
+    sender .put-word2 .ensures ∙ rw (turn .put-word .ensures, lowered .lower-ranks .ensures, ranks .turns .ensures, first .word .ensures)
 
 pub settle-spec : {M : Type 1} → statement M
 settle-spec =

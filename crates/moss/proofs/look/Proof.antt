@@ -1,11 +1,10 @@
 -- What a packet says, refusals 50, 51, 52 first. Assumes nothing.
-use mathlib.Core.Path.{_≡_, refl, sym, ap, _∙_}
-use mathlib.Core.Bool.{true}
+use mathlib.Core.Path.{_≡_, sym, ap, _∙_}
 use Prim.Native.Nat.{_≤_}
 use borrow.Author.Tests.{not-true, not-false}
 use borrow.Author.Needs.{needs}
 use lib.ListN.{length}
-use Rattle.moss.specs.Limits.{headLength, maxPacket}
+use Rattle.moss.specs.Limits.{headLength}
 use Rattle.moss.specs.Packet.{lengthIn}
 use Rattle.moss.specs.Walk.{looked}
 use Rattle.moss.proofs.Packets.{packet-short, packet-wrong, packet-long, packet-type, packet-held}

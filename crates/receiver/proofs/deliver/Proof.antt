@@ -39,10 +39,10 @@ word-requires-4 c κs = search needs
 
 mul-at : tie.Need-mul-at
 mul-at c =
+    let start = c .before .before .before .before .before .before .before .before .before .before in
     let word4 = c .word4 in
-    let args = c .before .before .before .before .before .before .before .before .before .before .args in
-    let pre = c .before .before .before .before .before .before .before .before .before .before .pre in
-    omega (arith, word4 .ensures, place-small (args .s) (word4 .result) (pre .0) (rw (word4 .ensures) (pre .1 .room)))
+    let args = start .args in
+    omega (arith, word4 .ensures, place-small (args .s) (word4 .result) (start .pre .0) (rw (word4 .ensures) (start .pre .1 .room)))
 
 mul-part : tie.Need-mul-part
 mul-part c = search needs
@@ -67,19 +67,19 @@ same-length-2 c = search needs
 
 returns : tie.Need-returns
 returns c =
-    let zero-filled = c .before .before .before .before .before .before .before .before .before .before .before .zero-filled in
-    let part = c .before .before .before .before .before .before .before .before .before .before .before .before .part in
-    let args = c .before .before .before .before .before .before .before .before .before .before .before .before .before .before .before .before .before .before .before .before .before .before .before .before .args in
-    let pre = c .before .before .before .before .before .before .before .before .before .before .before .before .before .before .before .before .before .before .before .before .before .before .before .before .pre in
-    let word = c .before .before .before .before .before .before .before .before .before .before .before .before .before .before .before .before .before .before .before .before .word in
-    let word2 = c .before .before .before .before .before .before .before .before .before .before .before .before .before .before .before .before .before .before .word2 in
-    let word3 = c .before .before .before .before .before .before .before .before .before .before .before .before .before .before .before .before .word3 in
-    let word4 = c .before .before .before .before .before .before .before .before .before .before .before .before .before .before .word4 in
-    let remember-key = c .before .before .before .before .before .before .before .before .before .remember-key in
-    let release = c .before .before .before .before .release in
-    let named = zero-filled .ensures ∙ ap (λ x. overlay (replicate maxName 0) 0 x) (part .ensures) in
-    delivered (args .state .now) (args .names .now) (pre .1 .shape) (args .s) (pre .0) (word .result) (word2 .result) (word3 .result) (word4 .result) _ (zero-filled .result) _ _ _ (args .gone)
-    (word .ensures) (word2 .ensures) (word3 .ensures) (word4 .ensures) refl named (remember-key .ensures) (release .ensures)
+    let at-release = c .before .before .before .before in
+    let at-remember-key = at-release .before .before .before .before .before in
+    let at-zero-filled = at-remember-key .before .before in
+    let at-part = at-zero-filled .before in
+    let at-word4 = at-part .before .before in
+    let at-word3 = at-word4 .before .before in
+    let at-word2 = at-word3 .before .before in
+    let at-word = at-word2 .before .before in
+    let start = at-word .before .before .before .before in
+    let args = start .args in
+    let named = at-zero-filled .zero-filled .ensures ∙ ap (λ x. overlay (replicate maxName 0) 0 x) (at-part .part .ensures) in
+    delivered (args .state .now) (args .names .now) (start .pre .1 .shape) (args .s) (start .pre .0) (at-word .word .result) (at-word2 .word2 .result) (at-word3 .word3 .result) (at-word4 .word4 .result) _ (at-zero-filled .zero-filled .result) _ _ _ (args .gone)
+    (at-word .word .ensures) (at-word2 .word2 .ensures) (at-word3 .word3 .ensures) (at-word4 .word4 .ensures) refl named (at-remember-key .remember-key .ensures) (at-release .release .ensures)
 
 pub deliver-spec : {M : Type 1} → statement M
 deliver-spec = tie.close (tie.spec mul-b add-b add-word word-requires add-word-2 word-requires-2 add-word-3 word-requires-3 word-requires-4 mul-at mul-part part-requires zero-filled-requires remember-key-requires release-requires same-length same-length-2 returns)

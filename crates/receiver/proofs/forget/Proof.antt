@@ -36,19 +36,20 @@ same-length c = search needs
 
 returns-3 : tie.Need-returns-3
 returns-3 c =
-    let args = c .before .before .before .before .before .before .before .before .args in
-    let if1 = c .before .before .before .before .before .if1 in
-    let in-order = c .before .in-order in
-    let if2 = c .before .before .before .before .if2 in
+    let at-in-order = c .before in
+    let at-if2 = at-in-order .before .before .before in
+    let at-if1 = at-if2 .before in
+    let start = at-if1 .before .before .before in
     let if3 = c .if3 in
-    let known = sym (in-order-is (args .state .now) (if1 .left) _ (in-order .ensures)) in
-    memory-forgets (args .state .now) (args .names .now) (args .sender) (if1 .left) (if2 .left) (known ∙ not-true _ (if3 .taken))
+    let args = start .args in
+    let known = sym (in-order-is (args .state .now) (at-if1 .if1 .left) _ (at-in-order .in-order .ensures)) in
+    memory-forgets (args .state .now) (args .names .now) (args .sender) (at-if1 .if1 .left) (at-if2 .if2 .left) (known ∙ not-true _ (if3 .taken))
 
 release-all-requires : tie.Need-release-all-requires
 release-all-requires c κs =
-    let if1 = c .before .before .before .before .before .before .before .if1 in
-    let if2 = c .before .before .before .before .before .before .if2 in
-    record { words = if1 .left; bytes = if2 .left }
+    let at-if2 = c .before .before .before .before .before .before in
+    let at-if1 = at-if2 .before in
+    record { words = at-if1 .if1 .left; bytes = at-if2 .if2 .left }
 
 sub-forget : tie.Need-sub-forget
 sub-forget c = search needs
@@ -70,19 +71,20 @@ same-length-3 c = search needs
 
 returns-4 : tie.Need-returns-4
 returns-4 c =
-    let args = c .before .before .before .before .before .before .before .before .before .before .before .before .before .before .before .before .before .before .before .args in
-    let if1 = c .before .before .before .before .before .before .before .before .before .before .before .before .before .before .before .before .if1 in
-    let in-order = c .before .before .before .before .before .before .before .before .before .before .before .before .in-order in
-    let if3 = c .before .before .before .before .before .before .before .before .before .before .before .if3 in
-    let release-all = c .before .before .before .before .before .before .before .before .release-all in
-    let forget = c .before .before .forget in
-    let if2 = c .before .before .before .before .before .before .before .before .before .before .before .before .before .before .before .if2 in
-    let known = sym (in-order-is (args .state .now) (if1 .left) _ (in-order .ensures)) in
-    let ok = known ∙ not-false _ (if3 .left) in
-    let free = release-all .ensures in
+    let at-forget = c .before .before in
+    let at-release-all = at-forget .before .before .before .before .before .before in
+    let at-if3 = at-release-all .before .before .before in
+    let at-in-order = at-if3 .before in
+    let at-if2 = at-in-order .before .before .before in
+    let at-if1 = at-if2 .before in
+    let start = at-if1 .before .before .before in
+    let args = start .args in
+    let known = sym (in-order-is (args .state .now) (at-if1 .if1 .left) _ (at-in-order .in-order .ensures)) in
+    let ok = known ∙ not-false _ (at-if3 .if3 .left) in
+    let free = at-release-all .release-all .ensures in
     let still = known-after (args .state .now) (args .names .now) _ _ (args .sender) ok free in
-    let D = drops _ (free .shape .words) (args .sender) (forget .last .0) _ still (forget .ensures) refl in
-    forgets (args .state .now) (args .names .now) (if1 .left) (if2 .left) (args .sender) _ _ _ ok free D
+    let D = drops _ (free .shape .words) (args .sender) (at-forget .forget .last .0) _ still (at-forget .forget .ensures) refl in
+    forgets (args .state .now) (args .names .now) (at-if1 .if1 .left) (at-if2 .if2 .left) (args .sender) _ _ _ ok free D
 
 pub forget-spec : {M : Type 1} → statement M
 forget-spec = tie.close (tie.spec returns returns-2 sub-in-order part-in-order-start part-in-order-end in-order-requires same-length returns-3 release-all-requires sub-forget part-forget-start part-forget-end forget-requires same-length-2 same-length-3 returns-4)

@@ -46,13 +46,13 @@ same-length-2 c = search needs
 
 returns : tie.Need-returns
 returns c =
-    let args = c .before .before .before .before .before .before .before .before .before .before .before .before .args in
-    let pre = c .before .before .before .before .before .before .before .before .before .before .before .before .pre in
-    let hold-fragment = c .before .before .before .before .before .before .hold-fragment in
-    let as-size = c .before .before .before .before .before .before .before .as-size in
-    let put-name = c .before .before .put-name in
-    kept (args .state .now) (args .names .now) (pre .1) (args .s) (pre .0) (args .d .now) (args .h) (pre .2 .short) (hold-fragment .last .0) _ _ (as-size .result) _ _ refl refl
-    (as-size .ensures .0) (hold-fragment .ensures) refl (put-name .ensures)
+    let at-put-name = c .before .before in
+    let at-hold-fragment = at-put-name .before .before .before .before in
+    let at-as-size = at-hold-fragment .before in
+    let start = at-as-size .before .before .before .before .before in
+    let args = start .args in
+    kept (args .state .now) (args .names .now) (start .pre .1) (args .s) (start .pre .0) (args .d .now) (args .h) (start .pre .2 .short) (at-hold-fragment .hold-fragment .last .0) _ _ (at-as-size .as-size .result) _ _ refl refl
+    (at-as-size .as-size .ensures .0) (at-hold-fragment .hold-fragment .ensures) refl (at-put-name .put-name .ensures)
 
 pub keep-spec : {M : Type 1} → statement M
 keep-spec = tie.close (tie.spec mul-a add-a add-a-2 add-e mul-hold-fragment sub-hold-fragment part-hold-fragment-start part-hold-fragment-end as-size-requires hold-fragment-requires put-name-requires same-length same-length-2 returns)

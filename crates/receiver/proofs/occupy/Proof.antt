@@ -64,17 +64,17 @@ same-length-2 c = search needs
 
 returns : tie.Need-returns
 returns c =
-    let as-word = c .before .before .before .before .before .before .before .before .before .before .before .before .before .before .as-word in
-    let args = c .before .before .before .before .before .before .before .before .before .before .before .before .before .before .before .before .before .args in
-    let pre = c .before .before .before .before .before .before .before .before .before .before .before .before .before .before .before .before .before .pre in
-    let as-word2 = c .before .before .before .before .before .before .before .before .before .before .before .before .before .as-word2 in
-    let as-word3 = c .before .before .before .before .before .before .before .before .before .before .before .before .as-word3 in
-    let open-count = c .before .before .before .before .before .before .before .before .before .before .open-count in
-    let put-words = c .before .before .before .before .before .before .before .put-words in
-    let put-bytes = c .before .before .put-bytes in
-    λ d. rw (as-word .ensures) at
-    (occupied (args .state .now) (args .names .now) (pre .1) (args .s) (pre .0) (fragmentIn d (args .h)) (args .sender) (as-word .result) (as-word2 .result) (as-word3 .result) (open-count .result) _ _
-    (as-word2 .ensures) (as-word3 .ensures) (open-count .ensures) (put-words .ensures) (put-bytes .ensures))
+    let at-put-bytes = c .before .before in
+    let at-put-words = at-put-bytes .before .before .before .before .before in
+    let at-open-count = at-put-words .before .before .before in
+    let at-as-word3 = at-open-count .before .before in
+    let at-as-word2 = at-as-word3 .before in
+    let at-as-word = at-as-word2 .before in
+    let start = at-as-word .before .before .before in
+    let args = start .args in
+    λ d. rw (at-as-word .as-word .ensures) at
+    (occupied (args .state .now) (args .names .now) (start .pre .1) (args .s) (start .pre .0) (fragmentIn d (args .h)) (args .sender) (at-as-word .as-word .result) (at-as-word2 .as-word2 .result) (at-as-word3 .as-word3 .result) (at-open-count .open-count .result) _ _
+    (at-as-word2 .as-word2 .ensures) (at-as-word3 .as-word3 .ensures) (at-open-count .open-count .ensures) (at-put-words .put-words .ensures) (at-put-bytes .put-bytes .ensures))
 
 pub occupy-spec : {M : Type 1} → statement M
 occupy-spec = tie.close (tie.spec mul-b add-b array-write-block as-word-requires array-write-block-2 as-word-requires-2 array-write-block-3 as-word-requires-3 array-write-block-4 open-count-requires array-write-block-5 slice-aggregate-put-words put-words-requires mul-put-bytes slice-aggregate-put-bytes put-bytes-requires same-length same-length-2 returns)

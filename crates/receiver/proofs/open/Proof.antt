@@ -45,15 +45,16 @@ same-length-2 c = search needs
 
 returns-3 : tie.Need-returns-3
 returns-3 c =
-    let args = c .before .before .before .before .before .before .before .before .before .before .before .before .before .before .before .before .before .before .before .before .before .before .before .args in
-    let if1 = c .before .before .before .before .before .before .before .before .before .before .before .before .before .before .before .before .before .before .before .before .if1 in
-    let if2 = c .before .before .before .before .before .before .before .before .before .before .before .before .before .before .before .before .before .before .before .if2 in
-    let slot-size = c .before .before .before .before .before .before .before .before .slot-size in
-    let put-words = c .before .before .before .before .before .before .before .before .before .before .before .before .before .before .before .before .put-words in
-    let put-word = c .before .before .before .before .before .before .before .before .before .before .before .before .put-word in
-    let put-word2 = c .before .before .before .before .before .before .before .put-word2 in
-    let put-bytes = c .before .before .put-bytes in
-    opens (args .state .now) (args .names .now) (if1 .left) (if2 .left) _ (slot-size .result) _ _ _ _ (slot-size .ensures) (put-words .ensures) (put-word .ensures) (put-word2 .ensures) (put-bytes .ensures)
+    let at-put-bytes = c .before .before in
+    let at-put-word2 = at-put-bytes .before .before .before .before .before in
+    let at-slot-size = at-put-word2 .before in
+    let at-put-word = at-slot-size .before .before .before .before in
+    let at-put-words = at-put-word .before .before .before .before in
+    let at-if2 = at-put-words .before .before .before in
+    let at-if1 = at-if2 .before in
+    let start = at-if1 .before .before .before in
+    let args = start .args in
+    opens (args .state .now) (args .names .now) (at-if1 .if1 .left) (at-if2 .if2 .left) _ (at-slot-size .slot-size .result) _ _ _ _ (at-slot-size .slot-size .ensures) (at-put-words .put-words .ensures) (at-put-word .put-word .ensures) (at-put-word2 .put-word2 .ensures) (at-put-bytes .put-bytes .ensures)
 
 pub open-spec : {M : Type 1} → statement M
 open-spec = tie.close (tie.spec returns returns-2 slice-aggregate-put-words put-words-requires put-word-requires slot-size-requires put-word-requires-2 slice-aggregate-put-bytes put-bytes-requires same-length same-length-2 returns-3)

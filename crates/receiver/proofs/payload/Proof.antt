@@ -59,19 +59,21 @@ returns-3 c = search needs
 
 returns-4 : tie.Need-returns-4
 returns-4 c =
+    let at-place = c .before .before in
+    let at-answer = at-place .before .before .before in
+    let start = at-answer .before .before .before .before in
     let part4 = c .part4 in
-    let args = c .before .before .before .before .before .before .before .before .before .args in
-    let answer = c .before .before .before .before .before .answer in
-    let place = c .before .before .place in
-    part4 .ensures ∙ sym (payload-is (args .d .now) (args .store .now) _ _ _ _ (answer .given .1) (place .given .1))
+    let args = start .args in
+    part4 .ensures ∙ sym (payload-is (args .d .now) (args .store .now) _ _ _ _ (at-answer .answer .given .1) (at-place .place .given .1))
 
 returns-5 : tie.Need-returns-5
 returns-5 c =
+    let at-place2 = c .before .before in
+    let at-answer = at-place2 .before .before .before in
+    let start = at-answer .before .before .before .before in
     let part5 = c .part5 in
-    let args = c .before .before .before .before .before .before .before .before .before .args in
-    let answer = c .before .before .before .before .before .answer in
-    let place2 = c .before .before .place2 in
-    part5 .ensures ∙ sym (payload-is (args .d .now) (args .store .now) _ _ _ _ (answer .given .1) (place2 .given .1))
+    let args = start .args in
+    part5 .ensures ∙ sym (payload-is (args .d .now) (args .store .now) _ _ _ _ (at-answer .answer .given .1) (at-place2 .place2 .given .1))
 
 pub payload-spec : {M : Type 1} → statement M
 payload-spec = tie.close (tie.spec enum-told part-requires enum-told-2 part-requires-2 enum-told-3 part-requires-3 enum-known-answer enum-known-place part-requires-4 enum-known-place-2 part-requires-5 returns returns-2 returns-3 returns-4 returns-5)

@@ -47,10 +47,10 @@ all-held-requires c κs = search needs
 
 deliver-requires : tie.Need-deliver-requires
 deliver-requires c κs =
-    let pre = c .before .before .before .before .before .before .before .before .before .before .before .before .before .before .before .before .before .before .pre in
-    let args = c .before .before .before .before .before .before .before .before .before .before .before .before .before .before .before .before .before .before .args in
-    let keep = c .before .before .before .before .before .before .before .before .before .before .before .before .keep in
-    (pre .0, ready-after (args .state .now) (args .names .now) _ _ _ (keep .ensures) (pre .1))
+    let at-keep = c .before .before .before .before .before .before .before .before .before .before .before .before in
+    let start = at-keep .before .before .before .before .before .before in
+    let args = start .args in
+    (start .pre .0, ready-after (args .state .now) (args .names .now) (at-keep .keep .last .0) (at-keep .keep .last .1 .0) _ (at-keep .keep .ensures) (start .pre .1))
 
 same-length : tie.Need-same-length
 same-length c = search needs
@@ -60,15 +60,17 @@ same-length-2 c = search needs
 
 returns : tie.Need-returns
 returns c =
-    let args = c .before .before .before .before .before .before .before .before .before .before .before .before .before .before .before .before .before .before .before .before .before .before .before .args in
-    let word = c .before .before .before .before .before .before .before .before .before .before .before .word in
-    let pre = c .before .before .before .before .before .before .before .before .before .before .before .before .before .before .before .before .before .before .before .before .before .before .before .pre in
-    let keep = c .before .before .before .before .before .before .before .before .before .before .before .before .before .before .before .before .before .keep in
-    let all-held = c .before .before .before .before .before .before .before .before .all-held in
-    let if1 = c .before .before .before .before .before .before .before .if1 in
-    let deliver = c .before .before .before .before .deliver in
-    let all = held-all (args .state .now) (args .names .now) _ _ (args .s) _ (blockAt (args .s) + heldWord) _ (word .result) _ (pre .0) refl refl (keep .ensures) (word .ensures) (all-held .ensures) in
-    λ store ledger. put-delivered (args .state .now) (args .names .now) (args .s) (pre .0) (args .gone) (fragmentIn (args .d .now) (args .h)) _ _ (keep .ensures) store ledger _ _ _ (all ∙ if1 .taken) (deliver .ensures)
+    let at-deliver = c .before .before .before .before in
+    let at-if1 = at-deliver .before .before .before in
+    let at-all-held = at-if1 .before in
+    let at-word = at-all-held .before .before .before in
+    let at-keep = at-word .before .before .before .before .before .before in
+    let start = at-keep .before .before .before .before .before .before in
+    let args = start .args in
+    let kept = at-keep .keep .last in
+    let all = held-all (args .state .now) (args .names .now) (kept .0) (kept .1 .0) (args .s) _ (blockAt (args .s) + heldWord) _ (at-word .word .result) _ (start .pre .0) refl refl
+    (at-keep .keep .ensures) (at-word .word .ensures) (at-all-held .all-held .ensures) in
+    λ store ledger. put-delivered (args .state .now) (args .names .now) (args .s) (start .pre .0) (args .gone) (fragmentIn (args .d .now) (args .h)) (kept .0) (kept .1 .0) (at-keep .keep .ensures) store ledger _ _ _ (all ∙ at-if1 .if1 .taken) (at-deliver .deliver .ensures)
 
 no-name-requires : tie.Need-no-name-requires
 no-name-requires c κs = search needs
@@ -81,15 +83,17 @@ same-length-4 c = search needs
 
 returns-2 : tie.Need-returns-2
 returns-2 c =
-    let args = c .before .before .before .before .before .before .before .before .before .before .before .before .before .before .before .before .before .args in
-    let word = c .before .before .before .before .before .word in
-    let pre = c .before .before .before .before .before .before .before .before .before .before .before .before .before .before .before .before .before .pre in
-    let keep = c .before .before .before .before .before .before .before .before .before .before .before .keep in
-    let all-held = c .before .before .all-held in
-    let if1 = c .before .if1 in
+    let at-if1 = c .before in
+    let at-all-held = at-if1 .before in
+    let at-word = at-all-held .before .before .before in
+    let at-keep = at-word .before .before .before .before .before .before in
+    let start = at-keep .before .before .before .before .before .before in
     let no-name = c .no-name in
-    let all = held-all (args .state .now) (args .names .now) _ _ (args .s) _ (blockAt (args .s) + heldWord) _ (word .result) _ (pre .0) refl refl (keep .ensures) (word .ensures) (all-held .ensures) in
-    λ store ledger. put-kept (args .state .now) (args .names .now) (args .s) (pre .0) (args .gone) (fragmentIn (args .d .now) (args .h)) _ _ (keep .ensures) store ledger _ (all ∙ if1 .left) (no-name .ensures)
+    let args = start .args in
+    let kept = at-keep .keep .last in
+    let all = held-all (args .state .now) (args .names .now) (kept .0) (kept .1 .0) (args .s) _ (blockAt (args .s) + heldWord) _ (at-word .word .result) _ (start .pre .0) refl refl
+    (at-keep .keep .ensures) (at-word .word .ensures) (at-all-held .all-held .ensures) in
+    λ store ledger. put-kept (args .state .now) (args .names .now) (args .s) (start .pre .0) (args .gone) (fragmentIn (args .d .now) (args .h)) (kept .0) (kept .1 .0) (at-keep .keep .ensures) store ledger _ (all ∙ at-if1 .if1 .left) (no-name .ensures)
 
 pub put-spec : {M : Type 1} → statement M
 put-spec = tie.close (tie.spec keep-requires mul-b add-b add-a add-e add-word word-requires mul-all-held sub-all-held part-all-held-start part-all-held-end all-held-requires deliver-requires same-length same-length-2 returns no-name-requires same-length-3 same-length-4 returns-2)

@@ -14,19 +14,19 @@ as-size-requires c κs = search needs
 
 mul-at : tie.Need-mul-at
 mul-at c =
-    let args = c .before .before .before .before .args in
-    let pre = c .before .before .before .before .pre in
-    omega (arith, place-small (args .s) (args .room) (pre .0) (pre .1))
+    let start = c .before .before .before .before in
+    let args = start .args in
+    omega (arith, place-small (args .s) (args .room) (start .pre .0) (start .pre .1))
 
 as-size-requires-2 : tie.Need-as-size-requires-2
 as-size-requires-2 c κs = search needs
 
 add-at : tie.Need-add-at
 add-at c =
+    let start = c .before .before .before .before .before in
     let as-size2 = c .as-size2 in
-    let args = c .before .before .before .before .before .args in
-    let pre = c .before .before .before .before .before .pre in
-    omega (arith, as-size2 .ensures .1, place-small (args .s) (args .room) (pre .0) (pre .1))
+    let args = start .args in
+    omega (arith, as-size2 .ensures .1, place-small (args .s) (args .room) (start .pre .0) (start .pre .1))
 
 mul-row : tie.Need-mul-row
 mul-row c = search needs
@@ -63,17 +63,17 @@ same-length-2 c = search needs
 
 returns : tie.Need-returns
 returns c =
-    let put-bytes = c .before .before .before .before .before .before .before .before .before .before .before .put-bytes in
-    let args = c .before .before .before .before .before .before .before .before .before .before .before .before .before .before .before .before .before .before .before .before .args in
-    let as-size2 = c .before .before .before .before .before .before .before .before .before .before .before .before .before .before .before .as-size2 in
-    let part-at = c .before .before .before .before .before .before .before .before .before .before .before .before .part-at in
-    let as-size = c .before .before .before .before .before .before .before .before .before .before .before .before .before .before .before .before .as-size in
-    let pre = c .before .before .before .before .before .before .before .before .before .before .before .before .before .before .before .before .before .before .before .before .pre in
-    let put-entry = c .before .before .before .before .before .before .before .put-entry in
-    let put-entry2 = c .before .before .put-entry2 in
-    let bytes = put-bytes .ensures ∙ (λ i. overlay (args .store .now) (args .s * args .room + as-size2 .ensures .0 i) (part-at .ensures i)) in
-    let numbers = ledger-written (args .ledger .now) _ _ (args .s) (as-size .result) (args .h .number) (args .h .offset) (args .h .payload .len) _ (as-size .ensures .0) (sym (pre .2 .long))
-    (put-entry .ensures) (put-entry2 .ensures) in
+    let at-put-entry2 = c .before .before in
+    let at-put-entry = at-put-entry2 .before .before .before .before .before in
+    let at-put-bytes = at-put-entry .before .before .before .before in
+    let at-part-at = at-put-bytes .before in
+    let at-as-size2 = at-part-at .before .before .before in
+    let at-as-size = at-as-size2 .before in
+    let start = at-as-size .before .before .before .before in
+    let args = start .args in
+    let bytes = at-put-bytes .put-bytes .ensures ∙ (λ i. overlay (args .store .now) (args .s * args .room + at-as-size2 .as-size2 .ensures .0 i) (at-part-at .part-at .ensures i)) in
+    let numbers = ledger-written (args .ledger .now) _ _ (args .s) (at-as-size .as-size .result) (args .h .number) (args .h .offset) (args .h .payload .len) _ (at-as-size .as-size .ensures .0) (sym (start .pre .2 .long))
+    (at-put-entry .put-entry .ensures) (at-put-entry2 .put-entry2 .ensures) in
     (bytes, numbers)
 
 pub put-fragment-spec : {M : Type 1} → statement M

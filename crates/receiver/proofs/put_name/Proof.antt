@@ -31,14 +31,14 @@ same-length c = search needs
 
 returns-2 : tie.Need-returns-2
 returns-2 c =
-    let args = c .before .before .before .before .before .before .before .before .before .before .before .args in
-    let pre = c .before .before .before .before .before .before .before .before .before .before .before .pre in
-    let part-at = c .before .before .before .before .before .before .part-at in
-    let zero-filled = c .before .before .before .before .before .zero-filled in
-    let if1 = c .before .before .before .before .before .before .before .if1 in
-    let put-bytes = c .before .before .put-bytes in
-    let e = name-filled (args .d .now) (args .h .name) (pre .1 .short) _ _ (part-at .ensures) (zero-filled .ensures) in
-    rw (eq-eqb _ _ (if1 .left)) (put-bytes .ensures ∙ rw e)
+    let at-put-bytes = c .before .before in
+    let at-zero-filled = at-put-bytes .before .before .before in
+    let at-part-at = at-zero-filled .before in
+    let at-if1 = at-part-at .before in
+    let start = at-if1 .before .before .before .before in
+    let args = start .args in
+    let e = name-filled (args .d .now) (args .h .name) (start .pre .1 .short) _ _ (at-part-at .part-at .ensures) (at-zero-filled .zero-filled .ensures) in
+    rw (eq-eqb _ _ (at-if1 .if1 .left)) (at-put-bytes .put-bytes .ensures ∙ rw e)
 
 pub put-name-spec : {M : Type 1} → statement M
 put-name-spec = tie.close (tie.spec returns part-at-requires zero-filled-requires mul-put-bytes slice-aggregate-put-bytes put-bytes-requires same-length returns-2)

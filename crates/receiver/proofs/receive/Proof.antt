@@ -1,11 +1,5 @@
 -- `receiver::receive` meets its contract. Assumes nothing.
-use mathlib.Core.Path.{_≡_, refl, sym, _∙_, ap, subst}
-use Rattle.deciding.specs.declared.Verdict.{Verdict}
-use Rattle.deciding.specs.Inside.{Possible}
-use Rattle.deciding.proofs.Decides.{possible}
-use Rattle.receiver.specs.declared.Settled.{Settled}
-use Rattle.receiver.specs.Inside.{Storable}
-use Rattle.receiver.proofs.Settling.{receives}
+use Rattle.receiver.proofs.Settling.{verdict-possible, plan-able, plan-storable, receives}
 use borrow.Author.Needs.{needs}
 use Rattle.receiver.proofs.receive.Statement.{statement}
 use Rattle.receiver.proofs.receive.Tie as tie
@@ -16,18 +10,29 @@ word-requires c κs = search needs
 decide-requires : tie.Need-decide-requires
 decide-requires c κs = search needs
 
-settle-requires : tie.Need-settle-requires
-settle-requires c κs =
-    let args = c .before .before .before .before .before .before .before .before .before .before .before .before .before .before .args in
-    let decide = c .before .before .decide in
-    subst (λ (v : Verdict). Possible (args .state .now) (args .names .now) (args .d .now) v) (sym (decide .ensures)) (possible (args .state .now) (args .names .now) (args .store .now) (args .ledger .now) (args .sender) (args .d .now))
+plan-for-requires : tie.Need-plan-for-requires
+plan-for-requires c κs =
+    let decided = c .before .before in
+    let args = decided .before .before .before .before .before .before .before .before .before .before .before .before .args in
+    (args .d .now, verdict-possible (args .state .now) (args .names .now) (args .store .now) (args .ledger .now) (args .sender) (args .d .now) (decided .decide .result) (decided .decide .ensures))
 
 store-in-requires : tie.Need-store-in-requires
 store-in-requires c κs =
-    let args = c .before .before .before .before .before .before .before .before .before .before .before .before .before .before .before .before .before .before .before .before .before .before .args in
-    let settle = c .before .before .before .before .before .before .before .settle in
-    let word = c .before .before .before .before .before .before .before .before .before .before .before .before .before .before .before .word in
-    subst (λ C. Storable C (args .d .now) (settle .result .stored)) (sym (word .ensures)) (settle .ensures .storable)
+    let planned = c .before .before .before .before .before .before in
+    let decided = planned .before .before .before in
+    let sized = decided .before .before .before .before .before in
+    let args = sized .before .before .before .before .before .before .before .args in
+    plan-storable (args .state .now) (args .names .now) (args .store .now) (args .ledger .now) (args .sender) (args .d .now)
+    (sized .word .result) (decided .decide .result) (planned .plan-for .result) (planned .plan-for .last .0) (planned .plan-for .last .1 .0)
+    (sized .word .ensures) (decided .decide .ensures) (planned .plan-for .ensures)
+
+settle-requires : tie.Need-settle-requires
+settle-requires c κs =
+    let planned = c .before .before .before .before .before .before .before .before .before .before .before .before .before in
+    let decided = planned .before .before .before in
+    let args = decided .before .before .before .before .before .before .before .before .before .before .before .before .args in
+    plan-able (args .state .now) (args .names .now) (args .store .now) (args .ledger .now) (args .sender) (args .d .now)
+    (decided .decide .result) (planned .plan-for .result) (planned .plan-for .last .0) (planned .plan-for .last .1 .0) (decided .decide .ensures) (planned .plan-for .ensures)
 
 same-length : tie.Need-same-length
 same-length c = search needs
@@ -43,13 +48,16 @@ same-length-4 c = search needs
 
 returns : tie.Need-returns
 returns c =
-    let args = c .before .before .before .before .before .before .before .before .before .before .before .before .before .before .before .before .before .before .before .before .before .before .before .before .before .before .before .args in
-    let word = c .before .before .before .before .before .before .before .before .before .before .before .before .before .before .before .before .before .before .before .before .word in
-    let decide = c .before .before .before .before .before .before .before .before .before .before .before .before .before .before .before .decide in
-    let settle = c .before .before .before .before .before .before .before .before .before .before .before .before .settle in
-    let store-in = c .before .before .before .before .store-in in
-    receives (args .state .now) (args .names .now) (args .store .now) (args .ledger .now) (args .sender) (args .d .now) (word .result) (decide .result) (settle .result) _ _ _ _ (word .ensures) (decide .ensures) (settle .ensures) (store-in .ensures .0) (store-in .ensures .1)
+    let settled = c .before .before .before .before in
+    let stored = settled .before .before .before .before .before .before .before in
+    let planned = stored .before .before .before .before .before .before .before in
+    let decided = planned .before .before .before in
+    let sized = decided .before .before .before .before .before in
+    let args = sized .before .before .before .before .before .before .before .args in
+    receives (args .state .now) (args .names .now) (args .store .now) (args .ledger .now) (args .sender) (args .d .now)
+    (sized .word .result) (decided .decide .result) (planned .plan-for .result) (settled .settle .result) (planned .plan-for .last .0) (planned .plan-for .last .1 .0) _ _ _ _
+    (sized .word .ensures) (decided .decide .ensures) (planned .plan-for .ensures) (settled .settle .ensures) (stored .store-in .ensures .0) (stored .store-in .ensures .1)
     (search needs) (search needs)
 
 pub receive-spec : {M : Type 1} → statement M
-receive-spec = tie.close (tie.spec word-requires decide-requires settle-requires store-in-requires same-length same-length-2 same-length-3 same-length-4 returns)
+receive-spec = tie.close (tie.spec word-requires decide-requires plan-for-requires store-in-requires settle-requires same-length same-length-2 same-length-3 same-length-4 returns)

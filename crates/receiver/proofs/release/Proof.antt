@@ -42,13 +42,13 @@ same-length-2 c = search needs
 
 returns : tie.Need-returns
 returns c =
-    let args = c .before .before .before .before .before .before .before .before .before .before .before .before .before .before .before .before .before .before .args in
-    let pre = c .before .before .before .before .before .before .before .before .before .before .before .before .before .before .before .before .before .before .pre in
-    let word = c .before .before .before .before .before .before .before .before .before .before .before .before .before .before .word in
-    let put-words = c .before .before .before .before .before .before .before .before .before .before .before .put-words in
-    let lower = c .before .before .lower in
-    let put-bytes = c .before .before .before .before .before .before .put-bytes in
-    released (args .state .now) (args .names .now) (pre .1) (args .s) (pre .0) (word .result) _ _ _ (word .ensures) (put-words .ensures) (lower .ensures) (put-bytes .ensures)
+    let at-lower = c .before .before in
+    let at-put-bytes = at-lower .before .before .before .before in
+    let at-put-words = at-put-bytes .before .before .before .before .before in
+    let at-word = at-put-words .before .before .before in
+    let start = at-word .before .before .before .before in
+    let args = start .args in
+    released (args .state .now) (args .names .now) (start .pre .1) (args .s) (start .pre .0) (at-word .word .result) _ _ _ (at-word .word .ensures) (at-put-words .put-words .ensures) (at-lower .lower .ensures) (at-put-bytes .put-bytes .ensures)
 
 pub release-spec : {M : Type 1} → statement M
 release-spec = tie.close (tie.spec mul-b add-b add-word word-requires slice-aggregate-put-words put-words-requires mul-put-bytes slice-aggregate-put-bytes put-bytes-requires lower-requires same-length same-length-2 returns)

@@ -17,9 +17,9 @@ abbrev μ-loop : tie.MeasureT-loop
 
 loop-holds : tie.Need-loop-holds Inv-loop μ-loop
 loop-holds c =
-    let args = c .before .before .args in
-    let pre = c .before .before .pre in
-    (omega arith, released-none (args .state .now) (args .names .now) (args .sender) pre)
+    let start = c .before .before in
+    let args = start .args in
+    (omega arith, released-none (args .state .now) (args .names .now) (args .sender) (start .pre))
 
 release-one-requires : tie.Need-release-one-requires Inv-loop μ-loop
 release-one-requires c κs =
@@ -34,22 +34,23 @@ loop-less c = search needs
 
 loop-again : tie.Need-loop-again Inv-loop μ-loop
 loop-again c =
-    let args = c .before .before .before .before .before .before .before .before .before .before .before .args in
-    let loop = c .before .before .before .before .before .before .before .before .loop in
-    let release-one = c .before .before .before .before .release-one in
-    (omega arith, released-more (args .state .now) (args .names .now) (loop .state) (loop .names) _ _ (args .sender) (loop .i) (loop .inv .1) (release-one .ensures))
+    let at-release-one = c .before .before .before .before in
+    let at-loop = at-release-one .before .before .before .before in
+    let start = at-loop .before .before .before in
+    let args = start .args in
+    (omega arith, released-more (args .state .now) (args .names .now) (at-loop .loop .state) (at-loop .loop .names) _ _ (args .sender) (at-loop .loop .i) (at-loop .loop .inv .1) (at-release-one .release-one .ensures))
 
 same-length : tie.Need-same-length Inv-loop μ-loop
 same-length c =
-    let loop = c .before .loop in
-    let pre = c .before .before .before .before .pre in
-    loop .inv .1 .shape .words ∙ sym (pre .words)
+    let at-loop = c .before in
+    let start = at-loop .before .before .before in
+    at-loop .loop .inv .1 .shape .words ∙ sym (start .pre .words)
 
 same-length-2 : tie.Need-same-length-2 Inv-loop μ-loop
 same-length-2 c =
-    let loop = c .before .loop in
-    let pre = c .before .before .before .before .pre in
-    loop .inv .1 .shape .bytes ∙ sym (pre .bytes)
+    let at-loop = c .before in
+    let start = at-loop .before .before .before in
+    at-loop .loop .inv .1 .shape .bytes ∙ sym (start .pre .bytes)
 
 returns : tie.Need-returns Inv-loop μ-loop
 returns c =

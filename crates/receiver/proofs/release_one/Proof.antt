@@ -22,11 +22,11 @@ same-length c = search needs
 
 returns : tie.Need-returns
 returns c =
-    let args = c .before .before .before .before .before .args in
-    let pre = c .before .before .before .before .before .pre in
-    let word = c .before .word in
+    let at-word = c .before in
+    let start = at-word .before .before .before .before in
     let if1 = c .if1 in
-    free-stays (args .state .now) (args .names .now) (args .i) (pre .0) (args .sender) (pre .1) (sym (word .ensures) ∙ if1 .taken)
+    let args = start .args in
+    free-stays (args .state .now) (args .names .now) (args .i) (start .pre .0) (args .sender) (start .pre .1) (sym (at-word .word .ensures) ∙ if1 .taken)
 
 add-word-2 : tie.Need-add-word-2
 add-word-2 c = search needs
@@ -39,11 +39,11 @@ same-length-2 c = search needs
 
 returns-2 : tie.Need-returns-2
 returns-2 c =
-    let args = c .before .before .before .before .before .before .before .before .args in
-    let pre = c .before .before .before .before .before .before .before .before .pre in
+    let at-word2 = c .before in
+    let start = at-word2 .before .before .before .before .before .before .before in
     let if2 = c .if2 in
-    let word2 = c .before .word2 in
-    other-stays (args .state .now) (args .names .now) (args .i) (pre .0) (args .sender) (pre .1) (λ q. if2 .taken (word2 .ensures ∙ q))
+    let args = start .args in
+    other-stays (args .state .now) (args .names .now) (args .i) (start .pre .0) (args .sender) (start .pre .1) (λ q. if2 .taken (at-word2 .word2 .ensures ∙ q))
 
 release-requires : tie.Need-release-requires
 release-requires c κs = search needs
@@ -56,14 +56,14 @@ same-length-4 c = search needs
 
 returns-3 : tie.Need-returns-3
 returns-3 c =
-    let args = c .before .before .before .before .before .before .before .before .before .before .before .before .before .before .before .args in
-    let pre = c .before .before .before .before .before .before .before .before .before .before .before .before .before .before .before .pre in
-    let if1 = c .before .before .before .before .before .before .before .before .before .before .if1 in
-    let word = c .before .before .before .before .before .before .before .before .before .before .before .word in
-    let word2 = c .before .before .before .before .before .before .before .before .word2 in
-    let if2 = c .before .before .before .before .before .before .before .if2 in
-    let release = c .before .before .before .before .release in
-    its-goes (args .state .now) (args .names .now) (args .i) (pre .0) (args .sender) _ _ (λ q. if1 .left (word .ensures ∙ q)) (sym (word2 .ensures) ∙ if2 .left) (release .ensures)
+    let at-release = c .before .before .before .before in
+    let at-if2 = at-release .before .before .before in
+    let at-word2 = at-if2 .before in
+    let at-if1 = at-word2 .before .before in
+    let at-word = at-if1 .before in
+    let start = at-word .before .before .before .before in
+    let args = start .args in
+    its-goes (args .state .now) (args .names .now) (args .i) (start .pre .0) (args .sender) _ _ (λ q. at-if1 .if1 .left (at-word .word .ensures ∙ q)) (sym (at-word2 .word2 .ensures) ∙ at-if2 .if2 .left) (at-release .release .ensures)
 
 pub release-one-spec : {M : Type 1} → statement M
 release-one-spec = tie.close (tie.spec mul-b add-b add-word word-requires same-length returns add-word-2 word-requires-2 same-length-2 returns-2 release-requires same-length-3 same-length-4 returns-3)

@@ -22,10 +22,10 @@ same-length c = search needs
 
 returns : tie.Need-returns
 returns c =
-    let args = c .before .before .before .before .before .args in
-    let pre = c .before .before .before .before .before .pre in
-    let remember = c .before .before .remember in
-    remembers (args .state .now) pre (args .sender) (args .sequence) (args .sequence) (remember .last .0) _ refl (remember .ensures) refl
+    let at-remember = c .before .before in
+    let start = at-remember .before .before .before in
+    let args = start .args in
+    remembers (args .state .now) (start .pre) (args .sender) (args .sequence) (args .sequence) (at-remember .remember .last .0) _ refl (at-remember .remember .ensures) refl
 
 pub remember-key-spec : {M : Type 1} → statement M
 remember-key-spec = tie.close (tie.spec sub-remember part-remember-start part-remember-end remember-requires same-length returns)

@@ -25,16 +25,16 @@ same-length c = search needs
 
 returns : tie.Need-returns
 returns c =
-    let args = c .before .before .before .before .before .before .before .before .before .before .args in
-    let pre = c .before .before .before .before .before .before .before .before .before .before .pre in
-    let part-at = c .before .before .before .before .before .before .part-at in
-    let zero-filled = c .before .before .before .before .before .zero-filled in
-    let as-word = c .before .before .before .as-word in
-    let remember-key = c .before .before .remember-key in
-    let nm = name-filled (args .d .now) (args .h .name) (pre .1 .short) _ _ (part-at .ensures) (zero-filled .ensures) in
+    let at-remember-key = c .before .before in
+    let at-as-word = at-remember-key .before in
+    let at-zero-filled = at-as-word .before .before in
+    let at-part-at = at-zero-filled .before in
+    let start = at-part-at .before .before .before .before in
+    let args = start .args in
+    let nm = name-filled (args .d .now) (args .h .name) (start .pre .1 .short) _ _ (at-part-at .part-at .ensures) (at-zero-filled .zero-filled .ensures) in
     record {
-      remembers = rw (as-word .ensures) at (remember-key .ensures);
-      outcome = λ i. record { answer = Delivered (InDatagram (pre .1 .small-at (pre .2) i)) (sym (pre .1 .long) i); emptied = Nobody; name = nm i };
+      remembers = rw (at-as-word .as-word .ensures) at (at-remember-key .remember-key .ensures);
+      outcome = λ i. record { answer = Delivered (InDatagram (start .pre .1 .small-at (start .pre .2) i)) (sym (start .pre .1 .long) i); emptied = Nobody; name = nm i };
     }
 
 pub small-spec : {M : Type 1} → statement M

@@ -32,28 +32,30 @@ add-b c =
 
 add-word : tie.Need-add-word
 add-word c =
-    let args = c .before .before .before .before .before .before .before .before .before .args in
-    let oldest = c .before .oldest in
-    omega (arith, oldest-within (args .state .now) (oldest .result) (oldest .ensures))
+    let at-oldest = c .before in
+    let start = at-oldest .before .before .before .before .before .before .before .before in
+    let args = start .args in
+    omega (arith, oldest-within (args .state .now) (at-oldest .oldest .result) (at-oldest .oldest .ensures))
 
 word-requires : tie.Need-word-requires
 word-requires c κs = search needs
 
 add-word-2 : tie.Need-add-word-2
 add-word-2 c =
-    let args = c .before .before .before .before .before .before .before .before .before .before .before .args in
-    let oldest = c .before .before .before .oldest in
-    omega (arith, oldest-within (args .state .now) (oldest .result) (oldest .ensures))
+    let at-oldest = c .before .before .before in
+    let start = at-oldest .before .before .before .before .before .before .before .before in
+    let args = start .args in
+    omega (arith, oldest-within (args .state .now) (at-oldest .oldest .result) (at-oldest .oldest .ensures))
 
 word-requires-2 : tie.Need-word-requires-2
 word-requires-2 c κs = search needs
 
 release-requires : tie.Need-release-requires
 release-requires c κs =
-    let args = c .before .before .before .before .before .before .before .before .before .before .before .before .before .before .args in
-    let oldest = c .before .before .before .before .before .before .oldest in
-    let pre = c .before .before .before .before .before .before .before .before .before .before .before .before .before .before .pre in
-    (oldest-within (args .state .now) (oldest .result) (oldest .ensures), pre)
+    let at-oldest = c .before .before .before .before .before .before in
+    let start = at-oldest .before .before .before .before .before .before .before .before in
+    let args = start .args in
+    (oldest-within (args .state .now) (at-oldest .oldest .result) (at-oldest .oldest .ensures), start .pre)
 
 same-length : tie.Need-same-length
 same-length c = search needs
@@ -63,26 +65,27 @@ same-length-2 c = search needs
 
 returns : tie.Need-returns
 returns c =
-    let args = c .before .before .before .before .before .before .before .before .before .before .before .before .before .before .before .before .before .before .before .args in
-    let oldest = c .before .before .before .before .before .before .before .before .before .before .before .oldest in
-    let word = c .before .before .before .before .before .before .before .before .before .word in
-    let word2 = c .before .before .before .before .before .before .before .word2 in
-    let enum-told = c .before .before .before .before .before .before .before .before .before .before .before .before .before .enum-told in
-    let lowest-free = c .before .before .before .before .before .before .before .before .before .before .before .before .before .before .before .lowest-free in
-    let release = c .before .before .before .before .release in
-    seated-full (args .state .now) (args .names .now) (oldest .result) (word .result) (word2 .result) _ _ (sym (enum-told .given .1) ∙ lowest-free .ensures) (oldest .ensures) (word .ensures) (word2 .ensures)
-    (release .ensures)
+    let at-release = c .before .before .before .before in
+    let at-word2 = at-release .before .before .before in
+    let at-word = at-word2 .before .before in
+    let at-oldest = at-word .before .before in
+    let at-enum-told = at-oldest .before .before in
+    let at-lowest-free = at-enum-told .before .before in
+    let start = at-lowest-free .before .before .before .before in
+    let args = start .args in
+    seated-full (args .state .now) (args .names .now) (at-oldest .oldest .result) (at-word .word .result) (at-word2 .word2 .result) _ _ (sym (at-enum-told .enum-told .given .1) ∙ at-lowest-free .lowest-free .ensures) (at-oldest .oldest .ensures) (at-word .word .ensures) (at-word2 .word2 .ensures)
+    (at-release .release .ensures)
 
 same-length-3 : tie.Need-same-length-3
 same-length-3 c = search needs
 
 returns-2 : tie.Need-returns-2
 returns-2 c =
-    let args = c .before .before .before .before .before .before .before .args in
-    let pre = c .before .before .before .before .before .before .before .pre in
-    let found = c .before .found in
-    let lowest-free = c .before .before .before .lowest-free in
-    seated-free (args .state .now) (args .names .now) pre _ (sym (found .given .1) ∙ lowest-free .ensures)
+    let at-found = c .before in
+    let at-lowest-free = at-found .before .before in
+    let start = at-lowest-free .before .before .before .before in
+    let args = start .args in
+    seated-free (args .state .now) (args .names .now) (start .pre) _ (sym (at-found .found .given .1) ∙ at-lowest-free .lowest-free .ensures)
 
 pub take-seat-spec : {M : Type 1} → statement M
 take-seat-spec = tie.close (tie.spec lowest-free-requires enum-known-found enum-told oldest-requires mul-b add-b add-word word-requires add-word-2 word-requires-2 release-requires same-length same-length-2 returns same-length-3 returns-2)

@@ -16,30 +16,33 @@ returns c =
 
 returns-2 : tie.Need-returns-2
 returns-2 c =
-    let args = c .before .before .before .before .args in
-    let if1 = c .before .if1 in
+    let at-if1 = c .before in
+    let start = at-if1 .before .before .before in
     let if2 = c .if2 in
-    tests-are (args .state .now) (args .names .now) (args .store) (args .ledger) false (simp (eq-eqb _ _ (if1 .left), ne-eqb _ _ (if2 .taken)))
+    let args = start .args in
+    tests-are (args .state .now) (args .names .now) (args .store) (args .ledger) false (simp (eq-eqb _ _ (at-if1 .if1 .left), ne-eqb _ _ (if2 .taken)))
 
 shared-slice-read-if3 : tie.Need-shared-slice-read-if3
 shared-slice-read-if3 c = search needs
 
 returns-3 : tie.Need-returns-3
 returns-3 c =
-    let args = c .before .before .before .before .before .before .args in
-    let if1 = c .before .before .before .if1 in
-    let if2 = c .before .before .if2 in
+    let at-if2 = c .before .before in
+    let at-if1 = at-if2 .before in
+    let start = at-if1 .before .before .before in
     let if3 = c .if3 in
-    tests-are (args .state .now) (args .names .now) (args .store) (args .ledger) false (simp (eq-eqb _ _ (if1 .left), eq-eqb _ _ (if2 .left), ne-eqb _ _ (if3 .taken)))
+    let args = start .args in
+    tests-are (args .state .now) (args .names .now) (args .store) (args .ledger) false (simp (eq-eqb _ _ (at-if1 .if1 .left), eq-eqb _ _ (at-if2 .if2 .left), ne-eqb _ _ (if3 .taken)))
 
 returns-4 : tie.Need-returns-4
 returns-4 c =
-    let args = c .before .before .before .before .before .before .before .args in
-    let if1 = c .before .before .before .before .if1 in
-    let if2 = c .before .before .before .if2 in
-    let if3 = c .before .if3 in
+    let at-if3 = c .before in
+    let at-if2 = at-if3 .before .before in
+    let at-if1 = at-if2 .before in
+    let start = at-if1 .before .before .before in
     let if4 = c .if4 in
-    tests-are (args .state .now) (args .names .now) (args .store) (args .ledger) false (simp (eq-eqb _ _ (if1 .left), eq-eqb _ _ (if2 .left), eq-eqb _ _ (if3 .left), ne-eqb _ _ (if4 .taken)))
+    let args = start .args in
+    tests-are (args .state .now) (args .names .now) (args .store) (args .ledger) false (simp (eq-eqb _ _ (at-if1 .if1 .left), eq-eqb _ _ (at-if2 .if2 .left), eq-eqb _ _ (at-if3 .if3 .left), ne-eqb _ _ (if4 .taken)))
 
 shared-slice-read-room : tie.Need-shared-slice-read-room
 shared-slice-read-room c = search needs
@@ -49,31 +52,33 @@ slot-size-requires c κs = search needs
 
 returns-5 : tie.Need-returns-5
 returns-5 c =
-    let args = c .before .before .before .before .before .before .before .before .before .before .args in
-    let if1 = c .before .before .before .before .before .before .before .if1 in
-    let if2 = c .before .before .before .before .before .before .if2 in
-    let if3 = c .before .before .before .before .if3 in
-    let if4 = c .before .before .before .if4 in
+    let at-slot-size = c .before in
+    let at-if4 = at-slot-size .before .before in
+    let at-if3 = at-if4 .before in
+    let at-if2 = at-if3 .before .before in
+    let at-if1 = at-if2 .before in
+    let start = at-if1 .before .before .before in
     let if5 = c .if5 in
-    let slot-size = c .before .slot-size in
-    tests-are (args .state .now) (args .names .now) (args .store) (args .ledger) false (simp (eq-eqb _ _ (if1 .left), eq-eqb _ _ (if2 .left), eq-eqb _ _ (if3 .left), eq-eqb _ _ (if4 .left), ne-eqb _ _ (λ e. if5 .taken (e ∙ sym (slot-size .ensures)))))
+    let args = start .args in
+    tests-are (args .state .now) (args .names .now) (args .store) (args .ledger) false (simp (eq-eqb _ _ (at-if1 .if1 .left), eq-eqb _ _ (at-if2 .if2 .left), eq-eqb _ _ (at-if3 .if3 .left), eq-eqb _ _ (at-if4 .if4 .left), ne-eqb _ _ (λ e. if5 .taken (e ∙ sym (at-slot-size .slot-size .ensures)))))
 
 all-sound-requires : tie.Need-all-sound-requires
 all-sound-requires c κs = search needs
 
 returns-6 : tie.Need-returns-6
 returns-6 c =
-    let all-sound = c .before .all-sound in
+    let at-all-sound = c .before in
+    let at-if5 = at-all-sound .before in
+    let at-slot-size = at-if5 .before in
+    let at-if4 = at-slot-size .before .before in
+    let at-if3 = at-if4 .before in
+    let at-if2 = at-if3 .before .before in
+    let at-if1 = at-if2 .before in
+    let start = at-if1 .before .before .before in
     let if6 = c .if6 in
-    let args = c .before .before .before .before .before .before .before .before .before .before .before .before .args in
-    let if1 = c .before .before .before .before .before .before .before .before .before .if1 in
-    let if2 = c .before .before .before .before .before .before .before .before .if2 in
-    let if3 = c .before .before .before .before .before .before .if3 in
-    let if4 = c .before .before .before .before .before .if4 in
-    let if5 = c .before .before .if5 in
-    let slot-size = c .before .before .before .slot-size in
-    let t = sym (all-sound .ensures) ∙ not-true _ (if6 .taken) in
-    tests-are (args .state .now) (args .names .now) (args .store) (args .ledger) false (rw (eq-eqb _ _ (if1 .left), eq-eqb _ _ (if2 .left), eq-eqb _ _ (if3 .left), eq-eqb _ _ (if4 .left), eq-eqb _ _ (if5 .left ∙ slot-size .ensures), t))
+    let args = start .args in
+    let t = sym (at-all-sound .all-sound .ensures) ∙ not-true _ (if6 .taken) in
+    tests-are (args .state .now) (args .names .now) (args .store) (args .ledger) false (rw (eq-eqb _ _ (at-if1 .if1 .left), eq-eqb _ _ (at-if2 .if2 .left), eq-eqb _ _ (at-if3 .if3 .left), eq-eqb _ _ (at-if4 .if4 .left), eq-eqb _ _ (at-if5 .if5 .left ∙ at-slot-size .slot-size .ensures), t))
 
 sub-in-order : tie.Need-sub-in-order
 sub-in-order c = search needs
@@ -89,19 +94,20 @@ in-order-requires c κs = search needs
 
 returns-7 : tie.Need-returns-7
 returns-7 c =
-    let all-sound = c .before .before .before .all-sound in
-    let if6 = c .before .before .if6 in
-    let args = c .before .before .before .before .before .before .before .before .before .before .before .before .before .before .args in
-    let if1 = c .before .before .before .before .before .before .before .before .before .before .before .if1 in
+    let at-if6 = c .before .before in
+    let at-all-sound = at-if6 .before in
+    let at-if5 = at-all-sound .before in
+    let at-slot-size = at-if5 .before in
+    let at-if4 = at-slot-size .before .before in
+    let at-if3 = at-if4 .before in
+    let at-if2 = at-if3 .before .before in
+    let at-if1 = at-if2 .before in
+    let start = at-if1 .before .before .before in
     let in-order = c .in-order in
-    let if2 = c .before .before .before .before .before .before .before .before .before .before .if2 in
-    let if3 = c .before .before .before .before .before .before .before .before .if3 in
-    let if4 = c .before .before .before .before .before .before .before .if4 in
-    let if5 = c .before .before .before .before .if5 in
-    let slot-size = c .before .before .before .before .before .slot-size in
-    let t = sym (all-sound .ensures) ∙ not-false _ (if6 .left) in
-    let m = in-order-is (args .state .now) (if1 .left) _ (in-order .ensures) in
-    tests-are (args .state .now) (args .names .now) (args .store) (args .ledger) _ (rw (eq-eqb _ _ (if1 .left), eq-eqb _ _ (if2 .left), eq-eqb _ _ (if3 .left), eq-eqb _ _ (if4 .left), eq-eqb _ _ (if5 .left ∙ slot-size .ensures), t) (sym m))
+    let args = start .args in
+    let t = sym (at-all-sound .all-sound .ensures) ∙ not-false _ (at-if6 .if6 .left) in
+    let m = in-order-is (args .state .now) (at-if1 .if1 .left) _ (in-order .ensures) in
+    tests-are (args .state .now) (args .names .now) (args .store) (args .ledger) _ (rw (eq-eqb _ _ (at-if1 .if1 .left), eq-eqb _ _ (at-if2 .if2 .left), eq-eqb _ _ (at-if3 .if3 .left), eq-eqb _ _ (at-if4 .if4 .left), eq-eqb _ _ (at-if5 .if5 .left ∙ at-slot-size .slot-size .ensures), t) (sym m))
 
 pub is-ready-spec : {M : Type 1} → statement M
 is-ready-spec = tie.close (tie.spec returns returns-2 shared-slice-read-if3 returns-3 returns-4 shared-slice-read-room slot-size-requires returns-5 all-sound-requires returns-6 sub-in-order part-in-order-start part-in-order-end in-order-requires returns-7)

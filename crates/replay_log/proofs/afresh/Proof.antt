@@ -35,7 +35,9 @@ enum-told-2 : tie.Need-enum-told-2
 enum-told-2 c = search needs
 
 same-length : tie.Need-same-length
-same-length c = c .before .before .before .before .before .out .given
+same-length c =
+    let at-out = c .before .before .before .before .before in
+    at-out .out .given
 
 returns : tie.Need-returns
 returns c = search needs

@@ -39,9 +39,11 @@ same-length-5 c = search needs
 
 returns : tie.Need-returns
 returns c =
-    let r = c .before .before .before .before .before .before .before .before .before .before .before .before in
-    let p = r .before .before .before .before .before .part .ensures in
-    record { outcome = _; heard = same-datagram p (r .receive-within .ensures); said = c .before .before .pour-line .ensures }
+    let at-pour-line = c .before .before in
+    let r = at-pour-line .before .before .before .before .before .before .before .before .before .before in
+    let at-part = r .before .before .before .before .before in
+    let p = at-part .part .ensures in
+    record { outcome = _; heard = same-datagram p (r .receive-within .ensures); said = at-pour-line .pour-line .ensures }
 
 pub one-more-spec : {M : Type 1} → statement M
 one-more-spec =

@@ -51,7 +51,8 @@ same-length c = search needs
 returns : tie.Need-returns
 returns c =
     let p = c .before .before in
-    pours-is (p .pour-counted .ensures) (ap answerText (sym (p .before .before .before .before .answer .given .1)))
+    let at-answer = p .before .before .before .before in
+    pours-is (p .pour-counted .ensures) (ap answerText (sym (at-answer .answer .given .1)))
 
 same-length-2 : tie.Need-same-length-2
 same-length-2 c = search needs
@@ -59,7 +60,8 @@ same-length-2 c = search needs
 returns-2 : tie.Need-returns-2
 returns-2 c =
     let p = c .before .before in
-    pours-is (p .pour .ensures) (ap answerText (sym (p .before .before .before .enum-told .given .1)))
+    let at-enum-told = p .before .before .before in
+    pours-is (p .pour .ensures) (ap answerText (sym (at-enum-told .enum-told .given .1)))
 
 same-length-3 : tie.Need-same-length-3
 same-length-3 c = search needs
@@ -67,7 +69,8 @@ same-length-3 c = search needs
 returns-3 : tie.Need-returns-3
 returns-3 c =
     let p = c .before .before in
-    pours-is (p .pour2 .ensures) (ap answerText (sym (p .before .before .before .enum-told2 .given .1)))
+    let at-enum-told2 = p .before .before .before in
+    pours-is (p .pour2 .ensures) (ap answerText (sym (at-enum-told2 .enum-told2 .given .1)))
 
 same-length-4 : tie.Need-same-length-4
 same-length-4 c = search needs
@@ -75,7 +78,8 @@ same-length-4 c = search needs
 returns-4 : tie.Need-returns-4
 returns-4 c =
     let p = c .before .before in
-    pours-is (p .pour-counted2 .ensures) (ap answerText (sym (p .before .before .before .before .answer2 .given .1)))
+    let at-answer2 = p .before .before .before .before in
+    pours-is (p .pour-counted2 .ensures) (ap answerText (sym (at-answer2 .answer2 .given .1)))
 
 pub pour-answer-spec : {M : Type 1} → statement M
 pour-answer-spec =

@@ -36,7 +36,8 @@ same-length c = search needs
 returns : tie.Need-returns
 returns c =
     let p = c .before .before in
-    pours-is (p .pour .ensures) (ap emptiedText (sym (p .before .before .before .enum-told .given .1)))
+    let at-enum-told = p .before .before .before in
+    pours-is (p .pour .ensures) (ap emptiedText (sym (at-enum-told .enum-told .given .1)))
 
 same-length-2 : tie.Need-same-length-2
 same-length-2 c = search needs
@@ -45,7 +46,8 @@ returns-2 : tie.Need-returns-2
 returns-2 c =
     let p = c .before .before in
     let q = p .before .before .before .before .before in
-    pours-is (pours-then (q .pour-counted .ensures) (p .pour-counted-line .ensures)) (ap emptiedText (sym (q .before .before .before .before .emptied .given .1)))
+    let at-emptied = q .before .before .before .before in
+    pours-is (pours-then (q .pour-counted .ensures) (p .pour-counted-line .ensures)) (ap emptiedText (sym (at-emptied .emptied .given .1)))
 
 pub pour-emptied-spec : {M : Type 1} → statement M
 pour-emptied-spec =

@@ -20,7 +20,8 @@ returns : tie.Need-returns
 returns c =
     let p = c .before .before in
     let q = p .before .before .before .before in
-    pours-then (pours-then (q .before .before .before .before .pour-decimal .ensures) (q .pour-answer .ensures)) (p .pour-emptied .ensures)
+    let at-pour-decimal = q .before .before .before .before in
+    pours-then (pours-then (at-pour-decimal .pour-decimal .ensures) (q .pour-answer .ensures)) (p .pour-emptied .ensures)
 
 pub pour-line-spec : {M : Type 1} → statement M
 pour-line-spec =

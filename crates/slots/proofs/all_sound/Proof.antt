@@ -9,7 +9,7 @@ use Rattle.steps.specs.Search.{allBelow}
 use Rattle.steps.proofs.Tables.{all-not}
 use Rattle.steps.specs.Limits.{slotCount}
 use Rattle.slots.specs.Words.{soundIn}
-use Rattle.slots.proofs.Loops.{all-more}
+use Rattle.held.proofs.Runs.{all-more}
 use Rattle.slots.proofs.all_sound.Statement.{statement}
 use Rattle.slots.proofs.all_sound.Tie as tie
 
@@ -27,8 +27,9 @@ is-sound-requires c κs = search needs
 
 returns : tie.Need-returns Inv-loop μ-loop
 returns c =
-    let a = c .before .before .before .before .before .args in
-    sym (all-not slotCount (soundIn (a .state .now) (a .room)) (c .before .before .before .loop .i) (omega arith) (sym (c .before .is-sound .ensures) ∙ not-true _ (c .if1 .taken)))
+    let start = c .before .before .before in
+    let a = start .before .before .args in
+    sym (all-not slotCount (soundIn (a .state .now) (a .room)) (start .loop .i) (omega arith) (sym (c .before .is-sound .ensures) ∙ not-true _ (c .if1 .taken)))
 
 add-i : tie.Need-add-i Inv-loop μ-loop
 add-i c = search needs
@@ -38,8 +39,9 @@ loop-less c = search needs
 
 loop-again : tie.Need-loop-again Inv-loop μ-loop
 loop-again c =
-    let a = c .before .before .before .before .before .args in
-    (omega arith, all-more (soundIn (a .state .now) (a .room)) (c .before .before .before .loop .i) (c .before .before .before .loop .inv .1) (sym (c .before .is-sound .ensures) ∙ not-false _ (c .if1 .left)))
+    let start = c .before .before .before in
+    let a = start .before .before .args in
+    (omega arith, all-more (soundIn (a .state .now) (a .room)) (start .loop .i) (start .loop .inv .1) (sym (c .before .is-sound .ensures) ∙ not-false _ (c .if1 .left)))
 
 returns-2 : tie.Need-returns-2 Inv-loop μ-loop
 returns-2 c =

@@ -24,8 +24,9 @@ is-key-requires c κs = search needs
 
 returns : tie.Need-returns Inv-loop μ-loop
 returns c =
-    let a = c .before .before .before .before .before .args in
-    sym (first-here (keyIn (a .state .now) (a .sender) (a .sequence)) (c .before .before .before .loop .i) slotCount (omega arith) (c .before .before .before .loop .inv .1) (sym (c .before .is-key .ensures) ∙ c .if1 .taken))
+    let start = c .before .before .before in
+    let a = start .before .before .args in
+    sym (first-here (keyIn (a .state .now) (a .sender) (a .sequence)) (start .loop .i) slotCount (omega arith) (start .loop .inv .1) (sym (c .before .is-key .ensures) ∙ c .if1 .taken))
 
 add-i : tie.Need-add-i Inv-loop μ-loop
 add-i c = search needs
@@ -35,8 +36,9 @@ loop-less c = search needs
 
 loop-again : tie.Need-loop-again Inv-loop μ-loop
 loop-again c =
-    let a = c .before .before .before .before .before .args in
-    (omega arith, first-none (keyIn (a .state .now) (a .sender) (a .sequence)) (c .before .before .before .loop .i) (c .before .before .before .loop .inv .1) (sym (c .before .is-key .ensures) ∙ c .if1 .left))
+    let start = c .before .before .before in
+    let a = start .before .before .args in
+    (omega arith, first-none (keyIn (a .state .now) (a .sender) (a .sequence)) (start .loop .i) (start .loop .inv .1) (sym (c .before .is-key .ensures) ∙ c .if1 .left))
 
 returns-2 : tie.Need-returns-2 Inv-loop μ-loop
 returns-2 c =

@@ -14,13 +14,17 @@ at-requires-2 : tie.Need-at-requires-2
 at-requires-2 c κs = search needs
 
 returns-2 : tie.Need-returns-2
-returns-2 c = simp (← c .before .before .before .at .ensures, ← c .before .at2 .ensures, ne-eqb _ _ (c .before .before .if1 .left), ne-eqb _ _ (c .if2 .taken))
+returns-2 c =
+    let busy = c .before .before in
+    simp (← busy .before .at .ensures, ← c .before .at2 .ensures, ne-eqb _ _ (busy .if1 .left), ne-eqb _ _ (c .if2 .taken))
 
 at-requires-3 : tie.Need-at-requires-3
 at-requires-3 c κs = search needs
 
 returns-3 : tie.Need-returns-3
-returns-3 c = simp (← c .before .before .before .before .at .ensures, ← c .before .before .at2 .ensures, ← c .at3 .ensures, ne-eqb _ _ (c .before .before .before .if1 .left), eq-eqb _ _ (c .before .if2 .left))
+returns-3 c =
+    let busy = c .before .before .before in
+    simp (← busy .before .at .ensures, ← c .before .before .at2 .ensures, ← c .at3 .ensures, ne-eqb _ _ (busy .if1 .left), eq-eqb _ _ (c .before .if2 .left))
 
 pub is-key-spec : {M : Type 1} → statement M
 is-key-spec =

@@ -28,8 +28,11 @@ cast-result c = search needs
 
 returns-3 : tie.Need-returns-3
 returns-3 c =
-    let d : getD (c .before .before .before .before .before .before .args .state .now) (blockAt (c .before .before .before .before .before .before .args .i) + countWord) 0 ≡ 0 → ⊥ = λ q. c .before .before .before .if1 .left (c .before .before .before .before .at .ensures ∙ q) in
-    rw (ne-eqb _ _ d, ← c .before .before .at2 .ensures, le-leb _ _ (c .before .if2 .left), ← c .at3 .ensures)
+    let other = c .before .before in
+    let busy = other .before in
+    let a = busy .before .before .before .args in
+    let d : getD (a .state .now) (blockAt (a .i) + countWord) 0 ≡ 0 → ⊥ = λ q. busy .if1 .left (busy .before .at .ensures ∙ q) in
+    rw (ne-eqb _ _ d, ← other .at2 .ensures, le-leb _ _ (c .before .if2 .left), ← c .at3 .ensures)
 
 pub is-sound-spec : {M : Type 1} → statement M
 is-sound-spec =

@@ -1,8 +1,8 @@
 -- `slots::lower` meets its contract. Assumes nothing.
 use mathlib.Core.Path.{_∙_, ap}
 use Rattle.steps.specs.Limits.{slotCount}
-use Rattle.words.specs.declared.Ranked.{Ranked}
-use Rattle.words.specs.Ranks.{ranksLowered}
+use Rattle.ranks.specs.declared.Ranked.{Ranked}
+use Rattle.ranks.specs.Ranks.{ranksLowered}
 use borrow.Author.Needs.{needs}
 use Rattle.slots.proofs.lower.Statement.{statement}
 use Rattle.slots.proofs.lower.Tie as tie

@@ -24,7 +24,9 @@ at-requires : tie.Need-at-requires Inv-loop μ-loop
 at-requires c κs = search needs
 
 returns : tie.Need-returns Inv-loop μ-loop
-returns c = sym (first-here (freeIn (c .before .before .before .before .before .args .state .now)) (c .before .before .before .loop .i) slotCount (omega arith) (c .before .before .before .loop .inv .1) (eq-eqb _ _ (sym (c .before .at .ensures) ∙ c .if1 .taken)))
+returns c =
+    let start = c .before .before .before in
+    sym (first-here (freeIn (start .before .before .args .state .now)) (start .loop .i) slotCount (omega arith) (start .loop .inv .1) (eq-eqb _ _ (sym (c .before .at .ensures) ∙ c .if1 .taken)))
 
 add-i : tie.Need-add-i Inv-loop μ-loop
 add-i c = search needs
@@ -33,7 +35,9 @@ loop-less : tie.Need-loop-less Inv-loop μ-loop
 loop-less c = search needs
 
 loop-again : tie.Need-loop-again Inv-loop μ-loop
-loop-again c = (omega arith, first-none (freeIn (c .before .before .before .before .before .args .state .now)) (c .before .before .before .loop .i) (c .before .before .before .loop .inv .1) (ne-eqb _ _ (λ q. c .if1 .left (c .before .at .ensures ∙ q))))
+loop-again c =
+    let start = c .before .before .before in
+    (omega arith, first-none (freeIn (start .before .before .args .state .now)) (start .loop .i) (start .loop .inv .1) (ne-eqb _ _ (λ q. c .if1 .left (c .before .at .ensures ∙ q))))
 
 returns-2 : tie.Need-returns-2 Inv-loop μ-loop
 returns-2 c =

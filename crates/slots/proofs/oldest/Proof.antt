@@ -1,8 +1,8 @@
 -- `slots::oldest` meets its contract. Assumes nothing.
 use mathlib.Core.Path.{_∙_, ap}
 use Rattle.steps.specs.Limits.{slotCount}
-use Rattle.words.specs.declared.Ranked.{Ranked}
-use Rattle.words.specs.Ranks.{lowestRanked}
+use Rattle.ranks.specs.declared.Ranked.{Ranked}
+use Rattle.ranks.specs.Ranks.{lowestRanked}
 use borrow.Author.Needs.{needs}
 use Rattle.slots.proofs.oldest.Statement.{statement}
 use Rattle.slots.proofs.oldest.Tie as tie

@@ -36,12 +36,15 @@ loop-less c = search needs
 
 loop-again : tie.Need-loop-again Inv-loop μ-loop
 loop-again c =
-    let p = busyIn (c .before .before .before .before .before .args .state .now) in (
+    let start = c .before .before .before in
+    let l = start .loop in
+    let at = c .before .at .ensures in
+    let p = busyIn (start .before .before .args .state .now) in (
       omega arith,
       ⊎-elim (λ w. omega arith) (λ w. omega arith) (c .if1 .came),
       ⊎-elim
-          (λ w. w .1 ∙ ap (λ k. k + 1) (c .before .before .before .loop .inv .2) ∙ sym (count-yes p (c .before .before .before .loop .i) (ap not (ne-eqb _ _ (λ q. w .0 .taken (c .before .at .ensures ∙ q))))))
-          (λ w. w .1 ∙ c .before .before .before .loop .inv .2 ∙ sym (count-no p (c .before .before .before .loop .i) (ap not (eq-eqb _ _ (sym (c .before .at .ensures) ∙ w .0 .left)))))
+          (λ w. w .1 ∙ ap (λ k. k + 1) (l .inv .2) ∙ sym (count-yes p (l .i) (ap not (ne-eqb _ _ (λ q. w .0 .taken (at ∙ q))))))
+          (λ w. w .1 ∙ l .inv .2 ∙ sym (count-no p (l .i) (ap not (eq-eqb _ _ (sym at ∙ w .0 .left)))))
           (c .if1 .came),
     )
 

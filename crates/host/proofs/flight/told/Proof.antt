@@ -28,8 +28,8 @@ mul-result c =
 enum-known-written-2 : tie.Need-enum-known-written-2
 enum-known-written-2 c = search needs
 
-wide-requires : tie.Need-wide-requires
-wide-requires c κs = search needs
+cast-result : tie.Need-cast-result
+cast-result c = search needs
 
 returns : tie.Need-returns
 returns c =
@@ -49,6 +49,6 @@ told-spec =
     sub-result
     mul-result
     enum-known-written-2
-    wide-requires
+    cast-result
     returns
     returns-2)

@@ -1,0 +1,105 @@
+-- The loop: what is laid and what is left are the whole. Assumes nothing.
+use mathlib.Core.Path.{_≡_, sym, _∙_}
+use Prim.Native.Nat.{ℕ, _-_}
+use native.Mathlib.Omega.{arith}
+use lib.ListN.{length}
+use borrow.Author.Tests.{not-true, not-false}
+use Rattle.ack_writer.proofs.Runs.{room-makes}
+use Rattle.ack_writer.proofs.Lays.{Sofar, sofar-start, sofar-next, sofar-falls, sofar-room, sofar-laid}
+use borrow.Author.Needs.{needs}
+use Rattle.ack_writer.proofs.lay.Statement.{statement}
+use Rattle.ack_writer.proofs.lay.Tie as tie
+
+abbrev Inv-loop : tie.InvT-loop
+Inv-loop list room blocks₀ at₀ i₀ blocks at i = Sofar list blocks₀ blocks at i
+
+abbrev μ-loop : tie.MeasureT-loop
+μ-loop list room blocks₀ at₀ i₀ blocks at i = length list - i
+
+loop-holds : tie.Need-loop-holds Inv-loop μ-loop
+loop-holds c =
+    let a = c .before .before .args in
+    sofar-start (a .list .now) (a .blocks .now)
+
+run-from-requires : tie.Need-run-from-requires Inv-loop μ-loop
+run-from-requires c κs = search needs
+
+same-length : tie.Need-same-length Inv-loop μ-loop
+same-length c = c .before .before .before .before .loop .inv .size
+
+returns : tie.Need-returns Inv-loop μ-loop
+returns c =
+    let at-run-from = c .before .before in
+    let turn = at-run-from .before .before in
+    let start = turn .before .before .before in
+    let a = start .args in
+    let l = turn .loop in
+    let r = at-run-from .run-from .ensures in
+    record {
+      answer = sym (sofar-falls (a .list .now) (a .blocks .now) (l .blocks) (l .at) (l .i) _ _ (a .room) (l .inv) r (not-true _ (c .if1 .taken)));
+      laid = λ n e. absurd (let z : _≡_ {A = ℕ} 0 1 = cc in omega arith);
+    }
+
+mul-put-next : tie.Need-mul-put-next Inv-loop μ-loop
+mul-put-next c = search needs
+
+shared-slice-read-put-next : tie.Need-shared-slice-read-put-next Inv-loop μ-loop
+shared-slice-read-put-next c = search needs
+
+put-next-requires : tie.Need-put-next-requires Inv-loop μ-loop
+put-next-requires c κs = search needs
+
+loop-less : tie.Need-loop-less Inv-loop μ-loop
+loop-less c = let r = c .before .before .before .before .before .before .before .run-from .ensures in omega (arith, r .after, r .inside)
+
+loop-again : tie.Need-loop-again Inv-loop μ-loop
+loop-again c =
+    let at-put-next = c .before .before in
+    let at-if1 = at-put-next .before .before .before in
+    let at-run-from = at-if1 .before .before in
+    let turn = at-run-from .before .before in
+    let start = turn .before .before .before in
+    let a = start .args in
+    let l = turn .loop in
+    let r = at-run-from .run-from .ensures in
+    let u = not-false _ (at-if1 .if1 .left) in
+    sofar-next (a .list .now) (a .blocks .now) (l .blocks) _ (l .at) (l .i) _ _ _ (l .inv) r u (at-put-next .put-next .ensures)
+
+room-for-requires : tie.Need-room-for-requires Inv-loop μ-loop
+room-for-requires c κs = search needs
+
+same-length-2 : tie.Need-same-length-2 Inv-loop μ-loop
+same-length-2 c = c .before .before .loop .inv .size
+
+returns-2 : tie.Need-returns-2 Inv-loop μ-loop
+returns-2 c =
+    let at-loop-test = c .before in
+    let turn = at-loop-test .before in
+    let start = turn .before .before .before in
+    let a = start .args in
+    let l = turn .loop in
+    let e = at-loop-test .loop-test .left in
+    let r = c .room-for .ensures in
+    record {
+      answer = r ∙ sofar-room (a .list .now) (a .blocks .now) (l .blocks) (l .at) (l .i) (l .inv) e (a .room);
+      laid = λ n g. sofar-laid (a .list .now) (a .blocks .now) (l .blocks) (l .at) (l .i) (l .inv) e (room-makes (l .at) (a .room) n (sym r ∙ g) .fits);
+    }
+
+pub lay-spec : {M : Type 1} → statement M
+lay-spec =
+    tie.close
+    (tie.spec
+    Inv-loop
+    μ-loop
+    loop-holds
+    run-from-requires
+    same-length
+    returns
+    mul-put-next
+    shared-slice-read-put-next
+    put-next-requires
+    loop-less
+    loop-again
+    room-for-requires
+    same-length-2
+    returns-2)

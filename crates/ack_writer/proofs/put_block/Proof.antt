@@ -1,0 +1,81 @@
+-- The block of a run at a place. Assumes nothing.
+use mathlib.Core.Path.{refl, ap, sym, _∙_}
+use Prim.Native.Nat.{ℕ, _+_}
+use lib.ListN.{length-append}
+use Rattle.wire.specs.Overlay.{overlay}
+use Rattle.wire.proofs.Numbers.{length-bytes}
+use Rattle.ack_blocks.specs.Blocks.{Block, blockBytes}
+use Rattle.ack_writer.proofs.Runs.{put-next}
+use Rattle.ack_writer.proofs.Cases.{one-single, one-run}
+use borrow.Author.Needs.{needs}
+use Rattle.ack_writer.proofs.put_block.Statement.{statement}
+use Rattle.ack_writer.proofs.put_block.Tie as tie
+
+put-number-requires : tie.Need-put-number-requires
+put-number-requires c κs = search needs
+
+add-put-number : tie.Need-add-put-number
+add-put-number c = search needs
+
+put-number-requires-2 : tie.Need-put-number-requires-2
+put-number-requires-2 c κs = search needs
+
+same-length : tie.Need-same-length
+same-length c = search needs
+
+returns : tie.Need-returns
+returns c =
+    let k2 = c .before .before in
+    let k1 = k2 .before .before .before .before in
+    let at-if1 = k1 .before .before in
+    let start = at-if1 .before .before in
+    let a = start .args in
+    put-next (a .out .now) _ _ _ _ (a .at) _ (k1 .put-number .ensures) (ap (λ (n : ℕ). a .at + n) (sym (length-bytes 1 0))) (k2 .put-number2 .ensures)
+    ∙ ap (λ (k : Block). overlay (a .out .now) (a .at) (blockBytes k)) (sym (one-single (a .first) (a .last) (at-if1 .if1 .taken)))
+
+put-number-requires-3 : tie.Need-put-number-requires-3
+put-number-requires-3 c κs = search needs
+
+add-put-number-2 : tie.Need-add-put-number-2
+add-put-number-2 c = search needs
+
+put-number-requires-4 : tie.Need-put-number-requires-4
+put-number-requires-4 c κs = search needs
+
+add-put-number-3 : tie.Need-add-put-number-3
+add-put-number-3 c = search needs
+
+put-number-requires-5 : tie.Need-put-number-requires-5
+put-number-requires-5 c κs = search needs
+
+same-length-2 : tie.Need-same-length-2
+same-length-2 c = search needs
+
+returns-2 : tie.Need-returns-2
+returns-2 c =
+    let k3 = c .before .before in
+    let k2 = k3 .before .before .before .before in
+    let k1 = k2 .before .before .before .before in
+    let at-if1 = k1 .before .before in
+    let start = at-if1 .before .before in
+    let a = start .args in
+    let w = put-next (a .out .now) _ _ _ _ (a .at) _ (k1 .put-number3 .ensures) (ap (λ (n : ℕ). a .at + n) (sym (length-bytes 1 1))) (k2 .put-number4 .ensures) in
+    put-next (a .out .now) _ _ _ _ (a .at) _ w (simp (length-append, length-bytes) refl) (k3 .put-number5 .ensures)
+    ∙ ap (λ (k : Block). overlay (a .out .now) (a .at) (blockBytes k)) (sym (one-run (a .first) (a .last) (at-if1 .if1 .left)))
+
+pub put-block-spec : {M : Type 1} → statement M
+put-block-spec =
+    tie.close
+    (tie.spec
+    put-number-requires
+    add-put-number
+    put-number-requires-2
+    same-length
+    returns
+    put-number-requires-3
+    add-put-number-2
+    put-number-requires-4
+    add-put-number-3
+    put-number-requires-5
+    same-length-2
+    returns-2)

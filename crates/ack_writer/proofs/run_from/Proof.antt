@@ -1,0 +1,108 @@
+-- The loop: the run so far and what is left are the blocks from its first number. Assumes nothing.
+use mathlib.Core.Path.{_≡_, sym, _∙_}
+use Prim.Native.Nat.{_-_, _≤_, _<_}
+use native.Mathlib.Omega.{arith}
+use lib.ListN.{length, getD, drop}
+use borrow.Author.Tests.{not-true, not-false}
+use Rattle.ack_writer.specs.Write.{rising, risingFrom, blocksFrom, blocksOf}
+use Rattle.ack_writer.proofs.Runs.{rising-start, rising-on, rising-breaks, rising-end, blocks-start, run-on, run-breaks, run-ends}
+use borrow.Author.Needs.{needs}
+use Rattle.ack_writer.proofs.run_from.Statement.{statement}
+use Rattle.ack_writer.proofs.run_from.Tie as tie
+
+abbrev Inv-loop : tie.InvT-loop
+Inv-loop list from last₀ i₀ last i =
+    (from < i)
+    × ((i ≤ length list)
+    × ((rising (drop from list) ≡ risingFrom last (drop i list)) × (blocksOf (drop from list) ≡ blocksFrom (getD list from 0) last (drop i list))))
+
+abbrev μ-loop : tie.MeasureT-loop
+μ-loop list from last₀ i₀ last i = length list - i
+
+mul-last : tie.Need-mul-last Inv-loop μ-loop
+mul-last c = search needs
+
+shared-slice-read-last : tie.Need-shared-slice-read-last Inv-loop μ-loop
+shared-slice-read-last c = search needs
+
+add-i : tie.Need-add-i Inv-loop μ-loop
+add-i c = search needs
+
+loop-holds : tie.Need-loop-holds Inv-loop μ-loop
+loop-holds c =
+    let a = c .before .before .args in
+    (omega arith, (omega arith, (rising-start (a .list .now) (a .from) (omega arith), blocks-start (a .list .now) (a .from) (omega arith))))
+
+mul-x : tie.Need-mul-x Inv-loop μ-loop
+mul-x c = search needs
+
+shared-slice-read-x : tie.Need-shared-slice-read-x Inv-loop μ-loop
+shared-slice-read-x c = search needs
+
+follows-requires : tie.Need-follows-requires Inv-loop μ-loop
+follows-requires c κs = search needs
+
+returns : tie.Need-returns Inv-loop μ-loop
+returns c =
+    let at-follows = c .before in
+    let at-loop-test = at-follows .before .before in
+    let turn = at-loop-test .before in
+    let start = turn .before .before .before in
+    let a = start .args in
+    let l = turn .loop in
+    record {
+      after = l .inv .0;
+      inside = l .inv .1 .0;
+      rise = l .inv .1 .1 .0 ∙ rising-breaks (a .list .now) (l .last) (l .i) (at-loop-test .loop-test .taken);
+      blocks = l .inv .1 .1 .1 ∙ run-breaks (a .list .now) _ (l .last) (l .i) (at-loop-test .loop-test .taken) (sym (at-follows .follows .ensures) ∙ not-true _ (c .if1 .taken));
+    }
+
+add-i-2 : tie.Need-add-i-2 Inv-loop μ-loop
+add-i-2 c = search needs
+
+loop-less : tie.Need-loop-less Inv-loop μ-loop
+loop-less c = search needs
+
+loop-again : tie.Need-loop-again Inv-loop μ-loop
+loop-again c =
+    let at-follows = c .before in
+    let at-loop-test = at-follows .before .before in
+    let turn = at-loop-test .before in
+    let start = turn .before .before .before in
+    let a = start .args in
+    let l = turn .loop in
+    let h = at-loop-test .loop-test .taken in
+    let f = sym (at-follows .follows .ensures) ∙ not-false _ (c .if1 .left) in (
+      omega arith,
+      (omega arith, (l .inv .1 .1 .0 ∙ rising-on (a .list .now) (l .last) (l .i) h f, l .inv .1 .1 .1 ∙ run-on (a .list .now) _ (l .last) (l .i) h f)),
+    )
+
+returns-2 : tie.Need-returns-2 Inv-loop μ-loop
+returns-2 c =
+    let a = c .before .before .before .before .args in
+    let l = c .before .loop in
+    record {
+      after = l .inv .0;
+      inside = l .inv .1 .0;
+      rise = l .inv .1 .1 .0 ∙ rising-end (a .list .now) (l .last) (l .i) (c .loop-test .left);
+      blocks = l .inv .1 .1 .1 ∙ run-ends (a .list .now) _ (l .last) (l .i) (c .loop-test .left);
+    }
+
+pub run-from-spec : {M : Type 1} → statement M
+run-from-spec =
+    tie.close
+    (tie.spec
+    Inv-loop
+    μ-loop
+    mul-last
+    shared-slice-read-last
+    add-i
+    loop-holds
+    mul-x
+    shared-slice-read-x
+    follows-requires
+    returns
+    add-i-2
+    loop-less
+    loop-again
+    returns-2)

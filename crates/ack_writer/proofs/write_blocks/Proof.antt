@@ -1,0 +1,70 @@
+-- The blocks at the start of the output, or a refusal, which writes nothing. Assumes nothing.
+use mathlib.Core.Path.{sym, ap}
+use Prim.Native.Nat.{ℕ}
+use lib.ListN.{length-replicate}
+use Rattle.ack_blocks.specs.Limits.{maxBlocks}
+use Rattle.ack_writer.specs.Write.{writes}
+use Rattle.ack_writer.proofs.Lays.{front-of, front-size, leaves, puts}
+use borrow.Author.Needs.{needs}
+use Rattle.ack_writer.proofs.write_blocks.Statement.{statement}
+use Rattle.ack_writer.proofs.write_blocks.Tie as tie
+
+slice-aggregate-lay : tie.Need-slice-aggregate-lay
+slice-aggregate-lay c = sym (length-replicate {A = ℕ} maxBlocks 0)
+
+lay-requires : tie.Need-lay-requires
+lay-requires c κs = search needs
+
+enum-known-r : tie.Need-enum-known-r
+enum-known-r c = search needs
+
+enum-told : tie.Need-enum-told
+enum-told c = search needs
+
+returns : tie.Need-returns
+returns c =
+    let at-lay = c .before .before .before in
+    let start = at-lay .before .before .before .before in
+    let a = start .args in
+    leaves (a .list .now) _ _ (a .out .now) _ _ (at-lay .lay .ensures) (c .enum-told .given .1)
+
+array-share-prefix-blocks : tie.Need-array-share-prefix-blocks
+array-share-prefix-blocks c =
+    let at-r = c .before .before in
+    let at-lay = at-r .before .before .before in
+    let start = at-lay .before .before .before .before in
+    let a = start .args in
+    front-of (a .list .now) _ _ _ _ _ (at-lay .lay .ensures) (ap writes (at-r .r .given .1)) (length-replicate {A = ℕ} maxBlocks 0) .0
+
+slice-aggregate-put-bytes : tie.Need-slice-aggregate-put-bytes
+slice-aggregate-put-bytes c = front-size _ _ (array-share-prefix-blocks (c .before))
+
+put-bytes-requires : tie.Need-put-bytes-requires
+put-bytes-requires c κs = search needs
+
+same-length : tie.Need-same-length
+same-length c = search needs
+
+returns-2 : tie.Need-returns-2
+returns-2 c =
+    let at-put-bytes = c .before .before in
+    let r = at-put-bytes .before .before .before .before in
+    let at-lay = r .before .before .before in
+    let start = at-lay .before .before .before .before in
+    let a = start .args in
+    puts (a .list .now) _ _ (a .out .now) _ _ _ (at-lay .lay .ensures) (r .r .given .1) (length-replicate {A = ℕ} maxBlocks 0) (at-put-bytes .put-bytes .ensures)
+
+pub write-blocks-spec : {M : Type 1} → statement M
+write-blocks-spec =
+    tie.close
+    (tie.spec
+    slice-aggregate-lay
+    lay-requires
+    enum-known-r
+    enum-told
+    returns
+    array-share-prefix-blocks
+    slice-aggregate-put-bytes
+    put-bytes-requires
+    same-length
+    returns-2)

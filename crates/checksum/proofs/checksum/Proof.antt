@@ -1,0 +1,67 @@
+-- `checksum::checksum` meets its contract. The loop's invariant: t is the sum of the bytes passed. Assumes nothing.
+use Prim.Native.Nat.{_-_}
+use native.Mathlib.Omega.{arith}
+use lib.ListN.{length}
+use Rattle.checksum.specs.Strides.{Summed}
+use Rattle.wire.specs.Sum.{sum}
+use Rattle.checksum.proofs.Strides.{summed-more}
+use borrow.Author.Needs.{needs}
+use Rattle.checksum.proofs.checksum.Statement.{statement}
+use Rattle.checksum.proofs.checksum.Tie as tie
+
+abbrev Inv-loop : tie.InvT-loop
+Inv-loop b t₀ i₀ t i = Summed b i t
+
+abbrev μ-loop : tie.MeasureT-loop
+μ-loop b t₀ i₀ t i = length b - i
+
+loop-holds : tie.Need-loop-holds Inv-loop μ-loop
+unfolding sum
+loop-holds c = search needs
+
+sub-loop : tie.Need-sub-loop Inv-loop μ-loop
+sub-loop c = search needs
+
+sum-of-stride-requires : tie.Need-sum-of-stride-requires Inv-loop μ-loop
+sum-of-stride-requires c κs = search needs
+
+add-t : tie.Need-add-t Inv-loop μ-loop
+add-t c = search needs
+
+add-i : tie.Need-add-i Inv-loop μ-loop
+add-i c = search needs
+
+loop-less : tie.Need-loop-less Inv-loop μ-loop
+loop-less c = search needs
+
+loop-again : tie.Need-loop-again Inv-loop μ-loop
+loop-again c =
+    let at = c .before .before in
+    let b = at .before .before .args .b .now in
+    summed-more b (at .loop .i) 64 (at .loop .t) _ (at .loop .inv) (omega arith) (c .sum-of-stride .ensures .0)
+
+sum-on-by-eight-requires : tie.Need-sum-on-by-eight-requires Inv-loop μ-loop
+sum-on-by-eight-requires c κs = c .before .loop .inv
+
+cast-result : tie.Need-cast-result Inv-loop μ-loop
+cast-result c = search needs
+
+returns : tie.Need-returns Inv-loop μ-loop
+returns c = c .sum-on-by-eight .ensures
+
+pub checksum-spec : {M : Type 1} → statement M
+checksum-spec =
+    tie.close
+    (tie.spec
+    Inv-loop
+    μ-loop
+    loop-holds
+    sub-loop
+    sum-of-stride-requires
+    add-t
+    add-i
+    loop-less
+    loop-again
+    sum-on-by-eight-requires
+    cast-result
+    returns)

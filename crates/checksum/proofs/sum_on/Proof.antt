@@ -1,0 +1,59 @@
+-- `checksum::sum_on` meets its contract. The loop's invariant: t is the sum of the bytes passed. Assumes nothing.
+use mathlib.Core.Path.{_∙_, sym}
+use Prim.Native.Nat.{_-_}
+use native.Mathlib.Omega.{arith}
+use lib.ListN.{length}
+use Rattle.checksum.specs.Strides.{Summed}
+use Rattle.checksum.proofs.Strides.{sum-byte, summed-more, summed-all}
+use borrow.Author.Needs.{needs}
+use Rattle.checksum.proofs.sum_on.Statement.{statement}
+use Rattle.checksum.proofs.sum_on.Tie as tie
+
+abbrev Inv-loop : tie.InvT-loop
+Inv-loop b from before t₀ i₀ t i = Summed b i t
+
+abbrev μ-loop : tie.MeasureT-loop
+μ-loop b from before t₀ i₀ t i = length b - i
+
+loop-holds : tie.Need-loop-holds Inv-loop μ-loop
+loop-holds c = c .before .pre
+
+shared-slice-read-wide : tie.Need-shared-slice-read-wide Inv-loop μ-loop
+shared-slice-read-wide c = search needs
+
+wide-requires : tie.Need-wide-requires Inv-loop μ-loop
+wide-requires c κs = search needs
+
+add-t : tie.Need-add-t Inv-loop μ-loop
+add-t c = search needs
+
+add-i : tie.Need-add-i Inv-loop μ-loop
+add-i c = search needs
+
+loop-less : tie.Need-loop-less Inv-loop μ-loop
+loop-less c = search needs
+
+loop-again : tie.Need-loop-again Inv-loop μ-loop
+loop-again c =
+    let at = c .before .before .before in
+    let b = at .before .before .args .b .now in
+    let one = sum-byte b (at .loop .i) (c .before .before .loop-test .taken) in
+    summed-more b (at .loop .i) 1 (at .loop .t) _ (at .loop .inv) (omega arith) (c .wide .ensures .0 ∙ sym one)
+
+returns : tie.Need-returns Inv-loop μ-loop
+returns c = summed-all (c .before .before .before .args .b .now) (c .before .loop .i) _ (c .before .loop .inv) (omega arith)
+
+pub sum-on-spec : {M : Type 1} → statement M
+sum-on-spec =
+    tie.close
+    (tie.spec
+    Inv-loop
+    μ-loop
+    loop-holds
+    shared-slice-read-wide
+    wide-requires
+    add-t
+    add-i
+    loop-less
+    loop-again
+    returns)

@@ -1,0 +1,4 @@
+pub mod Plans
+pub mod Laying
+pub mod Trips
+pub mod Once

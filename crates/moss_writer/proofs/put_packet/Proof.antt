@@ -1,0 +1,62 @@
+-- The bytes of a packet, field by field. Assumes nothing.
+use native.Mathlib.Omega.{arith}
+use lib.ListN.{length-append}
+use borrow.Author.Needs.{needs}
+use Rattle.wire.proofs.Numbers.{length-bytes}
+use Rattle.wire.proofs.Overlays.{overlay-next}
+use Rattle.moss_writer.specs.Write.{packetBytes}
+use Rattle.moss_writer.proofs.put_packet.Statement.{statement}
+use Rattle.moss_writer.proofs.put_packet.Tie as tie
+
+add-n : tie.Need-add-n
+add-n c = search needs
+
+put-number-requires : tie.Need-put-number-requires
+put-number-requires c κs = search needs
+
+slice-aggregate-put-bytes : tie.Need-slice-aggregate-put-bytes
+slice-aggregate-put-bytes c = search needs
+
+put-bytes-requires : tie.Need-put-bytes-requires
+put-bytes-requires c κs = search needs
+
+put-number-requires-2 : tie.Need-put-number-requires-2
+put-number-requires-2 c κs = search needs
+
+put-number-requires-3 : tie.Need-put-number-requires-3
+put-number-requires-3 c κs = search needs
+
+put-bytes-requires-2 : tie.Need-put-bytes-requires-2
+put-bytes-requires-2 c κs = search needs
+
+same-length : tie.Need-same-length
+same-length c = search needs
+
+returns : tie.Need-returns
+unfolding packetBytes
+returns c =
+    let e = c .before .before in
+    let k3 = e .before .before .before .before in
+    let k2 = k3 .before .before .before .before in
+    let k1 = k2 .before .before .before .before in
+    let k0 = k1 .before .before .before .before .before in
+    let s = k0 .before .before .before .before in
+    let d = s .args .out .now in
+    let w1 = overlay-next d _ _ _ _ 4 (k0 .put-number .ensures) (simp length-bytes) (k1 .put-bytes .ensures) in
+    let w2 = overlay-next d _ _ _ _ 14 w1 (simp (length-append, length-bytes) (omega (arith, s .good))) (k2 .put-number2 .ensures) in
+    let w3 = overlay-next d _ _ _ _ 18 w2 (simp (length-append, length-bytes) (omega (arith, s .good))) (k3 .put-number3 .ensures) in
+    overlay-next d _ _ _ _ 19 w3 (simp (length-append, length-bytes) (omega (arith, s .good))) (e .put-bytes2 .ensures)
+
+pub put-packet-spec : {M : Type 1} → statement M
+put-packet-spec =
+    tie.close
+    (tie.spec
+    add-n
+    put-number-requires
+    slice-aggregate-put-bytes
+    put-bytes-requires
+    put-number-requires-2
+    put-number-requires-3
+    put-bytes-requires-2
+    same-length
+    returns)

@@ -1,0 +1,3 @@
+pub mod Scans
+pub mod Names
+pub mod Utf8

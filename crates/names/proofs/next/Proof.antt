@@ -1,0 +1,31 @@
+-- `names::next` meets its contract. Assumes nothing.
+use mathlib.Core.Path.{sym, _∙_}
+use borrow.Author.Tests.{eq-eqb, ne-eqb}
+use borrow.Author.Needs.{needs}
+use Rattle.names.proofs.next.Statement.{statement}
+use Rattle.names.proofs.next.Tie as tie
+
+first-requires : tie.Need-first-requires
+first-requires c κs = search needs
+
+returns : tie.Need-returns
+returns c = rw (eq-eqb _ _ (c .before .if1 .taken)) (c .first .ensures)
+
+within-requires : tie.Need-within-requires
+within-requires c κs = search needs
+
+sub-t5 : tie.Need-sub-t5
+sub-t5 c = search needs
+
+returns-2 : tie.Need-returns-2
+returns-2 c =
+    let asked = c .before .before in
+    rw (ne-eqb _ _ (asked .before .if1 .left), sym (asked .within .ensures) ∙ c .before .if2 .taken)
+
+returns-3 : tie.Need-returns-3
+returns-3 c =
+    let asked = c .before in
+    rw (ne-eqb _ _ (asked .before .if1 .left), sym (asked .within .ensures) ∙ c .if2 .left)
+
+pub next-spec : {M : Type 1} → statement M
+next-spec = tie.close (tie.spec first-requires returns within-requires sub-t5 returns-2 returns-3)

@@ -1,0 +1,28 @@
+-- `parts::payload_part` meets its contract. Assumes nothing.
+use mathlib.Core.Path.{ap, _∙_}
+use Rattle.datagram.specs.Read.{partOf}
+use Rattle.parts.specs.Parts.{payloadOf, payloadPlace}
+use borrow.Author.Needs.{needs}
+use Rattle.parts.proofs.payload_part.Statement.{statement}
+use Rattle.parts.proofs.payload_part.Tie as tie
+
+read-datagram-requires : tie.Need-read-datagram-requires
+read-datagram-requires c κs = search needs
+
+payload-place-requires : tie.Need-payload-place-requires
+payload-place-requires c κs = search needs
+
+part-at-requires : tie.Need-part-at-requires
+part-at-requires c κs = search needs
+
+returns : tie.Need-returns
+unfolding payloadOf
+returns c =
+    let placed = c .before in
+    let read = placed .before in
+    let p = placed .payload-place .ensures ∙ ap payloadPlace (read .read-datagram .ensures .answer) in
+    c .part-at .ensures ∙ ap (partOf (read .before .before .args .d .now)) p
+
+pub payload-part-spec : {M : Type 1} → statement M
+payload-part-spec =
+    tie.close (tie.spec read-datagram-requires payload-place-requires part-at-requires returns)

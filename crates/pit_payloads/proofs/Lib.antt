@@ -1,0 +1,4 @@
+pub mod Cases
+pub mod Empty
+pub mod Takes
+pub mod Once
