@@ -1,5 +1,5 @@
-# Sourced by tests that call the proved receiver from C, from the repository's root: exports receiver and watch by a crate made of bench/export.txt,
-# watch.txt and watch-proof.txt in a temporary folder, proved there, and links the C sources named with it. With the toolchain alone.
+# Sourced by tests that call the proved receiver, watch and log's reader from C, from the repository's root: proves the crates that export them and links
+# the C sources named with their archives. With the toolchain alone.
 #   build_with_receiver PROGRAM SOURCE..     writes the program
 #   run_x86 PROGRAM ARGS..                   runs it, on another processor under the toolchain's emulator
 command -v rt >/dev/null 2>&1 || { echo "the test needs the Rattle toolchain: there is no command rt" >&2; exit 2; }
@@ -10,23 +10,14 @@ emulator=$tools/bin/qemu-x86_64
 export_to=target/tests/export
 
 export_receiver() {
-    # the archive is made once for all tests that want it
-    made=$export_to/libmeasured.a
-    if [ -f "$made" ] && [ -z "$(find crates crates.txt bench/export.txt tests/reference -newer "$made" -type f -print -quit)" ]; then return; fi
-    all=$(mktemp -d)
-    mkdir -p "$all/target" "$all/crates/measured/src" "$all/crates/measured/proofs/proved_watch" "$export_to"
-    cp -R crates/. "$all/crates"
-    for part in rlib stamp; do
-        [ ! -d "target/$part" ] || cp -R "target/$part" "$all/target/$part"
+    mkdir -p "$export_to"
+    for crate in host_receiver host_flight; do
+        # an archive is made once for all tests that want it
+        made=target/staticlib/lib$crate.a
+        if [ -f "$made" ] && [ -z "$(find crates crates.txt -newer "$made" -type f -print -quit)" ]; then continue; fi
+        echo "proving and building the crate $crate" >&2
+        rt staticlib "$crate" >"$export_to/log" 2>&1 || { cat "$export_to/log" >&2; exit 1; }
     done
-    cp crates.txt "$all/crates.txt"
-    echo "measured: wire words steps receiver watch" >>"$all/crates.txt"
-    cat bench/export.txt tests/reference/watch.txt >"$all/crates/measured/src/lib.rt"
-    cp tests/reference/watch-proof.txt "$all/crates/measured/proofs/proved_watch/Proof.antt"
-    echo "proving the receiver's export" >&2
-    (cd "$all" && rt staticlib measured) >"$export_to/log" 2>&1 || { cat "$export_to/log" >&2; rm -rf "$all"; exit 1; }
-    cp "$all/target/staticlib/libmeasured.a" "$made"
-    rm -rf "$all"
 }
 
 build_with_receiver() {
@@ -41,7 +32,7 @@ build_with_receiver() {
     done
     # shellcheck disable=SC2086 # one word an object
     "$tools/bin/ld.lld" -pie --dynamic-linker /lib64/ld-linux-x86-64.so.2 -o "$program" \
-        "$lib/Scrt1.o" "$lib/crti.o" "$lib/crtbeginS.o" $objects "$export_to/libmeasured.a" \
+        "$lib/Scrt1.o" "$lib/crti.o" "$lib/crtbeginS.o" $objects target/staticlib/libhost_receiver.a target/staticlib/libhost_flight.a \
         "$lib/libc.so.6" "$lib/libc_nonshared.a" "$lib/libgcc.a" "$lib/crtendS.o" "$lib/crtn.o"
 }
 

@@ -1,0 +1,18 @@
+/* What the parts of this test share. */
+
+#ifndef RECEIVER_TEST_H
+#define RECEIVER_TEST_H
+
+#include "../reference/reference.h"
+
+/* Counts one thing that must hold, and says what does not. */
+void held(int good, const char *what, u64 call);
+
+/* The watch, and the log's reader, beside the reference: a run of each from a seed. */
+void watch_run(u64 seed);
+void log_run(u64 seed);
+
+/* How often a log's head was answered by each number. */
+extern u64 heads_met[64];
+
+#endif
