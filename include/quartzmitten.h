@@ -1,9 +1,9 @@
 /* Quartzmitten for a C host: the checksum, the datagram reader, the cutter, the receiver, the sequence watch, the log's writer and reader, and the
-   count of a log.
+   index and the count of a log.
 
    Link the archives libhost.a, libhost_receiver.a (qm_open, qm_receive, qm_receive_within, qm_forget, qm_lengths), libhost_flight.a (qm_log_first, qm_log_next,
-   qm_watch_see) and libhost_count.a (qm_count), or those whose functions are called: the toolchain's `rt staticlib host`, `rt staticlib host_receiver` and so on write
-   them (x86-64 Linux). No other header is needed.
+   qm_watch_see), libhost_index.a (qm_index, qm_find) and libhost_count.a (qm_count), or those whose functions are called: the toolchain's `rt staticlib host`,
+   `rt staticlib host_receiver` and so on write them (x86-64 Linux). No other header is needed.
 
    What holds for all of them:
    - They end for any bytes and any lengths, keep no state of their own, ask the system for nothing, and may be called from any thread.
@@ -144,6 +144,42 @@ enum {
    in byte order, 43 where the log ends inside the entry, 41, 42; then nothing is written. */
 qm_u32 qm_log_next(const qm_byte *log, qm_size length, qm_size at, qm_u64 *entry, qm_size entry_length);
 
+/* The index of a log: a row for each entry that the datagram reader accepts within the log's limits, sorted by sender, then sequence, then place. */
+
+/* The places of the numbers of a row. */
+enum {
+    QM_ROW_SENDER,    /* the entry's sender */
+    QM_ROW_SEQUENCE,  /* its datagram's sequence number */
+    QM_ROW_PLACE,     /* where the entry begins in the log */
+    QM_ROW            /* three */
+};
+
+/* The most rows of an index, and the numbers (64 bits) of one that is full. */
+#define QM_MAX_INDEX 4096
+#define QM_INDEX (QM_MAX_INDEX * QM_ROW)
+
+/* Works out the index of a log of `length` bytes.
+
+   Answers 2^32 + (number of rows) and writes the rows to the start of `index`; what stands after them stays. Otherwise answers a refusal, which is below
+   2^32 as no other answer is, and then nothing is written: the log's own over the whole log, 43, 40, 41, 42, 45 in byte order; then 44 where there are more
+   than QM_MAX_INDEX rows, or more than `index` has room for. */
+qm_u64 qm_index(const qm_byte *log, qm_size length, qm_u64 *index, qm_size index_length);
+
+#define QM_INDEX_ROWS(answer) ((qm_u32) (answer))
+
+/* The places of the numbers that qm_find writes. */
+enum {
+    QM_KNOWN,         /* 1 where the log has the key, else 0 */
+    QM_PLACE,         /* where the first entry of the key begins in the log, else 0 */
+    QM_FIND           /* two */
+};
+
+/* Looks up a key, the sender and the sequence of a message, in an index that has so many rows, by halving. Where `index` is too short for them, it has as many
+   as stand there. Of numbers that are no index it says what comes of them.
+
+   Answers 0 and writes the two numbers above to the start of `place`; what stands after them stays. Otherwise 13, and writes nothing, where fewer fit. */
+qm_u32 qm_find(const qm_u64 *index, qm_size index_length, qm_size rows, qm_u64 sender, qm_u32 sequence, qm_u64 *place, qm_size place_length);
+
 /* The receiver: fragments of messages joined in lent memory, each message delivered once.
 
    A host lends a state, names, a store and a ledger, always the same, and changes nothing in them between calls. qm_open makes the state and the names;
@@ -246,7 +282,8 @@ enum {
     QM_LENGTH_LEDGER,
     QM_LENGTH_OUTCOME,
     QM_LENGTH_WATCH_SENDERS,
-    QM_LENGTHS                /* nine */
+    QM_LENGTH_INDEX,
+    QM_LENGTHS                /* ten */
 };
 
 /* Writes them to the start of `lengths` and answers 0; or 13, and writes nothing, where fewer than QM_LENGTHS numbers fit. */
