@@ -10,9 +10,10 @@ use Rattle.datagram.specs.Limits.{maxName, maxPayload, maxFragments}
 use Rattle.steps.specs.Limits.{slotCount, ledgerLength}
 use Rattle.receiver_state.specs.View.{stateWords, nameBytes}
 use Rattle.watch.specs.Limits.{maxSenders}
+use Rattle.log_index.specs.Limits.{maxIndex}
 use Rattle.host_receiver.specs.Calls.{outcomeCount}
 
--- slots, payload, fragments, name; words of a state, bytes of its names, numbers of a ledger; numbers of an outcome; senders of a watch
+-- slots, payload, fragments, name; words of a state, bytes of its names, numbers of a ledger; numbers of an outcome; senders of a watch; rows of an index
 abbrev pub lengthsAre : List ℕ
 lengthsAre =
     slotCount
@@ -24,6 +25,7 @@ lengthsAre =
     ∷ ledgerLength
     ∷ outcomeCount
     ∷ maxSenders
+    ∷ maxIndex
     ∷ []
 
 pub record LengthsTold (list : List ℕ) (answer : ℕ) (list′ : List ℕ) : Type 0 where

@@ -18,7 +18,7 @@ const ANSWERED: usize = 4;
 pub const OUTCOME: usize = ANSWERED + 3;
 
 // How many lengths there are.
-pub const LENGTHS: usize = 9;
+pub const LENGTHS: usize = 10;
 
 // The list or the bytes for an outcome are too short.
 pub const TOO_SHORT: u32 = 13;
@@ -188,6 +188,7 @@ pub extern "C" fn qm_lengths(lengths: &mut [u64]) -> u32
         receiver::LEDGER as u64,
         OUTCOME as u64,
         watch::SENDERS as u64,
+        log_index::MAX_INDEX as u64,
     ];
     words::put_words(lengths, 0, &all);
     0

@@ -6,7 +6,7 @@ use Rattle.host_receiver.proofs.qm_lengths.Tie as tie
 
 returns : tie.Need-returns
 returns c =
-    let t = lt-ltb _ 9 (c .if1 .taken) in
+    let t = lt-ltb _ 10 (c .if1 .taken) in
     record { gave = rw t; left = rw t }
 
 cast-t7 : tie.Need-cast-t7
@@ -23,7 +23,7 @@ same-length c = search needs
 
 returns-2 : tie.Need-returns-2
 returns-2 c =
-    let t = le-ltb _ 9 (c .before .before .before .before .before .if1 .left) in
+    let t = le-ltb _ 10 (c .before .before .before .before .before .if1 .left) in
     record { gave = rw t; left = rw t (c .before .before .put-words .ensures) }
 
 pub qm-lengths-spec : {M : Type 1} → statement M
