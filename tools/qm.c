@@ -121,16 +121,18 @@ static const struct {
 
 enum { COMMANDS = sizeof commands / sizeof *commands };
 
+static const char statuses[] = "Status: 0 done, 1 a file or the output failed, 2 called otherwise, 3 the log is refused.\n";
+
 static int usage(void *to, int status) {
     fprintf(to, "usage: qm COMMAND LOG\n");
     for (unsigned i = 0; i < COMMANDS; i++) fprintf(to, "  qm %s %s\n      %s\n", commands[i].name, commands[i].takes, commands[i].does);
-    fprintf(to, "`qm COMMAND --help` says more. Status: 0 done, 1 a file or the output failed, 2 called otherwise, 3 the log is refused.\n");
+    fprintf(to, "`qm COMMAND --help` says more. %s", statuses);
     return status;
 }
 
 static int command_usage(void *to, unsigned i, int status) {
     fprintf(to, "usage: qm %s %s\n", commands[i].name, commands[i].takes);
-    if (status == DONE) fprintf(to, "%s\n", commands[i].says);
+    if (status == DONE) fprintf(to, "%s%s", commands[i].says, statuses);
     return status;
 }
 

@@ -64,6 +64,10 @@ const qm_byte *walk_datagram(const struct walk *w);
 /* The last line, `end N` or `refused R after N`, and the status: all that was printed went out, or why not, or what the refusal means. */
 int walk_end(struct walk *w);
 
+/* Around one call that goes over a whole log: standard error is told each second how long it takes, where anybody waits. */
+int working(const char *command, const char *path, qm_size length);
+void worked(int shown);
+
 /* ---- the commands: each prints what it has to say and answers the status */
 
 int list_command(const char *path);

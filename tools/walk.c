@@ -1,13 +1,24 @@
-/* A log, entry by entry: the reading that list, replay, gaps, index and keep share. For a long log standard error tells how far it is. */
+/* A log, entry by entry: the reading that list, replay, gaps and keep share. For a long log standard error tells how far it is. */
 
 #include "qm.h"
 
 int isatty(int file);
+unsigned alarm(unsigned seconds);
+void *signal(int number, void (*handler)(int));
 
 /* A log of fewer bytes is read before anybody waits. */
-enum { LONG = 1 << 24 };
+enum { LONG = 1 << 24, ALARM = 14 };
 
-/* Told where standard error is a terminal and the lines go elsewhere, once for each hundredth. */
+/* Told where standard error is a terminal and the lines go elsewhere. */
+static int is_told(qm_size length) {
+    return length >= LONG && isatty(2) && !isatty(1);
+}
+
+static void wipe(void) {
+    fprintf(stderr, "\r\33[K");
+}
+
+/* Once for each hundredth. */
 static void show(struct walk *w) {
     int hundredth = (int) (w->next / (w->log.length / 100));
     if (hundredth == w->shown) return;
@@ -17,7 +28,7 @@ static void show(struct walk *w) {
 
 void walk_over(struct walk *w, const char *command, const char *path, struct mapped log) {
     *w = (struct walk) {.command = command, .path = path, .log = log, .shown = -1};
-    if (log.length >= LONG && isatty(2) && !isatty(1)) w->shown = 0;
+    if (is_told(log.length)) w->shown = 0;
     w->refusal = qm_log_first(log.bytes, log.length, w->head, QM_HEAD);
     if (w->refusal == 0) w->next = w->head[QM_FIRST_PLACE];
 }
@@ -32,7 +43,7 @@ int walk_begin(struct walk *w, const char *command, const char *path) {
 int walk_on(struct walk *w) {
     if (w->refusal == 0) w->refusal = qm_log_next(w->log.bytes, w->log.length, w->next, w->entry, QM_ENTRY);
     if (w->refusal != 0 || !w->entry[QM_FOUND]) {
-        if (w->shown > 0) fprintf(stderr, "\r\33[K");
+        if (w->shown > 0) wipe();
         return 0;
     }
     w->entries++;
@@ -51,4 +62,33 @@ int walk_end(struct walk *w) {
     else printf("refused %u after %llu\n", w->refusal, w->entries);
     if (printed(w->command) != DONE) return FAILED;
     return w->refusal == 0 ? DONE : refused(w->command, w->path, w->refusal);
+}
+
+/* ---- one call over a whole log: how far it is nobody knows, but how long it has taken */
+
+static const char *doing, *whose;
+static qm_size bytes;
+static unsigned seconds;
+
+/* The call asks the C library for nothing, so nothing of it is under way when this comes. */
+static void tell_seconds(int number) {
+    (void) number;
+    fprintf(stderr, "\rqm %s: %s: %llu MB, %u s", doing, whose, bytes >> 20, seconds++);
+    alarm(1);
+}
+
+int working(const char *command, const char *path, qm_size length) {
+    if (!is_told(length)) return 0;
+    doing = command;
+    whose = path;
+    bytes = length;
+    signal(ALARM, tell_seconds);
+    tell_seconds(ALARM);
+    return 1;
+}
+
+void worked(int shown) {
+    if (!shown) return;
+    alarm(0);
+    wipe();
 }
