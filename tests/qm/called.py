@@ -3,6 +3,8 @@ import os
 import platform
 import subprocess
 import sys
+import threading
+from concurrent.futures import ThreadPoolExecutor
 
 ROOT = os.path.join(os.path.dirname(os.path.abspath(__file__)), "..", "..")
 for folder in ("vectors", "log"):
@@ -45,11 +47,21 @@ def program(name, *words):
 LOADER = QM[:-1]
 
 
+one_at_a_time = threading.Lock()
+
+
 def held(good, what, got="", expected=""):
     global passed, failed
-    passed, failed = passed + bool(good), failed + (not good)
-    if not good and failed < 20:
-        print(f"{what}: {got[-200:]!r} and not {expected[-200:]!r}")
+    with one_at_a_time:
+        passed, failed = passed + bool(good), failed + (not good)
+        if not good and failed < 20:
+            print(f"{what}: {got[-200:]!r} and not {expected[-200:]!r}")
+
+
+def side_by_side(do, things):
+    """Does something with each thing and its number, as many at a time as there are processors: a program under the emulator takes long to start."""
+    with ThreadPoolExecutor(os.cpu_count()) as pool:
+        list(pool.map(do, range(len(things)), things))
 
 
 def close():

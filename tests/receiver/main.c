@@ -5,7 +5,7 @@
 #include "../reference/random.h"
 #include "receiver.h"
 
-enum { STORE = 8 * 700 + 5, ROOM = 2048, KEEP = 4096, RUNS = 60, CALLS = 4000 };
+enum { STORE = 8 * 700 + 5, ROOM = 2048, KEEP = 4096, RUNS = 30, CALLS = 4000 };
 
 static struct region lent_state, lent_names, lent_store, lent_ledger, lent_told, lent_name;
 static u64 *state, old_state[QM_STATE];
@@ -190,13 +190,13 @@ static void mast_run(void) {
 
 /* The header's lengths are the archive's. */
 static void lengths_run(void) {
-    static const u64 header[QM_LENGTHS] = {QM_SLOTS, QM_MAX_PAYLOAD, QM_MAX_FRAGMENTS, QM_MAX_NAME, QM_STATE, QM_NAMES, QM_LEDGER, QM_OUTCOME, QM_WATCH_SENDERS};
+    static const u64 header[QM_LENGTHS] = {QM_SLOTS, QM_MAX_PAYLOAD, QM_MAX_FRAGMENTS, QM_MAX_NAME, QM_STATE, QM_NAMES, QM_LEDGER, QM_OUTCOME, QM_WATCH_SENDERS, QM_MAX_INDEX};
     u64 lengths[QM_LENGTHS + 1];
     for (u64 i = 0; i <= QM_LENGTHS; i++) lengths[i] = ~i;
     held(qm_lengths(lengths, QM_LENGTHS - 1) == QM_TOO_SHORT && lengths[0] == ~0ULL, "answer of lengths", 0);
     held(qm_lengths(lengths, QM_LENGTHS + 1) == 0 && lengths[QM_LENGTHS] == ~(u64) QM_LENGTHS, "answer of lengths", 0);
     for (u64 i = 0; i < QM_LENGTHS; i++) held(lengths[i] == header[i], "length in the header", i);
-    held(QM_STORE == QM_SLOTS * lengths[QM_LENGTH_PAYLOAD] && QM_SLOTS == SLOTS && QM_LEDGER == LEDGER && QM_MAX_NAME == MAX_NAME, "length in the header", 9);
+    held(QM_STORE == QM_SLOTS * lengths[QM_LENGTH_PAYLOAD] && QM_SLOTS == SLOTS && QM_LEDGER == LEDGER && QM_MAX_NAME == MAX_NAME && QM_MAX_INDEX == INDEXED, "length in the header", 9);
 }
 
 int main(void) {
@@ -212,7 +212,9 @@ int main(void) {
         random_state = 1037 + r;
         run(ONE_OF(1, 2, 5, 16, 17, 20), ONE_OF(6, 40, 1000));
         watch_run(1037 + r);
-        log_run(1037 + r);
+        log_run(1037 + 2 * r);
+        log_run(1037 + 2 * r + 1);
+        index_run(1037 + r);
     }
     printf("receiver: kept %llu, repeat %llu, delivered %llu, refused %llu, emptied %llu, forgotten %llu; refused", met[REF_KEPT], met[REF_REPEAT],
            met[REF_DELIVERED], met[REF_REFUSED], emptied_keys, forgotten);
@@ -224,9 +226,13 @@ int main(void) {
     printf(" 13: %llu", too_short);
     printf("; within a log's limits received %llu, refused 5: %llu 6: %llu", within[0], within[5], within[6]);
     if (within[0] < 1000 || within[5] < 1000 || within[6] < 1000) held(0, "mixture is needed: limits bind too seldom", within[5]);
-    static const int heads[] = {0, 13, 40, 41, 43, 45};
+    static const int heads[] = {0, 13, 40, 41, 43, 45}, indexes[] = {0, 40, 41, 42, 43, 44};
     for (u64 i = 0; i < sizeof heads / sizeof *heads; i++)
         if (heads_met[heads[i]] == 0) held(0, "mixture is needed: an answer to a head never comes", (u64) heads[i]);
+    for (u64 i = 0; i < sizeof indexes / sizeof *indexes; i++)
+        if (indexes_met[indexes[i]] == 0) held(0, "mixture is needed: an answer to an index never comes", (u64) indexes[i]);
+    printf("; indexed %llu, keys found %llu, missed %llu", indexes_met[0], keys_found, keys_missed);
+    if (keys_found < 1000 || keys_missed < 1000) held(0, "mixture is needed: a key is found or missed too seldom", keys_found);
     printf("\n%llu passed, %llu failed\n", passed, failed);
     return failed != 0;
 }
