@@ -1,6 +1,5 @@
 // What the van's C host calls for a flight that was kept, and for what was missed: the log's reader at a place, and the sequence watch.
 ghost use mathlib.Core.Path.{_≡_};
-ghost use lib.ListN.{length};
 ghost use Rattle.host_flight.specs.Reading.{FirstTold, NextTold, stepCode, stepLeft};
 use log::EntryAt;
 use log::First;

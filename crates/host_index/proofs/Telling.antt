@@ -1,19 +1,17 @@
 -- An index has no more rows than the macro gives back; what is found in one that was made is the log's first entry; no second answer. Assumes nothing.
-use mathlib.Core.Path.{_≡_, refl, sym, ap, subst, _∙_}
+use mathlib.Core.Path.{_≡_, sym, ap, subst, _∙_}
 use mathlib.Core.Logic.{inl, inr}
 use mathlib.Core.Option.{Option}
 use mathlib.Core.List.{List}
-use Prim.Native.Nat.{ℕ, _+_, _%_, _^_, _≤_, _<_}
+use Prim.Native.Nat.{ℕ, _+_, _≤_, _<_}
 use native.Mathlib.Omega.{arith}
-use lib.Dec.{ltb}
 use lib.ListN.{length}
 use borrow.Author.Tests.{lt-ltb, le-ltb}
 use Rattle.wire.specs.Bytes.{Bytes}
 use Rattle.wire.specs.Overlay.{overlay}
 use Rattle.wire.proofs.Choices.{either}
 use Rattle.wire.proofs.Once.{one-answer}
-use Rattle.log_index.specs.Limits.{maxIndex}
-use Rattle.log_index.specs.Index.{Gathered, gathered, stopped, rowsIn, firstEntry, Answer, holds, refuses, noRoom, answerOf}
+use Rattle.log_index.specs.Index.{Gathered, gathered, stopped, rowsIn, firstEntry, holds, noRoom, answerOf}
 use Rattle.log_index.specs.Words.{foundIn, says}
 use Rattle.log_index.specs.declared.Found.{Found}
 use Rattle.indexing.specs.Adds as adds

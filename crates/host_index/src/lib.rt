@@ -1,6 +1,5 @@
 // The index of a log for the van's C host, and where the first entry of a key begins.
 ghost use mathlib.Core.Path.{_≡_};
-ghost use lib.ListN.{length};
 ghost use Rattle.indexing.specs.Adds as indexing;
 ghost use Rattle.log_index.specs.Words.{says};
 ghost use Rattle.host_index.specs.Told.{indexCode, Few, IndexTold, placeNumbers, FindTold};

@@ -1,7 +1,6 @@
 -- No second answer satisfies a contract of this crate, and none leaves other words, bytes or numbers in what was lent. Assumes nothing.
-use mathlib.Core.Path.{_≡_, refl, sym, ap, _∙_}
+use mathlib.Core.Path.{_≡_, sym, ap, _∙_}
 use mathlib.Core.Logic.{inl, inr}
-use mathlib.Core.Bool.{Bool, true, false}
 use mathlib.Core.List.{List}
 use Prim.Native.Nat.{ℕ}
 use Rattle.wire.specs.Overlay.{overlay}
@@ -14,7 +13,7 @@ use Rattle.receiver_laws.proofs.Once.{Same, receive-once, Alike, open-once, for
 use Rattle.log.specs.declared.reader.Limits.{Limits}
 use Rattle.bounded.specs.Within.{ReceivesWithin}
 use Rattle.bounded.proofs.Once.{within-once}
-use Rattle.host_receiver.specs.Outcomes.{outcomeNumbers, answerCode, unlessRefused, Tells}
+use Rattle.host_receiver.specs.Outcomes.{outcomeNumbers, answerCode, unlessRefused}
 use Rattle.host_receiver.specs.Calls.{callCode, OpenTold, ForgetTold, lacking, Untouched, Heard, ReceiveTold, WithinTold}
 use Rattle.host_receiver.specs.Lengths.{LengthsTold}
 

@@ -1,6 +1,6 @@
 -- The two ways of qm_receive and qm_receive_within: no room for the outcome, and the receiver's own call. Assumes nothing.
-use mathlib.Core.Path.{_≡_, refl, sym, _∙_}
-use mathlib.Core.Bool.{Bool, true, false, _||_}
+use mathlib.Core.Path.{_≡_, refl}
+use mathlib.Core.Bool.{true, false}
 use mathlib.Core.List.{List}
 use Prim.Native.Nat.{ℕ, _≤_, _<_}
 use lib.Dec.{ltb}
@@ -13,7 +13,7 @@ use Rattle.receiver.specs.declared.Outcome.{Outcome}
 use Rattle.log.specs.declared.reader.Limits.{Limits}
 use Rattle.bounded.specs.Within.{ReceivesWithin}
 use Rattle.host_receiver.specs.Outcomes.{Tells}
-use Rattle.host_receiver.specs.Calls.{outcomeCount, lacking, Untouched, Heard, ReceiveTold, WithinTold}
+use Rattle.host_receiver.specs.Calls.{outcomeCount, lacking, ReceiveTold, WithinTold}
 
 -- ---- whether there is room
 

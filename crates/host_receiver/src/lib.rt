@@ -6,7 +6,6 @@ use steps::Answer;
 use steps::Emptied;
 use steps::PayloadAt;
 ghost use mathlib.Core.Path.{_≡_};
-ghost use lib.ListN.{length};
 ghost use Rattle.receiver.specs.Calls.{refusalOf};
 ghost use Rattle.host_receiver.specs.Outcomes.{placeNumbers, answerNumbers, emptiedNumbers, Writes, Tells};
 ghost use Rattle.host_receiver.specs.Calls.{callCode, OpenTold, ForgetTold, lacking, ReceiveTold, WithinTold};

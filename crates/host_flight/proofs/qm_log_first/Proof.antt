@@ -32,11 +32,15 @@ same-length c = search needs
 
 returns-2 : tie.Need-returns-2
 returns-2 c =
-    first-told _ _ _ _ _ (le-ltb _ 3 (c .before .before .before .before .before .before .before .before .before .before .if1 .left)) (sym (c .before .before .before .before .before .before .before .before .before .first-entry .ensures) ∙ c .before .before .before .before .before .before .before .first .given .1) refl (c .before .before .put-words .ensures)
+    let putting = c .before .before in
+    let met = putting .before .before .before .before .before in
+    let reading = met .before .before in
+    first-told _ _ _ _ _ (le-ltb _ 3 (reading .before .if1 .left)) (sym (reading .first-entry .ensures) ∙ met .first .given .1) refl (putting .put-words .ensures)
 
 returns-3 : tie.Need-returns-3
 returns-3 c =
-    first-told _ _ _ _ _ (le-ltb _ 3 (c .before .before .before .before .if1 .left)) (sym (c .before .before .before .first-entry .ensures) ∙ c .before .first2 .given .1) refl refl
+    let reading = c .before .before .before in
+    first-told _ _ _ _ _ (le-ltb _ 3 (reading .before .if1 .left)) (sym (reading .first-entry .ensures) ∙ c .before .first2 .given .1) refl refl
 
 pub qm-log-first-spec : {M : Type 1} → statement M
 qm-log-first-spec =

@@ -33,7 +33,9 @@ same-length c = search needs
 returns-2 : tie.Need-returns-2
 returns-2 c =
     let p = c .before .before .put-found .ensures in
-    next-told _ _ _ _ _ _ (le-ltb _ 6 (c .before .before .before .before .before .before .before .before .if1 .left)) (sym (c .before .before .before .before .before .before .before .next-entry .ensures) ∙ c .before .before .before .before .before .step .given .1) (p .0) (p .1)
+    let met = c .before .before .before .before .before in
+    let reading = met .before .before in
+    next-told _ _ _ _ _ _ (le-ltb _ 6 (reading .before .if1 .left)) (sym (reading .next-entry .ensures) ∙ met .step .given .1) (p .0) (p .1)
 
 same-length-2 : tie.Need-same-length-2
 same-length-2 c = search needs
@@ -41,11 +43,14 @@ same-length-2 c = search needs
 returns-3 : tie.Need-returns-3
 returns-3 c =
     let p = c .before .before .put-end .ensures in
-    next-told _ _ _ _ _ _ (le-ltb _ 6 (c .before .before .before .before .before .before .before .if1 .left)) (sym (c .before .before .before .before .before .before .next-entry .ensures) ∙ c .before .before .before .before .enum-told .given .1) (p .0) (p .1)
+    let met = c .before .before .before .before in
+    let reading = met .before .before in
+    next-told _ _ _ _ _ _ (le-ltb _ 6 (reading .before .if1 .left)) (sym (reading .next-entry .ensures) ∙ met .enum-told .given .1) (p .0) (p .1)
 
 returns-4 : tie.Need-returns-4
 returns-4 c =
-    next-told _ _ _ _ _ _ (le-ltb _ 6 (c .before .before .before .before .if1 .left)) (sym (c .before .before .before .next-entry .ensures) ∙ c .before .step2 .given .1) refl refl
+    let reading = c .before .before .before in
+    next-told _ _ _ _ _ _ (le-ltb _ 6 (reading .before .if1 .left)) (sym (reading .next-entry .ensures) ∙ c .before .step2 .given .1) refl refl
 
 pub qm-log-next-spec : {M : Type 1} → statement M
 qm-log-next-spec =

@@ -1,7 +1,5 @@
 -- `host_flight::watching::shown` meets its contract. Assumes nothing.
-use mathlib.Core.Path.{_≡_, _∙_}
-use mathlib.Core.List.{List}
-use Prim.Native.Nat.{ℕ}
+use mathlib.Core.Path.{_∙_}
 use Rattle.host_flight.proofs.Watched.{overlay-whole}
 use borrow.Author.Needs.{needs}
 use Rattle.host_flight.proofs.watching.shown.Statement.{statement}
