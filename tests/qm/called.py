@@ -1,30 +1,23 @@
 """Calling qm and the Rattle programs from a test: built first, and on another processor than x86-64 under the toolchain's emulator."""
 import os
-import platform
 import subprocess
 import sys
 import threading
 from concurrent.futures import ThreadPoolExecutor
 
 ROOT = os.path.join(os.path.dirname(os.path.abspath(__file__)), "..", "..")
-for folder in ("vectors", "log"):
+for folder in ("vectors", "log", "reference"):
     sys.path.insert(0, os.path.join(ROOT, "tests", folder))
 sys.dont_write_bytecode = True
+import built  # noqa: E402
+
 passed = failed = 0
-
-
-def loader():
-    guide = subprocess.run(["rt", "doc"], capture_output=True, text=True, check=True).stdout.strip()
-    tools = os.path.join(os.path.dirname(os.path.dirname(guide)), "on", platform.machine(), "toolchain")
-    lib = os.path.join(tools, "lib")
-    how = [os.path.join(lib, "ld-linux-x86-64.so.2"), "--library-path", lib]
-    return how if platform.machine() == "x86_64" else [os.path.join(tools, "bin", "qemu-x86_64")] + how
 
 
 def build():
     if subprocess.run([os.path.join(ROOT, "tools", "build")]).returncode != 0:
         sys.exit("tools/build has failed")
-    return loader() + [os.path.join(ROOT, "target", "tools", "qm")]
+    return built.RUN + [os.path.join(ROOT, "target", "tools", "qm")]
 
 
 QM = build()
@@ -40,11 +33,8 @@ def qm(*words, **how):
 def program(name, *words):
     """A function from input and arguments to output: the proved program. It is built by a call with these arguments."""
     subprocess.run([os.path.join(ROOT, "run"), name, *words], input=b"", stdout=subprocess.DEVNULL, check=True)
-    built = LOADER + [os.path.join(ROOT, "target", "bin", name)]
-    return lambda b, *words: subprocess.run(built + list(words), input=b, stdout=subprocess.PIPE, check=True).stdout.decode()
-
-
-LOADER = QM[:-1]
+    run = built.program(name)
+    return lambda b, *words: subprocess.run(run + list(words), input=b, stdout=subprocess.PIPE, check=True).stdout.decode()
 
 
 one_at_a_time = threading.Lock()
