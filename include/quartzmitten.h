@@ -1,10 +1,12 @@
-/* Quartzmitten for a C host: the checksum, the datagram reader, the cutter, the log's writer and the count of a log.
+/* Quartzmitten for a C host: the checksum, the datagram reader, the cutter, the receiver, the sequence watch, the log's writer and reader, and the
+   index and the count of a log.
 
-   Link the archives libhost.a and libhost_count.a, or the one whose functions are called (qm_count is the second's): the toolchain's
-   `rt staticlib host` and `rt staticlib host_count` write them (x86-64 Linux). No other header is needed.
+   Link the archives libhost.a, libhost_receiver.a (qm_open, qm_receive, qm_receive_within, qm_forget, qm_lengths), libhost_flight.a (qm_log_first, qm_log_next,
+   qm_watch_see), libhost_index.a (qm_index, qm_find) and libhost_count.a (qm_count), or those whose functions are called: the toolchain's `rt staticlib host`,
+   `rt staticlib host_receiver` and so on write them (x86-64 Linux). No other header is needed.
 
    What holds for all of them:
-   - They end for any bytes and any lengths, keep no state, ask the system for nothing, and may be called from any thread.
+   - They end for any bytes and any lengths, keep no state of their own, ask the system for nothing, and may be called from any thread.
    - They read and write only the memory lent in the call. A refusal writes nothing, but for what qm_count says of three of its own.
    - Lent memory is a pointer and how many elements stand there. The pointer is never null, also where the length is 0, and
      a list of 32-bit numbers is aligned to 4 bytes, one of 64-bit numbers to 8. What is written to must not overlap anything else
@@ -32,14 +34,18 @@ typedef unsigned long long qm_size; /* a length, a place or a number of elements
 #define QM_FRAGMENT_NUMBER 5    /* count 0 or over 1,024, or a number not below the count */
 #define QM_PAYLOAD_TOO_LONG 6   /* payload size over 1,048,576 */
 #define QM_FORM 7               /* the form of a fragment broken */
+#define QM_DISAGREES 8          /* a fragment that disagrees with the open message of its key */
+#define QM_NOT_READY 9          /* state, names, store or ledger not of the lengths of opening, or a state not made by these calls */
 #define QM_DATAGRAM_SIZE 10     /* datagram size outside 96 to 65,507 */
 #define QM_TOO_MANY_FRAGMENTS 11 /* more than 1,024 fragments */
 #define QM_NO_SUCH_DATAGRAM 12  /* the datagram asked for is not below the number of datagrams */
 #define QM_TOO_SHORT 13         /* output or list too short */
+#define QM_WATCH_FULL 14        /* a 17th sender at a watch, or a watch that claims more than 16 */
 #define QM_EDITION 40           /* a log of no edition that is known: it begins with neither 1 nor 2 */
-#define QM_NOT_SHORTEST 41      /* a number of a log's entry not in its shortest form, or a tenth byte above 1 */
+#define QM_NOT_SHORTEST 41      /* a number of a log not in its shortest form, or a tenth byte above 1 */
 #define QM_KEPT_TOO_LONG 42     /* a datagram to keep, or kept, over 65,535 bytes */
 #define QM_LOG_CUT 43           /* a log that is empty, or ends inside an entry */
+#define QM_INDEX_FULL 44        /* an index of more than 4,096 entries */
 #define QM_LOG_LIMIT 45         /* a log's payload limit over 1,048,576 */
 #define QM_TOO_MANY_TILES 60    /* a 257th tile */
 #define QM_TOO_MANY_PITS 61     /* an 8,193rd pit, over all tiles */
@@ -107,16 +113,186 @@ qm_u64 qm_log_append(qm_byte *out, qm_size out_length, qm_size at, qm_u64 sender
 
 #define QM_LOG_LENGTH(answer) ((qm_size) ((answer) >> 32))
 
-/* The count of a flight: how often each answer was given, and for each tile its distinct pits. */
+/* Reading a log in lent memory, which may have been mapped from a file: its head once, then one entry after another. */
 
-/* What a host lends for it: a store of eight slots of the largest payload, the ledger of two numbers for each fragment of each slot,
-   and as many numbers as the longest message can have. */
+/* The places of the numbers that qm_log_first writes. */
+enum {
+    QM_FIRST_PLACE,   /* where the first entry begins */
+    QM_LOG_PAYLOAD,   /* the largest payload of the log's fragmented messages: in edition 1 262,144, in edition 2 what the log says */
+    QM_LOG_FRAGMENTS, /* the most fragments of one: 256, or 1,024 */
+    QM_HEAD           /* three */
+};
+
+/* Judges the head of a log. Answers 0 and writes the three numbers above to the start of `head`. Otherwise 13 where `head` has room for fewer;
+   then 43 where the log is empty, 40 where it is no log of an edition that is known, and of the limit of edition 2 43, 41, 45; then nothing is written. */
+qm_u32 qm_log_first(const qm_byte *log, qm_size length, qm_u64 *head, qm_size head_length);
+
+/* The places of the numbers that qm_log_next writes. */
+enum {
+    QM_FOUND,         /* 1 an entry, 0 the end of the log: then sender, tick and length are 0, and both places are the one asked for */
+    QM_SENDER,        /* the entry's sender */
+    QM_TICK,          /* its arrival tick */
+    QM_ENTRY_PLACE,   /* where its datagram begins in the log */
+    QM_ENTRY_LENGTH,  /* how many bytes the datagram has */
+    QM_NEXT_PLACE,    /* where the next entry begins */
+    QM_ENTRY          /* six */
+};
+
+/* Reads the entry at the place `at`: that of qm_log_first, and then each QM_NEXT_PLACE. Any place may be given; at or past the log's length is its end.
+
+   Answers 0 and writes the six numbers above to the start of `entry`; what stands after them stays. Otherwise 13 where `entry` has room for fewer; then,
+   in byte order, 43 where the log ends inside the entry, 41, 42; then nothing is written. */
+qm_u32 qm_log_next(const qm_byte *log, qm_size length, qm_size at, qm_u64 *entry, qm_size entry_length);
+
+/* The index of a log: a row for each entry that the datagram reader accepts within the log's limits, sorted by sender, then sequence, then place. */
+
+/* The places of the numbers of a row. */
+enum {
+    QM_ROW_SENDER,    /* the entry's sender */
+    QM_ROW_SEQUENCE,  /* its datagram's sequence number */
+    QM_ROW_PLACE,     /* where the entry begins in the log */
+    QM_ROW            /* three */
+};
+
+/* The most rows of an index, and the numbers (64 bits) of one that is full. */
+#define QM_MAX_INDEX 4096
+#define QM_INDEX (QM_MAX_INDEX * QM_ROW)
+
+/* Works out the index of a log of `length` bytes.
+
+   Answers 2^32 + (number of rows) and writes the rows to the start of `index`; what stands after them stays. Otherwise answers a refusal, which is below
+   2^32 as no other answer is, and then nothing is written: the log's own over the whole log, 43, 40, 41, 42, 45 in byte order; then 44 where there are more
+   than QM_MAX_INDEX rows, or more than `index` has room for. */
+qm_u64 qm_index(const qm_byte *log, qm_size length, qm_u64 *index, qm_size index_length);
+
+#define QM_INDEX_ROWS(answer) ((qm_u32) (answer))
+
+/* The places of the numbers that qm_find writes. */
+enum {
+    QM_KNOWN,         /* 1 where the log has the key, else 0 */
+    QM_PLACE,         /* where the first entry of the key begins in the log, else 0 */
+    QM_FIND           /* two */
+};
+
+/* Looks up a key, the sender and the sequence of a message, in an index that has so many rows, by halving. Where `index` is too short for them, it has as many
+   as stand there. Of numbers that are no index it says what comes of them.
+
+   Answers 0 and writes the two numbers above to the start of `place`; what stands after them stays. Otherwise 13, and writes nothing, where fewer fit. */
+qm_u32 qm_find(const qm_u64 *index, qm_size index_length, qm_size rows, qm_u64 sender, qm_u32 sequence, qm_u64 *place, qm_size place_length);
+
+/* The receiver: fragments of messages joined in lent memory, each message delivered once.
+
+   A host lends a state, names, a store and a ledger, always the same, and changes nothing in them between calls. qm_open makes the state and the names;
+   the store and the ledger need no beginning. Each sender has a number of the host's own choice. */
+
+/* How many messages may be open at once; the largest payload, in bytes; the most fragments of a message; the longest name, in bytes. */
 #define QM_SLOTS 8
 #define QM_MAX_PAYLOAD 1048576
 #define QM_MAX_FRAGMENTS 1024
-#define QM_MAX_MESSAGE 1048576
+#define QM_MAX_NAME 63
+/* For how many senders delivered keys are remembered, and how many keys of each. */
+#define QM_MEMORY_SENDERS 16
+#define QM_MEMORY_KEYS 32
+
+/* Words (64 bits): the head, a block for each slot with its held fragments as bits, and the memory of keys. */
+#define QM_SLOT_WORDS (5 + QM_MAX_FRAGMENTS / 64)
+#define QM_MEMORY_WORDS (QM_MEMORY_SENDERS * (3 + QM_MEMORY_KEYS))
+#define QM_STATE (2 + QM_SLOTS * QM_SLOT_WORDS + QM_MEMORY_WORDS)
+/* Bytes. */
+#define QM_NAMES (QM_SLOTS * QM_MAX_NAME)
+/* Bytes: slots of the largest payload. A store may have any length; a slot has an eighth of it, QM_MAX_PAYLOAD at most, and more is refused by 6. */
 #define QM_STORE (QM_SLOTS * QM_MAX_PAYLOAD)
+/* Numbers (32 bits): offset and length of each fragment of each slot. */
 #define QM_LEDGER (QM_SLOTS * QM_MAX_FRAGMENTS * 2)
+
+/* A fresh receiver over a store of `store_length` bytes. Answers 0 and writes all words of `state` and all bytes of `names`; or 9, and writes nothing,
+   where they are not QM_STATE words and QM_NAMES bytes long. */
+qm_u32 qm_open(qm_u64 *state, qm_size state_length, qm_byte *names, qm_size names_length, qm_size store_length);
+
+/* The places of the numbers that qm_receive writes. */
+enum {
+    QM_ANSWER,            /* QM_ANSWER_KEPT, QM_ANSWER_REPEAT or QM_ANSWER_DELIVERED */
+    QM_WHERE,             /* of a delivered message: QM_IN_DATAGRAM or QM_IN_STORE; else 0, as the next two */
+    QM_PAYLOAD_PLACE,     /* where its payload begins there */
+    QM_PAYLOAD_LENGTH,    /* how many bytes it has */
+    QM_EMPTIED,           /* 1 where an open message was given up for this one, else 0, as the next two */
+    QM_EMPTIED_SENDER,    /* whose it was */
+    QM_EMPTIED_SEQUENCE,  /* and its sequence number */
+    QM_OUTCOME            /* seven */
+};
+
+enum { QM_ANSWER_KEPT = 1, QM_ANSWER_REPEAT, QM_ANSWER_DELIVERED };
+enum { QM_IN_DATAGRAM = 1, QM_IN_STORE };
+
+/* Receives one datagram of a sender.
+
+   Answers 0 and writes the seven numbers above to the start of `told` and QM_MAX_NAME bytes to the start of `name`: a delivered message's name with zeros
+   after it, else zeros. The payload stays where it is until the next call. Otherwise answers a refusal, and then nothing at all was written: 13 where `told`
+   has room for fewer than QM_OUTCOME numbers or `name` for fewer than QM_MAX_NAME bytes; then 9; then the datagram reader's, 3, 1, 2, 5, 6, 4, 7,
+   6 by the slot size; then 8. */
+qm_u32 qm_receive(qm_u64 *state, qm_size state_length, qm_byte *names, qm_size names_length, qm_byte *store, qm_size store_length, qm_u32 *ledger,
+                  qm_size ledger_length, qm_u64 sender, const qm_byte *datagram, qm_size length, qm_u64 *told, qm_size told_length, qm_byte *name,
+                  qm_size name_length);
+
+/* Receives one datagram of a sender out of a log: as qm_receive, with the log's limits beside the receiver's. `payload` and `fragments` are those that
+   qm_log_first tells, or any others; a fragment of a larger payload is refused by 6 and one of more fragments by 5, in the reader's place. No limit of a
+   log concerns small messages. */
+qm_u32 qm_receive_within(qm_u64 *state, qm_size state_length, qm_byte *names, qm_size names_length, qm_byte *store, qm_size store_length, qm_u32 *ledger,
+                         qm_size ledger_length, qm_size payload, qm_u32 fragments, qm_u64 sender, const qm_byte *datagram, qm_size length, qm_u64 *told,
+                         qm_size told_length, qm_byte *name, qm_size name_length);
+
+/* A sender began anew: its open messages are given up and its remembered keys dropped. Answers 0, or 9 and then nothing was written. */
+qm_u32 qm_forget(qm_u64 *state, qm_size state_length, qm_byte *names, qm_size names_length, qm_u64 sender);
+
+/* The sequence watch: what a sender's number says about those between. Two lent lists are a watch: how many senders it has seen and the senders, and the
+   last number of each. Filled with zeros they are a watch that has seen nobody. */
+
+/* The numbers of `lasts`, and those of `senders`. */
+#define QM_WATCH_SENDERS 16
+#define QM_WATCH (1 + QM_WATCH_SENDERS)
+
+/* What the watch says. */
+enum {
+    QM_WATCH_FIRST = 1,    /* the sender's first number */
+    QM_WATCH_FORWARD,      /* so many are missing before it */
+    QM_WATCH_SAME,         /* its last number again */
+    QM_WATCH_LATE,         /* so many behind its last, 1,024 at most */
+    QM_WATCH_RESTARTED     /* further behind: the sender began anew, at this number */
+};
+
+/* Asks what a sender's number says, and moves its watch there unless it is QM_WATCH_SAME or QM_WATCH_LATE.
+
+   Answers (what it says) * 2^32 + (the number beside it, or 0). Otherwise a refusal, which is below 2^32 as no other answer is: 13 where `senders` has fewer
+   than QM_WATCH numbers or `lasts` fewer than QM_WATCH_SENDERS; then 14. Then, and where the watch does not move, nothing is written. What stands
+   after the watch's own numbers stays. */
+qm_u64 qm_watch_see(qm_u64 *senders, qm_size senders_length, qm_u32 *lasts, qm_size lasts_length, qm_u64 sender, qm_u32 number);
+
+/* The two halves of what qm_watch_see answers. */
+#define QM_WATCH_KIND(answer) ((qm_u32) ((answer) >> 32))
+#define QM_WATCH_NUMBER(answer) ((qm_u32) (answer))
+
+/* The lengths of this header as the archive has them: a host may compare the two before it begins. */
+enum {
+    QM_LENGTH_SLOTS,
+    QM_LENGTH_PAYLOAD,
+    QM_LENGTH_FRAGMENTS,
+    QM_LENGTH_NAME,
+    QM_LENGTH_STATE,
+    QM_LENGTH_NAMES,
+    QM_LENGTH_LEDGER,
+    QM_LENGTH_OUTCOME,
+    QM_LENGTH_WATCH_SENDERS,
+    QM_LENGTH_INDEX,
+    QM_LENGTHS                /* ten */
+};
+
+/* Writes them to the start of `lengths` and answers 0; or 13, and writes nothing, where fewer than QM_LENGTHS numbers fit. */
+qm_u32 qm_lengths(qm_u64 *lengths, qm_size lengths_length);
+
+/* The count of a flight: how often each answer was given, and for each tile its distinct pits. */
+
+/* What a host lends for it: QM_STORE bytes, QM_LEDGER numbers, and as many numbers as the longest message can have. */
+#define QM_MAX_MESSAGE 1048576
 #define QM_NUMBERS QM_MAX_MESSAGE
 
 #define QM_MAX_TILES 256

@@ -20,7 +20,9 @@ static void print_report(void) {
 int count_command(const char *path) {
     struct mapped log;
     if (map_file("count", path, &log) != DONE) return FAILED;
+    int shown = working("count", path, log.length);
     qm_u32 refusal = qm_count(log.bytes, log.length, store, QM_STORE, ledger, QM_LEDGER, numbers, QM_NUMBERS, report, QM_REPORT);
+    worked(shown);
     if (refusal == 0) print_report();
     else printf("refused %u\n", refusal);
     if (printed("count") != DONE) return FAILED;

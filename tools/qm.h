@@ -1,5 +1,5 @@
-/* What the commands of qm share: files in memory, messages, and the few functions of the C library that they use; the toolchain ships the
-   library without its headers. Programs are x86-64 Linux, and so are these numbers. */
+/* What the commands of qm share: files in memory, a walk over a log's entries, messages, and the few functions of the C library that they use; the
+   toolchain ships the library without its headers. Programs are x86-64 Linux, and so are these numbers. */
 
 #ifndef QM_TOOL_H
 #define QM_TOOL_H
@@ -26,17 +26,56 @@ struct mapped {
     qm_size length;
 };
 
-/* DONE and the file, or FAILED with the reason said. */
+/* DONE and the file, or FAILED with the reason said. The second takes a file that is open. */
 int map_file(const char *command, const char *path, struct mapped *m);
+int map_open_file(const char *command, const char *path, int file, struct mapped *m);
 
 /* DONE where all that was printed went out, or FAILED with the reason said. */
 int printed(const char *command);
 
+/* Says on standard error what the system did not do, by its own last error. Answers FAILED. */
+int failed(const char *command, const char *path);
+
 /* Says on standard error what a refusal means. Answers REFUSED. */
 int refused(const char *command, const char *path, qm_u32 number);
 
+/* ---- a log, entry by entry */
+
+struct walk {
+    const char *command, *path;
+    struct mapped log;
+    qm_u64 head[QM_HEAD];     /* what the head says; zeros where it is refused */
+    qm_u64 entry[QM_ENTRY];   /* the entry at hand */
+    qm_u64 entries;           /* how many were met, with this one */
+    qm_size at;               /* its first byte */
+    qm_size next;             /* where the walk goes on: after the whole entries, where it has ended */
+    qm_u32 refusal;           /* the number that ended the walk, or 0 */
+    int shown;                /* the hundredth that standard error was told last; -1 where it is told nothing */
+};
+
+/* Maps a log and judges its head. DONE, or FAILED with the reason said; a refusal ends the walk at its first step. */
+int walk_begin(struct walk *w, const char *command, const char *path);
+/* The same over a log that is mapped already. */
+void walk_over(struct walk *w, const char *command, const char *path, struct mapped log);
+/* Whether there is one more entry; it is then the one at hand. */
+int walk_on(struct walk *w);
+/* The datagram of the entry at hand. */
+const qm_byte *walk_datagram(const struct walk *w);
+/* The last line, `end N` or `refused R after N`, and the status: all that was printed went out, or why not, or what the refusal means. */
+int walk_end(struct walk *w);
+
+/* Around one call that goes over a whole log: standard error is told each second how long it takes, where anybody waits. */
+int working(const char *command, const char *path, qm_size length);
+void worked(int shown);
+
 /* ---- the commands: each prints what it has to say and answers the status */
 
+int list_command(const char *path);
+int replay_command(const char *path, int large);
+int gaps_command(const char *path);
 int count_command(const char *path);
+int index_command(const char *path);
+int find_command(const char *path, qm_u64 sender, qm_u64 sequence);
+int keep_command(const char *path, int synced);
 
 #endif

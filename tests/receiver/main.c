@@ -1,69 +1,91 @@
-/* The proved receiver beside the reference: the same calls to both, and after each the same answer, name, bytes, store and ledger. */
+/* The proved receiver as a C host calls it, beside the reference: the same calls to both, and after each the same answer, name, bytes, store and ledger. */
 
+#include "../../include/quartzmitten.h"
+#include "../host/lent.h"
 #include "../reference/random.h"
-#include "../reference/reference.h"
+#include "receiver.h"
 
-u64 proved_state_words(void);
-u64 proved_name_bytes(void);
-u32 proved_open(u64 *state, u64 words, u8 *names, u64 bytes, u64 store_length);
-u32 proved_forget(u64 *state, u64 words, u8 *names, u64 bytes, u64 sender);
-void proved_receive(u64 *state, u64 words, u8 *names, u64 bytes, u8 *store, u64 store_length, u32 *ledger, u64 ledger_length,
-                    u64 sender, const u8 *d, u64 length, u64 *told, u64 told_length, u8 *name, u64 name_length);
-void proved_watch(const u64 *senders, u64 n, const u32 *numbers, u64 m, u64 *kinds, u64 k, u64 *by, u64 b);
+enum { STORE = 8 * 700 + 5, ROOM = 2048, KEEP = 4096, RUNS = 30, CALLS = 4000 };
 
-/* What is told of an answer: eight numbers, as bench/export.txt lays them. */
-enum { KIND, REFUSAL, PLACE, AT, LENGTH, EMPTIED, SENDER, SEQUENCE, TOLD };
-enum { KEPT, REPEAT, DELIVERED, REFUSED };
-enum { IN_DATAGRAM = 1, IN_STORE = 2 };
-
-enum { STORE = 8 * 700 + 5, WORDS = 65536, NAMES = 4096, ROOM = 2048, KEEP = 4096, RUNS = 60, CALLS = 4000 };
-
-static u64 state[WORDS], old_state[WORDS];
-static u8 names[NAMES], old_names[NAMES];
-static u8 store[STORE], ref_store[STORE];
-static u32 ledger[LEDGER + 1];
+static struct region lent_state, lent_names, lent_store, lent_ledger, lent_told, lent_name;
+static u64 *state, old_state[QM_STATE];
+static u8 *names, old_names[QM_NAMES], *store, ref_store[STORE];
+static u32 *ledger;
 static struct ref_receiver ref;
-static u64 passed, failed, met[4], refused_by[16], forgotten, emptied_keys, names_seen;
+static u64 passed, failed, met[4], refused_by[16], forgotten, emptied_keys, names_seen, too_short, within[16];
 
-static void held(int good, const char *what, u64 call) {
+void held(int good, const char *what, u64 call) {
     if (good) passed++;
     else if (failed++ < 10) printf("receiver: call %llu: another %s\n", call, what);
 }
 
-/* One call to both, with memory of the lengths of opening or, where `odd`, of others. */
-static void give(u64 sender, const u8 *d, u64 length, int odd, u64 call) {
-    u64 told[TOLD] = {0}, words = proved_state_words(), bytes = proved_name_bytes();
-    u8 name[MAX_NAME] = {0}, ref_name[MAX_NAME] = {0};
-    u64 store_length = STORE - (u64) (odd == 1), ledger_length = LEDGER + (u64) (odd == 2);
-    memcpy(old_state, state, sizeof state);
-    memcpy(old_names, names, sizeof names);
-    proved_receive(state, words - (u64) (odd == 3), names, bytes - (u64) (odd == 4), store, store_length, ledger, ledger_length, sender, d, length,
-                   told, TOLD, name, MAX_NAME);
-    struct ref_answer a = odd > 2 ? (struct ref_answer) {.kind = REF_REFUSED, .refusal = 9}
-                                  : ref_receive_lent(&ref, store_length, ledger_length, sender, d, length);
-    static const u64 kinds[4] = {REFUSED, KEPT, REPEAT, DELIVERED};
-    met[a.kind]++;
-    held(told[KIND] == kinds[a.kind], "answer", call);
-    if (a.kind == REF_REFUSED) {
-        refused_by[a.refusal]++;
-        held(told[REFUSAL] == a.refusal, "refusal", call);
-        held(memcmp(state, old_state, sizeof state) == 0 && memcmp(names, old_names, sizeof names) == 0, "state after a refusal", call);
-    }
-    held(told[EMPTIED] == (u64) a.emptied, "emptied", call);
-    if (a.emptied) {
-        emptied_keys++;
-        held(told[SENDER] == a.emptied_key.sender && told[SEQUENCE] == a.emptied_key.sequence, "emptied key", call);
-    }
-    if (a.kind == REF_DELIVERED) {
-        const u8 *bytes_given = a.in_store ? store : d, *ref_bytes = a.in_store ? ref_store : d;
-        held(told[PLACE] == (a.in_store ? IN_STORE : IN_DATAGRAM) && told[AT] == a.place && told[LENGTH] == a.length, "place", call);
-        held(memcmp(bytes_given + told[AT], ref_bytes + a.place, a.length) == 0, "payload", call);
-        memcpy(ref_name, a.name, a.name_length);
+static void hold_delivered(const struct ref_answer *a, const u64 *told, const u8 *name, const u8 *d, u64 call) {
+    static const u64 kinds[4] = {0, QM_ANSWER_KEPT, QM_ANSWER_REPEAT, QM_ANSWER_DELIVERED};
+    u8 ref_name[MAX_NAME] = {0};
+    held(told[QM_ANSWER] == kinds[a->kind], "answer", call);
+    held(told[QM_EMPTIED] == (u64) a->emptied, "emptied", call);
+    emptied_keys += (u64) a->emptied;
+    held(told[QM_EMPTIED_SENDER] == (a->emptied ? a->emptied_key.sender : 0), "emptied sender", call);
+    held(told[QM_EMPTIED_SEQUENCE] == (a->emptied ? a->emptied_key.sequence : 0), "emptied sequence", call);
+    if (a->kind == REF_DELIVERED) {
+        const u8 *given = a->in_store ? store : d, *ref_given = a->in_store ? ref_store : d;
+        held(told[QM_WHERE] == (a->in_store ? QM_IN_STORE : QM_IN_DATAGRAM) && told[QM_PAYLOAD_PLACE] == a->place && told[QM_PAYLOAD_LENGTH] == a->length, "place", call);
+        held(memcmp(given + told[QM_PAYLOAD_PLACE], ref_given + a->place, a->length) == 0, "payload", call);
+        memcpy(ref_name, a->name, a->name_length);
         names_seen++;
+    } else {
+        held(told[QM_WHERE] == 0 && told[QM_PAYLOAD_PLACE] == 0 && told[QM_PAYLOAD_LENGTH] == 0, "place", call);
     }
     held(memcmp(name, ref_name, MAX_NAME) == 0, "name", call);
+}
+
+/* The receiver's call, or that within a log's limits. */
+static u32 receive(const struct ref_limits *limits, int odd, u64 store_length, u64 ledger_length, u64 sender, const u8 *d, u64 length, u64 *told, u64 told_length,
+                   u8 *name, u64 name_length) {
+    u64 words = QM_STATE - (u64) (odd == 3), bytes = QM_NAMES - (u64) (odd == 4);
+    if (!limits) return qm_receive(state, words, names, bytes, store, store_length, ledger, ledger_length, sender, d, length, told, told_length, name, name_length);
+    return qm_receive_within(state, words, names, bytes, store, store_length, ledger, ledger_length, limits->payload, (u32) limits->fragments, sender, d, length, told,
+                             told_length, name, name_length);
+}
+
+/* Limits at the edges of the payloads and fragments that are sent, and some that bind nothing. */
+static struct ref_limits some_limits(void) {
+    return (struct ref_limits) {ONE_OF(0, 199, 200, 499, 500, 700, 262144, QM_MAX_PAYLOAD, 1ULL << 32, -1ULL), ONE_OF(0, 1, 2, 3, 7, 256, QM_MAX_FRAGMENTS, 0xffffffff)};
+}
+
+/* One call to both, with memory of the lengths of opening or, where `odd`, of others; 5 and 6: no room for the outcome. */
+static void give(u64 sender, const u8 *d, u64 length, int odd, u64 call) {
+    u64 more = chance(10), told_length = QM_OUTCOME + more - (u64) (odd == 5) * (more + below(QM_OUTCOME) + 1);
+    u64 name_length = MAX_NAME + more - (u64) (odd == 6) * (more + below(MAX_NAME) + 1);
+    u64 *told = (u64 *) region_lend(&lent_told, told_length * 8, chance(50)), old_told[QM_OUTCOME + 1];
+    u8 *name = region_lend(&lent_name, name_length, chance(50)), old_name[MAX_NAME + 1];
+    u64 store_length = STORE - (u64) (odd == 1), ledger_length = LEDGER + (u64) (odd == 2);
+    for (u64 i = 0; i < told_length; i++) told[i] = old_told[i] = 0x5a5a0000 + i;
+    for (u64 i = 0; i < name_length; i++) name[i] = old_name[i] = (u8) (0x80 + i);
+    memcpy(old_state, state, sizeof old_state);
+    memcpy(old_names, names, sizeof old_names);
+    struct ref_limits some = some_limits(), *limits = chance(30) ? &some : 0;
+    u32 refusal = receive(limits, odd, store_length, ledger_length, sender, d, length, told, told_length, name, name_length);
+    struct ref_answer a = odd > 4   ? (struct ref_answer) {.kind = REF_REFUSED, .refusal = QM_TOO_SHORT}
+                          : odd > 2 ? (struct ref_answer) {.kind = REF_REFUSED, .refusal = QM_NOT_READY}
+                          : limits  ? ref_receive_within(&ref, limits, store_length, ledger_length, sender, d, length)
+                                    : ref_receive_lent(&ref, store_length, ledger_length, sender, d, length);
+    if (limits && odd == 0) within[a.kind == REF_REFUSED ? a.refusal : 0]++;
+    met[a.kind]++;
+    held(refusal == a.refusal, "refusal", call);
+    if (a.kind == REF_REFUSED) {
+        if (odd > 4) too_short++;
+        else refused_by[a.refusal]++;
+        held(memcmp(state, old_state, sizeof old_state) == 0 && memcmp(names, old_names, sizeof old_names) == 0, "state after a refusal", call);
+        held(memcmp(told, old_told, told_length * 8) == 0 && memcmp(name, old_name, name_length) == 0, "outcome after a refusal", call);
+    } else {
+        hold_delivered(&a, told, name, d, call);
+        held(!more || (told[QM_OUTCOME] == old_told[QM_OUTCOME] && name[MAX_NAME] == old_name[MAX_NAME]), "number after the outcome", call);
+    }
     held(memcmp(store, ref_store, STORE) == 0, "store", call);
     held(memcmp(ledger, ref.ledger, sizeof ref.ledger) == 0, "ledger", call);
+    held(region_whole(&lent_state) && region_whole(&lent_names) && region_whole(&lent_store) && region_whole(&lent_ledger) && region_whole(&lent_told)
+             && region_whole(&lent_name), "canary", call);
 }
 
 static u8 kept[KEEP][ROOM];
@@ -87,15 +109,28 @@ static void send_message(u64 sender, u32 sequence) {
     }
 }
 
-static void run(u64 senders, u64 window) {
-    u64 words = proved_state_words(), bytes = proved_name_bytes();
-    for (u64 i = 0; i < WORDS; i++) state[i] = random_64();
-    held(proved_open(state, words + 1, names, bytes, STORE) == 9 && proved_open(state, words, names, bytes + 1, STORE) == 9, "opening of other lengths", 0);
-    held(proved_open(state, words, names, bytes, STORE) == 0, "opening", 0);
-    memset(ledger, 0, sizeof ledger);
-    memset(store, 0, sizeof store);
+/* Fresh places for all memory that stays between calls, each between canaries or against forbidden pages. */
+static void lend_all(void) {
+    state = (u64 *) region_lend(&lent_state, QM_STATE * 8, chance(50));
+    names = region_lend(&lent_names, QM_NAMES, chance(50));
+    store = region_lend(&lent_store, STORE, chance(50));
+    ledger = (u32 *) region_lend(&lent_ledger, (LEDGER + 1) * 4, chance(50));
+}
+
+static void open_both(void) {
+    held(qm_open(state, QM_STATE, names, QM_NAMES, STORE) == 0, "opening", 0);
+    memset(ledger, 0, (LEDGER + 1) * 4);
+    memset(store, 0, STORE);
     memset(ref_store, 0, sizeof ref_store);
     ref_open(&ref, ref_store, STORE);
+}
+
+static void run(u64 senders, u64 window) {
+    lend_all();
+    for (u64 i = 0; i < QM_STATE; i++) old_state[i] = state[i] = random_64();
+    held(qm_open(state, QM_STATE - 1, names, QM_NAMES, STORE) == QM_NOT_READY && qm_open(state, QM_STATE, names, QM_NAMES - 1, STORE) == QM_NOT_READY, "opening of other lengths", 0);
+    held(memcmp(state, old_state, sizeof old_state) == 0, "state after a refused opening", 0);
+    open_both();
     keeping = 0;
     for (u64 call = 1; call <= CALLS; call++) {
         if (keeping == 0 || chance(30)) send_message(below(senders), (u32) below(window));
@@ -108,22 +143,14 @@ static void run(u64 senders, u64 window) {
         if (chance(5)) d[below(length)] ^= (u8) (1 << below(8));
         if (chance(5) && length > 20 && d[3] == '3') d[15] ^= 1; /* another offset */
         if (chance(2)) length = below(length);
-        give(kept_sender[i], d, length, chance(2) ? (int) between(1, 4) : 0, call);
+        give(kept_sender[i], d, length, chance(3) ? (int) between(1, 6) : 0, call);
         if (!chance(1)) continue;
         u64 gone = below(senders);
         forgotten++;
-        held(proved_forget(state, words - 1, names, bytes, gone) == 9 && proved_forget(state, words, names, bytes - 1, gone) == 9, "forget of other lengths", call);
-        held(proved_forget(state, words, names, bytes, gone) == 0, "forget", call);
+        held(qm_forget(state, QM_STATE - 1, names, QM_NAMES, gone) == QM_NOT_READY && qm_forget(state, QM_STATE, names, QM_NAMES - 1, gone) == QM_NOT_READY, "forget of other lengths", call);
+        held(qm_forget(state, QM_STATE, names, QM_NAMES, gone) == 0, "forget", call);
         ref_forget(&ref, gone);
     }
-}
-
-static void open_both(void) {
-    held(proved_open(state, proved_state_words(), names, proved_name_bytes(), STORE) == 0, "opening", 0);
-    memset(ledger, 0, sizeof ledger);
-    memset(store, 0, sizeof store);
-    memset(ref_store, 0, sizeof ref_store);
-    ref_open(&ref, ref_store, STORE);
 }
 
 /* A small message to both, and which kind of answer it must be. */
@@ -139,6 +166,7 @@ static void small_message(u64 sender, u32 sequence, enum ref_kind kind, u64 call
 /* The mast of the request: 200 small messages of one sender push no key of another out. Then 16 senders and a 17th, which drops the one
    whose latest delivery lies furthest back, and not the one that spoke first; and forget, which leaves a place free. */
 static void mast_run(void) {
+    lend_all();
     open_both();
     small_message(9, 7, REF_DELIVERED, 1);
     for (u32 q = 0; q < 200; q++) small_message(1, q, REF_DELIVERED, q);
@@ -152,7 +180,7 @@ static void mast_run(void) {
     small_message(0, 7, REF_REPEAT, 18);
     small_message(1, 7, REF_DELIVERED, 19); /* dropped for the 17th, and now the second goes in its turn */
     small_message(2, 7, REF_DELIVERED, 20);
-    held(proved_forget(state, proved_state_words(), names, proved_name_bytes(), 16) == 0, "forget", 21);
+    held(qm_forget(state, QM_STATE, names, QM_NAMES, 16) == 0, "forget", 21);
     ref_forget(&ref, 16);
     small_message(17, 7, REF_DELIVERED, 22);
     small_message(4, 7, REF_REPEAT, 23); /* nobody is dropped for one that takes the place left free */
@@ -160,30 +188,33 @@ static void mast_run(void) {
     small_message(4, 7, REF_DELIVERED, 25);
 }
 
-/* The watch over numbers of up to 18 senders: the wrap, the edges of 2^31, and a 17th sender. */
-static void watch_run(u64 senders) {
-    enum { N = 3000 };
-    static u64 who[N], kinds[N], bys[N];
-    static u32 number[N];
-    struct ref_watch w = {0};
-    for (u64 i = 0; i < N; i++) {
-        who[i] = below(senders) * 0x100000001ULL;
-        number[i] = i > 0 && chance(70) ? number[i - 1] + (u32) ONE_OF(0, 1, 2, -1ULL, 1024, -1024ULL, -1025ULL, 0x7fffffff, 0x80000000, 0x80000001) : (u32) random_64();
-    }
-    memset(bys, 0, sizeof bys);
-    proved_watch(who, N, number, N, kinds, N, bys, N);
-    for (u64 i = 0; i < N; i++) {
-        u64 by, kind = ref_watch(&w, who[i], number[i], &by);
-        held(kinds[i] == kind && bys[i] == by, "word of the watch", i);
-    }
+/* The header's lengths are the archive's. */
+static void lengths_run(void) {
+    static const u64 header[QM_LENGTHS] = {QM_SLOTS, QM_MAX_PAYLOAD, QM_MAX_FRAGMENTS, QM_MAX_NAME, QM_STATE, QM_NAMES, QM_LEDGER, QM_OUTCOME, QM_WATCH_SENDERS, QM_MAX_INDEX};
+    u64 lengths[QM_LENGTHS + 1];
+    for (u64 i = 0; i <= QM_LENGTHS; i++) lengths[i] = ~i;
+    held(qm_lengths(lengths, QM_LENGTHS - 1) == QM_TOO_SHORT && lengths[0] == ~0ULL, "answer of lengths", 0);
+    held(qm_lengths(lengths, QM_LENGTHS + 1) == 0 && lengths[QM_LENGTHS] == ~(u64) QM_LENGTHS, "answer of lengths", 0);
+    for (u64 i = 0; i < QM_LENGTHS; i++) held(lengths[i] == header[i], "length in the header", i);
+    held(QM_STORE == QM_SLOTS * lengths[QM_LENGTH_PAYLOAD] && QM_SLOTS == SLOTS && QM_LEDGER == LEDGER && QM_MAX_NAME == MAX_NAME && QM_MAX_INDEX == INDEXED, "length in the header", 9);
 }
 
 int main(void) {
+    region_take(&lent_state, QM_STATE * 8);
+    region_take(&lent_names, QM_NAMES);
+    region_take(&lent_store, STORE);
+    region_take(&lent_ledger, (LEDGER + 1) * 4);
+    region_take(&lent_told, (QM_OUTCOME + 1) * 8);
+    region_take(&lent_name, MAX_NAME + 1);
+    lengths_run();
     mast_run();
     for (u64 r = 0; r < RUNS; r++) {
         random_state = 1037 + r;
         run(ONE_OF(1, 2, 5, 16, 17, 20), ONE_OF(6, 40, 1000));
-        watch_run(ONE_OF(1, 3, 16, 17, 18));
+        watch_run(1037 + r);
+        log_run(1037 + 2 * r);
+        log_run(1037 + 2 * r + 1);
+        index_run(1037 + r);
     }
     printf("receiver: kept %llu, repeat %llu, delivered %llu, refused %llu, emptied %llu, forgotten %llu; refused", met[REF_KEPT], met[REF_REPEAT],
            met[REF_DELIVERED], met[REF_REFUSED], emptied_keys, forgotten);
@@ -191,6 +222,17 @@ int main(void) {
         printf(" %d: %llu", n, refused_by[n]);
         if (n != 3 && refused_by[n] < 20) held(0, "mixture is needed: a refusal comes too seldom", (u64) n);
     }
+    if (too_short < 20) held(0, "mixture is needed: no room comes too seldom", too_short);
+    printf(" 13: %llu", too_short);
+    printf("; within a log's limits received %llu, refused 5: %llu 6: %llu", within[0], within[5], within[6]);
+    if (within[0] < 1000 || within[5] < 1000 || within[6] < 1000) held(0, "mixture is needed: limits bind too seldom", within[5]);
+    static const int heads[] = {0, 13, 40, 41, 43, 45}, indexes[] = {0, 40, 41, 42, 43, 44};
+    for (u64 i = 0; i < sizeof heads / sizeof *heads; i++)
+        if (heads_met[heads[i]] == 0) held(0, "mixture is needed: an answer to a head never comes", (u64) heads[i]);
+    for (u64 i = 0; i < sizeof indexes / sizeof *indexes; i++)
+        if (indexes_met[indexes[i]] == 0) held(0, "mixture is needed: an answer to an index never comes", (u64) indexes[i]);
+    printf("; indexed %llu, keys found %llu, missed %llu", indexes_met[0], keys_found, keys_missed);
+    if (keys_found < 1000 || keys_missed < 1000) held(0, "mixture is needed: a key is found or missed too seldom", keys_found);
     printf("\n%llu passed, %llu failed\n", passed, failed);
     return failed != 0;
 }

@@ -68,24 +68,11 @@ static u32 count_payload(struct counting *c, const u8 *payload, u64 length, i64 
     return count_list(c, list);
 }
 
-/* By the log's limits: 5, 6, or 0 where a fragment is within them, or its own form comes first. A small message has no such limit. */
-static u32 over_limits(const struct ref_limits *limits, const u8 *d, u64 length) {
-    if (length > MAX_DATAGRAM || length < 20 || ref_number(d, 4) != FRAGMENT_MAGIC) return 0;
-    u64 k = ref_number(d + 16, 2), n = ref_number(d + 18, 2);
-    if (n > limits->fragments || k >= n) return 5;
-    return ref_number(d + 8, 4) > limits->payload ? 6 : 0;
-}
-
 static u32 count_entry(struct counting *c, struct ref_receiver *r, u64 ledger_length, const struct ref_limits *limits, const u8 *log,
                        const struct ref_entry *e, i64 *numbers, u64 room, struct ref_report *report) {
     const u8 *d = log + e->place;
-    u32 over = ledger_length == LEDGER ? over_limits(limits, d, e->length) : 0;
     report->entries++;
-    if (over != 0) {
-        report->refused[over]++;
-        return 0;
-    }
-    struct ref_answer a = ref_receive_lent(r, r->store_length, ledger_length, e->sender, d, e->length);
+    struct ref_answer a = ref_receive_within(r, limits, r->store_length, ledger_length, e->sender, d, e->length);
     switch (a.kind) {
     case REF_REFUSED: report->refused[a.refusal]++; return 0;
     case REF_KEPT: report->kept++; return 0;

@@ -187,6 +187,21 @@ struct ref_answer ref_receive_lent(struct ref_receiver *r, u64 store_length, u64
     return ref_receive(r, sender, d, length);
 }
 
+/* By a log's limits: 5, 6, or 0 where a fragment is within them, or its own form comes first. A small message has no such limit. */
+static u32 over_limits(const struct ref_limits *limits, const u8 *d, u64 length) {
+    if (length > MAX_DATAGRAM || length < 20 || ref_number(d, 4) != FRAGMENT_MAGIC) return 0;
+    u64 k = ref_number(d + 16, 2), n = ref_number(d + 18, 2);
+    if (n > MAX_FRAGMENTS || n > limits->fragments || k >= n) return 5;
+    return ref_number(d + 8, 4) > limits->payload ? 6 : 0;
+}
+
+struct ref_answer ref_receive_within(struct ref_receiver *r, const struct ref_limits *limits, u64 store_length, u64 ledger_length, u64 sender, const u8 *d,
+                                     u64 length) {
+    int ready = store_length == r->store_length && ledger_length == LEDGER;
+    u32 over = ready ? over_limits(limits, d, length) : 0;
+    return over != 0 ? refused(over) : ref_receive_lent(r, store_length, ledger_length, sender, d, length);
+}
+
 /* Frees the sender's slots and drops its remembered keys; the rest keep their order. */
 void ref_forget(struct ref_receiver *r, u64 sender) {
     int place = place_of(r, sender);

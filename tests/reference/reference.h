@@ -141,6 +141,9 @@ void ref_open(struct ref_receiver *r, u8 *store, u64 store_length);
 struct ref_answer ref_receive(struct ref_receiver *r, u64 sender, const u8 *d, u64 length);
 /* The same with the lengths of the store and the ledger that are lent: 9 where they are not those of opening. */
 struct ref_answer ref_receive_lent(struct ref_receiver *r, u64 store_length, u64 ledger_length, u64 sender, const u8 *d, u64 length);
+/* The same with a datagram out of a log, whose limits bind beside the slot size. */
+struct ref_answer ref_receive_within(struct ref_receiver *r, const struct ref_limits *limits, u64 store_length, u64 ledger_length, u64 sender, const u8 *d,
+                                     u64 length);
 void ref_forget(struct ref_receiver *r, u64 sender);
 
 /* ---- the watch, of at most 16 senders in order of first number */

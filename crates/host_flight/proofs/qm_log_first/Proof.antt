@@ -1,0 +1,58 @@
+-- `host_flight::qm_log_first` meets its contract. Assumes nothing.
+use mathlib.Core.Path.{refl, sym, _∙_}
+use borrow.Author.Tests.{lt-ltb, le-ltb}
+use Rattle.host_flight.proofs.Read.{first-short, first-told}
+use borrow.Author.Needs.{needs}
+use Rattle.host_flight.proofs.qm_log_first.Statement.{statement}
+use Rattle.host_flight.proofs.qm_log_first.Tie as tie
+
+returns : tie.Need-returns
+returns c = first-short _ _ (lt-ltb _ 3 (c .if1 .taken))
+
+first-entry-requires : tie.Need-first-entry-requires
+first-entry-requires c κs = search needs
+
+enum-known-first : tie.Need-enum-known-first
+enum-known-first c = search needs
+
+cast-t13 : tie.Need-cast-t13
+cast-t13 c = search needs
+
+slice-aggregate-put-words : tie.Need-slice-aggregate-put-words
+slice-aggregate-put-words c = search needs
+
+put-words-requires : tie.Need-put-words-requires
+put-words-requires c κs = search needs
+
+enum-known-first-2 : tie.Need-enum-known-first-2
+enum-known-first-2 c = search needs
+
+same-length : tie.Need-same-length
+same-length c = search needs
+
+returns-2 : tie.Need-returns-2
+returns-2 c =
+    let putting = c .before .before in
+    let met = putting .before .before .before .before .before in
+    let reading = met .before .before in
+    first-told _ _ _ _ _ (le-ltb _ 3 (reading .before .if1 .left)) (sym (reading .first-entry .ensures) ∙ met .first .given .1) refl (putting .put-words .ensures)
+
+returns-3 : tie.Need-returns-3
+returns-3 c =
+    let reading = c .before .before .before in
+    first-told _ _ _ _ _ (le-ltb _ 3 (reading .before .if1 .left)) (sym (reading .first-entry .ensures) ∙ c .before .first2 .given .1) refl refl
+
+pub qm-log-first-spec : {M : Type 1} → statement M
+qm-log-first-spec =
+    tie.close
+    (tie.spec
+    returns
+    first-entry-requires
+    enum-known-first
+    cast-t13
+    slice-aggregate-put-words
+    put-words-requires
+    enum-known-first-2
+    same-length
+    returns-2
+    returns-3)

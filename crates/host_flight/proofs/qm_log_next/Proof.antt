@@ -1,0 +1,70 @@
+-- `host_flight::qm_log_next` meets its contract. Assumes nothing.
+use mathlib.Core.Path.{refl, sym, _∙_}
+use borrow.Author.Tests.{lt-ltb, le-ltb}
+use Rattle.host_flight.proofs.Read.{next-short, next-told}
+use borrow.Author.Needs.{needs}
+use Rattle.host_flight.proofs.qm_log_next.Statement.{statement}
+use Rattle.host_flight.proofs.qm_log_next.Tie as tie
+
+returns : tie.Need-returns
+returns c = next-short _ _ _ (lt-ltb _ 6 (c .if1 .taken))
+
+next-entry-requires : tie.Need-next-entry-requires
+next-entry-requires c κs = search needs
+
+enum-known-step : tie.Need-enum-known-step
+enum-known-step c = search needs
+
+put-found-requires : tie.Need-put-found-requires
+put-found-requires c κs = search needs
+
+enum-told : tie.Need-enum-told
+enum-told c = search needs
+
+put-end-requires : tie.Need-put-end-requires
+put-end-requires c κs = search needs
+
+enum-known-step-2 : tie.Need-enum-known-step-2
+enum-known-step-2 c = search needs
+
+same-length : tie.Need-same-length
+same-length c = search needs
+
+returns-2 : tie.Need-returns-2
+returns-2 c =
+    let p = c .before .before .put-found .ensures in
+    let met = c .before .before .before .before .before in
+    let reading = met .before .before in
+    next-told _ _ _ _ _ _ (le-ltb _ 6 (reading .before .if1 .left)) (sym (reading .next-entry .ensures) ∙ met .step .given .1) (p .0) (p .1)
+
+same-length-2 : tie.Need-same-length-2
+same-length-2 c = search needs
+
+returns-3 : tie.Need-returns-3
+returns-3 c =
+    let p = c .before .before .put-end .ensures in
+    let met = c .before .before .before .before in
+    let reading = met .before .before in
+    next-told _ _ _ _ _ _ (le-ltb _ 6 (reading .before .if1 .left)) (sym (reading .next-entry .ensures) ∙ met .enum-told .given .1) (p .0) (p .1)
+
+returns-4 : tie.Need-returns-4
+returns-4 c =
+    let reading = c .before .before .before in
+    next-told _ _ _ _ _ _ (le-ltb _ 6 (reading .before .if1 .left)) (sym (reading .next-entry .ensures) ∙ c .before .step2 .given .1) refl refl
+
+pub qm-log-next-spec : {M : Type 1} → statement M
+qm-log-next-spec =
+    tie.close
+    (tie.spec
+    returns
+    next-entry-requires
+    enum-known-step
+    put-found-requires
+    enum-told
+    put-end-requires
+    enum-known-step-2
+    same-length
+    returns-2
+    same-length-2
+    returns-3
+    returns-4)

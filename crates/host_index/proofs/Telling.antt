@@ -1,0 +1,74 @@
+-- An index has no more rows than the macro gives back; what is found in one that was made is the log's first entry; no second answer. Assumes nothing.
+use mathlib.Core.Path.{_≡_, sym, ap, subst, _∙_}
+use mathlib.Core.Logic.{inl, inr}
+use mathlib.Core.Option.{Option}
+use mathlib.Core.List.{List}
+use Prim.Native.Nat.{ℕ, _+_, _≤_, _<_}
+use native.Mathlib.Omega.{arith}
+use lib.ListN.{length}
+use borrow.Author.Tests.{lt-ltb, le-ltb}
+use Rattle.wire.specs.Bytes.{Bytes}
+use Rattle.wire.specs.Overlay.{overlay}
+use Rattle.wire.proofs.Choices.{either}
+use Rattle.wire.proofs.Once.{one-answer}
+use Rattle.log_index.specs.Index.{Gathered, gathered, stopped, rowsIn, firstEntry, holds, noRoom, answerOf}
+use Rattle.log_index.specs.Words.{foundIn, says}
+use Rattle.log_index.specs.declared.Found.{Found}
+use Rattle.indexing.specs.Adds as adds
+use Rattle.indexing.specs.declared.Indexed.{Indexed}
+use Rattle.indexing.specs.declared.Indexed.the-variants.{Entries}
+use Rattle.indexing.proofs.Answers.{room-rows, answer-full, answer-holds}
+use Rattle.indexing.proofs.Promises.{index-left, finds-first}
+use Rattle.host_index.specs.Told.{indexCode, indexRows, Few, IndexTold, placeCount, placeNumbers, FindTold}
+
+-- ---- an index has at most 4,096 rows
+
+answer-few : (words : ℕ) (g : Gathered) → Few (answerOf words 0 g)
+unfolding answerOf
+answer-few words (stopped k) = tt
+answer-few words (gathered rs) = elim (either (noRoom words (0 + length rs))) [
+  | inl h ↦ subst Few (sym (answer-full words 0 rs h)) tt
+  | inr h ↦ subst Few (sym (answer-holds words 0 rs h)) (room-rows words (0 + length rs) h)
+]
+
+pub index-few : (log w : List ℕ) (r : Indexed) (w′ : List ℕ) → adds.Indexes log w r w′ → Few (adds.says r)
+index-few log w r w′ i = subst Few (sym (i .answer)) (answer-few (length w) (rowsIn log))
+
+-- the header's macro gives back how many there are
+pub rows-back : (n : ℕ) → Few (holds n) → indexRows (indexCode (holds n)) ≡ n
+rows-back n h = omega (arith, h)
+
+-- ---- what is told
+
+pub index-told : (log w : List ℕ) (r : Indexed) (w′ : List ℕ) (x : ℕ) → adds.Indexes log w r w′ → x ≡ indexCode (adds.says r) → IndexTold log w x w′
+index-told log w r w′ x i e = record { gave = e ∙ ap indexCode (i .answer); left = i .index }
+
+module _ (w : List ℕ) (n s q : ℕ) (list : List ℕ) where
+  pub find-short : length list < placeCount → FindTold w n s q list 13 list
+  find-short h = let t = lt-ltb (length list) placeCount h in record { gave = rw t; left = rw t }
+
+  -- the sequence goes in as a word
+  pub find-told : (word : ℕ) (f : Found) (numbers list′ : List ℕ) → placeCount ≤ length list → word ≡ q → says f ≡ foundIn w n s word → numbers ≡ placeNumbers (says f)
+      → list′ ≡ overlay list 0 numbers → FindTold w n s q list 0 list′
+  find-told word f numbers list′ h v e m l =
+      let t = le-ltb (length list) placeCount h in
+      let found : says f ≡ foundIn w n s q = e ∙ ap (foundIn w n s) v in
+      record { gave = rw t; left = rw t (l ∙ ap (overlay list 0) (m ∙ ap placeNumbers found)) }
+
+-- ---- by an index that was made of a log a key is found where the log first has it
+
+module _ (log : List ℕ) (all : Bytes log) (w : List ℕ) (n x : ℕ) (w′ : List ℕ) (e : answerOf (length w) 0 (rowsIn log) ≡ holds n) (i : IndexTold log w x w′) where
+  pub told-first : (s q : ℕ) (list : List ℕ) (answer : ℕ) (list′ : List ℕ) → placeCount ≤ length list → FindTold w′ n s q list answer list′
+      → list′ ≡ overlay list 0 (placeNumbers (firstEntry log s q))
+  told-first s q list answer list′ h k =
+      let t = le-ltb (length list) placeCount h in
+      let made : adds.Indexes log w (Entries n) w′ = record { answer = sym e; index = i .left } in
+      k .left ∙ rw t (ap (λ (o : Option ℕ). overlay list 0 (placeNumbers o)) (finds-first log all w′ n (index-left log w n w′ made) s q))
+
+-- ---- no second answer, and no second list
+
+pub index-told-once : (log w : List ℕ) (x y : ℕ) (a b : List ℕ) → IndexTold log w x a → IndexTold log w y b → (x ≡ y) × (a ≡ b)
+index-told-once log w x y a b p q = (one-answer x y (p .gave) (q .gave), one-answer a b (p .left) (q .left))
+
+pub find-told-once : (w : List ℕ) (n s q : ℕ) (list : List ℕ) (x y : ℕ) (a b : List ℕ) → FindTold w n s q list x a → FindTold w n s q list y b → (x ≡ y) × (a ≡ b)
+find-told-once w n s q list x y a b p r = (one-answer x y (p .gave) (r .gave), one-answer a b (p .left) (r .left))

@@ -1,0 +1,194 @@
+// The receiver as the van's C host calls it: state, names, store and ledger are lent, and an outcome goes to a lent list of numbers and lent bytes.
+use log::Limits;
+use receiver::Call;
+use receiver::Outcome;
+use steps::Answer;
+use steps::Emptied;
+use steps::PayloadAt;
+ghost use mathlib.Core.Path.{_≡_};
+ghost use Rattle.receiver.specs.Calls.{refusalOf};
+ghost use Rattle.host_receiver.specs.Outcomes.{placeNumbers, answerNumbers, emptiedNumbers, Writes, Tells};
+ghost use Rattle.host_receiver.specs.Calls.{callCode, OpenTold, ForgetTold, lacking, ReceiveTold, WithinTold};
+ghost use Rattle.host_receiver.specs.Lengths.{LengthsTold};
+
+// How many numbers tell of an answer, and of an outcome.
+const ANSWERED: usize = 4;
+
+pub const OUTCOME: usize = ANSWERED + 3;
+
+// How many lengths there are.
+pub const LENGTHS: usize = 10;
+
+// The list or the bytes for an outcome are too short.
+pub const TOO_SHORT: u32 = 13;
+
+// ---- opening and forgetting
+
+fn call_code(call: Call) -> u32
+    ensures { λ r. ⌜ r ≡ callCode (refusalOf call) ⌝ }
+{
+    match call {
+        Call::Done => 0,
+        Call::Refused(n) => n,
+    }
+}
+
+// A fresh receiver over a store of that many bytes: 0, or the number of the refusal.
+#[no_mangle]
+pub extern "C" fn qm_open(state: &mut [u64], names: &mut [u8], store_length: usize) -> u32
+    ensures { λ r. ⌜ OpenTold (now (state .entry)) (now (names .entry)) «store_length» r (now (state .exit)) (now (names .exit)) ⌝ }
+{
+    call_code(receiver::open(state, names, store_length))
+}
+
+// The sender's slots are freed and its remembered keys dropped: 0, or the number of the refusal.
+#[no_mangle]
+pub extern "C" fn qm_forget(state: &mut [u64], names: &mut [u8], sender: u64) -> u32
+    ensures { λ r. ⌜ ForgetTold (now (state .entry)) (now (names .entry)) sender r (now (state .exit)) (now (names .exit)) ⌝ }
+{
+    call_code(receiver::forget(state, names, sender))
+}
+
+// ---- receiving
+
+// A delivered message: where its payload is, and how long.
+fn place_numbers(place: PayloadAt, len: usize) -> [u64; ANSWERED]
+    ensures { λ r. ⌜ r ≡ placeNumbers place len ⌝ }
+{
+    match place {
+        PayloadAt::InDatagram(at) => [3, 1, at as u64, len as u64],
+        PayloadAt::InStore(at) => [3, 2, at as u64, len as u64],
+    }
+}
+
+fn answer_numbers(answer: Answer) -> [u64; ANSWERED]
+    ensures { λ r. ⌜ r ≡ answerNumbers answer ⌝ }
+{
+    match answer {
+        Answer::Refused(_) => [0, 0, 0, 0],
+        Answer::Kept => [1, 0, 0, 0],
+        Answer::Repeat => [2, 0, 0, 0],
+        Answer::Delivered(place, len) => place_numbers(place, len),
+    }
+}
+
+fn emptied_numbers(emptied: Emptied) -> [u64; 3]
+    ensures { λ r. ⌜ r ≡ emptiedNumbers emptied ⌝ }
+{
+    match emptied {
+        Emptied::Nobody => [0, 0, 0],
+        Emptied::Was(key) => [1, key.sender, key.sequence],
+    }
+}
+
+// The outcome's numbers and name.
+fn put_outcome(told: &mut [u64], name: &mut [u8], outcome: Outcome) -> u32
+    ensures { λ r. ⌜ Writes outcome (now (told .entry)) (now (name .entry)) r (now (told .exit)) (now (name .exit)) ⌝ }
+{
+    let answer = outcome.answer;
+    let emptied = outcome.emptied;
+    let given = outcome.name;
+    let first = answer_numbers(answer);
+    let second = emptied_numbers(emptied);
+    words::put_words(&mut *told, 0, &first);
+    words::put_words(told, ANSWERED, &second);
+    wire::put_bytes(name, 0, &given);
+    0
+}
+
+// Of a refusal its number is told, and nothing written.
+fn tell(told: &mut [u64], name: &mut [u8], outcome: Outcome) -> u32
+    ensures { λ r. ⌜ Tells outcome (now (told .entry)) (now (name .entry)) r (now (told .exit)) (now (name .exit)) ⌝ }
+{
+    let answer = outcome.answer;
+    match answer {
+        Answer::Refused(n) => n,
+        Answer::Kept => put_outcome(told, name, outcome),
+        Answer::Repeat => put_outcome(told, name, outcome),
+        Answer::Delivered(_, _) => put_outcome(told, name, outcome),
+    }
+}
+
+// What is lent for an outcome has no room for it.
+fn no_room(told: &[u64], name: &[u8]) -> bool
+    ensures { λ r. ⌜ r ≡ lacking (now (told .entry)) (now (name .entry)) ⌝ }
+{
+    if told.len() < OUTCOME {
+        return true;
+    }
+    name.len() < datagram::MAX_NAME
+}
+
+// What is done with a datagram of that sender: 0 and the outcome, or the number of the refusal and nothing written.
+#[no_mangle]
+pub extern "C" fn qm_receive(
+    state: &mut [u64],
+    names: &mut [u8],
+    store: &mut [u8],
+    ledger: &mut [u32],
+    sender: u64,
+    datagram: &[u8],
+    told: &mut [u64],
+    name: &mut [u8],
+) -> u32
+    ensures { λ r. ⌜ ReceiveTold (now (state .entry)) (now (names .entry)) (now (store .entry)) (now (ledger .entry)) sender (now (datagram .entry)) (now (told .entry))
+        (now (name .entry)) r (now (state .exit)) (now (names .exit)) (now (store .exit)) (now (ledger .exit)) (now (told .exit)) (now (name .exit)) ⌝ }
+{
+    if no_room(&*told, &*name) {
+        return TOO_SHORT;
+    }
+    let outcome = receiver::receive(state, names, store, ledger, sender, datagram);
+    tell(told, name, outcome)
+}
+
+// The same with a datagram out of a log, whose limits bind beside the receiver's: its largest payload and its most fragments.
+#[no_mangle]
+pub extern "C" fn qm_receive_within(
+    state: &mut [u64],
+    names: &mut [u8],
+    store: &mut [u8],
+    ledger: &mut [u32],
+    payload: usize,
+    fragments: u32,
+    sender: u64,
+    datagram: &[u8],
+    told: &mut [u64],
+    name: &mut [u8],
+) -> u32
+    ensures { λ r. ⌜ WithinTold (record { payload = payload; fragments = fragments }) (now (state .entry)) (now (names .entry)) (now (store .entry)) (now (ledger .entry)) sender
+        (now (datagram .entry)) (now (told .entry)) (now (name .entry)) r (now (state .exit)) (now (names .exit)) (now (store .exit)) (now (ledger .exit)) (now (told .exit))
+        (now (name .exit)) ⌝ }
+{
+    if no_room(&*told, &*name) {
+        return TOO_SHORT;
+    }
+    let limits = Limits { payload, fragments };
+    let outcome = bounded::receive_within(state, names, store, ledger, limits, sender, datagram);
+    tell(told, name, outcome)
+}
+
+// ---- lengths
+
+// The lengths that a host goes by, as this code has them, at the start of a lent list: 0, or 13.
+#[no_mangle]
+pub extern "C" fn qm_lengths(lengths: &mut [u64]) -> u32
+    ensures { λ r. ⌜ LengthsTold (now (lengths .entry)) r (now (lengths .exit)) ⌝ }
+{
+    if lengths.len() < LENGTHS {
+        return TOO_SHORT;
+    }
+    let all = [
+        slots::SLOTS as u64,
+        datagram::MAX_PAYLOAD as u64,
+        datagram::MAX_FRAGMENTS as u64,
+        datagram::MAX_NAME as u64,
+        receiver::STATE_WORDS as u64,
+        receiver::NAME_BYTES as u64,
+        receiver::LEDGER as u64,
+        OUTCOME as u64,
+        watch::SENDERS as u64,
+        log_index::MAX_INDEX as u64,
+    ];
+    words::put_words(lengths, 0, &all);
+    0
+}

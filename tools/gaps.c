@@ -1,0 +1,31 @@
+/* qm gaps LOG: what the sequence watch notes of each datagram of a log, by its entry's sender. The lines are those of the program gaps, which takes
+   the datagrams of one sender from a stream. */
+
+#include "qm.h"
+
+static void print_noted(qm_u64 n, qm_u64 answer) {
+    qm_u32 number = QM_WATCH_NUMBER(answer);
+    switch (QM_WATCH_KIND(answer)) {
+    case QM_WATCH_FIRST: printf("%llu first\n", n); break;
+    case QM_WATCH_FORWARD: printf("%llu forward %u\n", n, number); break;
+    case QM_WATCH_SAME: printf("%llu same\n", n); break;
+    case QM_WATCH_LATE: printf("%llu late %u\n", n, number); break;
+    case QM_WATCH_RESTARTED: printf("%llu restarted %u\n", n, number); break;
+    default: printf("%llu refused %u\n", n, number);
+    }
+}
+
+int gaps_command(const char *path) {
+    /* zeros: a watch that has seen nobody */
+    static qm_u64 senders[QM_WATCH];
+    static qm_u32 lasts[QM_WATCH_SENDERS];
+    qm_u32 fields[QM_FIELDS];
+    struct walk w;
+    if (walk_begin(&w, "gaps", path) != DONE) return FAILED;
+    while (walk_on(&w)) {
+        qm_u64 answer = qm_read_datagram(walk_datagram(&w), w.entry[QM_ENTRY_LENGTH], fields, QM_FIELDS);
+        if (answer == 0) answer = qm_watch_see(senders, QM_WATCH, lasts, QM_WATCH_SENDERS, w.entry[QM_SENDER], fields[QM_SEQUENCE]);
+        print_noted(w.entries, answer);
+    }
+    return walk_end(&w);
+}

@@ -1,0 +1,37 @@
+/* qm replay LOG: what a fresh receiver answers to each datagram of a log of any size, within the log's limits. It prints what the program replay_log prints,
+   which holds 4,194,304 bytes, and lends the store that that program has, unless slots of the largest payload are wanted. */
+
+#include "qm.h"
+
+enum { PROGRAM_STORE = 2097152 };
+
+static qm_u64 state[QM_STATE];
+static qm_byte names[QM_NAMES];
+static qm_byte store[QM_STORE];
+static qm_u32 ledger[QM_LEDGER];
+
+static void print_answer(qm_u64 n, qm_u32 refusal, const qm_u64 *told) {
+    if (refusal != 0) printf("%llu refused %u", n, refusal);
+    else if (told[QM_ANSWER] == QM_ANSWER_KEPT) printf("%llu kept", n);
+    else if (told[QM_ANSWER] == QM_ANSWER_REPEAT) printf("%llu repeat", n);
+    else printf("%llu delivered %llu", n, told[QM_PAYLOAD_LENGTH]);
+    if (refusal == 0 && told[QM_EMPTIED]) printf(" emptied %llu %llu", told[QM_EMPTIED_SENDER], told[QM_EMPTIED_SEQUENCE]);
+    printf("\n");
+}
+
+int replay_command(const char *path, int large) {
+    qm_size room = large ? QM_STORE : PROGRAM_STORE;
+    qm_u64 told[QM_OUTCOME];
+    qm_byte name[QM_MAX_NAME];
+    struct walk w;
+    if (walk_begin(&w, "replay", path) != DONE) return FAILED;
+    /* memory of the header's lengths: 9 does not come */
+    qm_open(state, QM_STATE, names, QM_NAMES, room);
+    while (walk_on(&w)) {
+        qm_u32 refusal = qm_receive_within(state, QM_STATE, names, QM_NAMES, store, room, ledger, QM_LEDGER, w.head[QM_LOG_PAYLOAD],
+                                           (qm_u32) w.head[QM_LOG_FRAGMENTS], w.entry[QM_SENDER], walk_datagram(&w), w.entry[QM_ENTRY_LENGTH], told, QM_OUTCOME,
+                                           name, QM_MAX_NAME);
+        print_answer(w.entries, refusal, told);
+    }
+    return walk_end(&w);
+}
