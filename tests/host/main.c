@@ -589,14 +589,14 @@ int main(void) {
     read_names();
     read_points();
     read_numbers();
-    read_random(60000);
+    read_random(150000);
     cut_multiples();
     cut_limits();
-    cut_random(30000);
+    cut_random(60000);
     joins();
     appends(20000);
     flights(200);
-    counts(600);
+    counts(1500);
     all_met("qm_read_datagram", reader_gave, (const int[]) {0, 1, 2, 3, 4, 5, 6, 7, 13, -1});
     all_met("qm_cut", cutter_gave, (const int[]) {0, 4, 6, 10, 11, 12, 13, -1});
     all_met("qm_log_begin and qm_log_append", flight_gave, (const int[]) {0, 13, 42, 45, -1});

@@ -5,7 +5,7 @@
 #include "../reference/random.h"
 #include "receiver.h"
 
-enum { STORE = 8 * 700 + 5, ROOM = 2048, KEEP = 4096, RUNS = 30, CALLS = 4000 };
+enum { STORE = 8 * 700 + 5, ROOM = 2048, KEEP = 4096, RUNS = 60, INDEX_RUNS = 30, CALLS = 4000 };
 
 static struct region lent_state, lent_names, lent_store, lent_ledger, lent_told, lent_name;
 static u64 *state, old_state[QM_STATE];
@@ -212,10 +212,9 @@ int main(void) {
         random_state = 1037 + r;
         run(ONE_OF(1, 2, 5, 16, 17, 20), ONE_OF(6, 40, 1000));
         watch_run(1037 + r);
-        log_run(1037 + 2 * r);
-        log_run(1037 + 2 * r + 1);
-        index_run(1037 + r);
+        log_run(1037 + r);
     }
+    for (u64 r = 0; r < INDEX_RUNS; r++) index_run(1037 + r);
     printf("receiver: kept %llu, repeat %llu, delivered %llu, refused %llu, emptied %llu, forgotten %llu; refused", met[REF_KEPT], met[REF_REPEAT],
            met[REF_DELIVERED], met[REF_REFUSED], emptied_keys, forgotten);
     for (int n = 1; n < 10; n++) {
