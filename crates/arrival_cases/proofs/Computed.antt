@@ -19,9 +19,9 @@ use Rattle.steps.specs.Slots.{oldest, openCount, lower, release, seat, opening,
 use Rattle.steps.specs.Receive.{opened, stay, sameFragment, agrees, step3, decide, step5, act, receive, sound, step}
 use Rattle.steps.specs.Runs.{run}
 use Rattle.steps.specs.Worked.{A-of, B-of}
 use Rattle.arrival.specs.Demand.{Distinct, SentCut, AtCompletion, NoneEmptied, NeverOverEight, NeverTooLate, after, delivery, done, unfinished, completes, completed}
-use Rattle.arrival.specs.Worked.{small-of, fromEach, inTwo, paperScene, paperFeed, twinScene, nineScene, crowdedFeed, manyScene, manyFeed}
+use Rattle.arrival_cases.specs.Worked.{small-of, fromEach, inTwo, paperScene, paperFeed, twinScene, nineScene, crowdedFeed, manyScene, manyFeed}
 use Rattle.arrival.proofs.Pieces.{fragmentSaid}
 
 pub paper-at-completion : AtCompletion paperScene paperFeed
 unfolding delivery after run done completes step sound receive decide act stay step3 step5 sameFragment agrees seat oldest release lower opening openCount filled opened emptyMemory isRemembered remember placeFor withKey memoryOk among isHeld hold noneHeld said readDatagram readSmall readFragment formed goodForm nameLength goodName untilZero be overlay A-of B-of small-of

@@ -22,9 +22,9 @@ use Rattle.steps.specs.Receive.{Machine, After, opened, stay, sameFragment, agr
 use Rattle.steps.specs.Answers.{Reply, refusedBy, kept, delivered, reply}
 use Rattle.steps.specs.Runs.{run}
 use Rattle.steps.specs.Worked.{A-of, B-of}
 use Rattle.arrival.specs.Demand.{Feed, Delivery, after, delivery, deliveries, done, unfinished, completes, completed, Promised}
-use Rattle.arrival.specs.Worked.{small-of, A-gap, B-gap, fromEach, EachNeeded, twinScene, twinFeed, gapScene, bothFeed, largeScene, barredScene, oneScene, strangerFeed, lackingFeed, nineScene, crowdedFeed, throngScene, throngFeed, manyScene, manyFeed}
+use Rattle.arrival_cases.specs.Worked.{small-of, A-gap, B-gap, fromEach, EachNeeded, twinScene, twinFeed, gapScene, bothFeed, largeScene, barredScene, oneScene, strangerFeed, lackingFeed, nineScene, crowdedFeed, throngScene, throngFeed, manyScene, manyFeed}
 use Rattle.arrival.proofs.Tests.{tests, giving}
 
 not-handed : {d : Delivery} → _≡_ {A = Option Delivery} none (some d) → ⊥
 not-handed {d} e = Option·none-ne-some d e

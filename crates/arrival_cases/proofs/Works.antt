@@ -9,10 +9,10 @@ use Rattle.datagram.specs.Said.{said}
 use Rattle.cutter.specs.Trip.{joined}
 use Rattle.steps.specs.Memory.{since}
 use Rattle.steps.specs.Worked.{A-of, B-of}
 use Rattle.arrival.specs.Demand.{done, unfinished, completes, completed, Promised}
-use Rattle.arrival.specs.Worked.{small-of, paperScene, paperFeed, nineScene, fromEach, nineFeed, mastScene, mastFeed, sixteenScene, sixteenFeed}
+use Rattle.arrival_cases.specs.Worked.{small-of, paperScene, paperFeed, nineScene, fromEach, nineFeed, mastScene, mastFeed, sixteenScene, sixteenFeed}
 use Rattle.arrival.proofs.Tests.{tests, allPass, tested}
 use Rattle.arrival.proofs.Demand3.{demand3}
 
 pub paper-meets : tests paperScene paperFeed ≡ allPass
 unfolding tests done unfinished completes completed since joined said readDatagram readSmall readFragment formed goodForm nameLength goodName untilZero be A-of B-of small-of

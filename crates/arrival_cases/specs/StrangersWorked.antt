@@ -13,9 +13,9 @@ use Rattle.steps.specs.Slots.{Slot, noSlot, noName}
 use Rattle.steps.specs.Runs.{World, lending, Arrival, from, call, run, leftBy}
 use Rattle.steps.specs.Reach.{isOpen}
 use Rattle.steps.specs.Worked.{inFours, headOf, A-of, B-of, begunBelow}
 use Rattle.arrival.specs.Demand.{Message, key, Delivery}
-use Rattle.arrival.specs.Worked.{small-of, A-gap, B-gap, inTwo}
+use Rattle.arrival_cases.specs.Worked.{small-of, A-gap, B-gap, inTwo}
 use Rattle.arrival.specs.Strangers.{Start, part, isAccepted, comes, forgets, Feed, begun, _▹_, after, noForeign, openings, complete, notForgotten, its, handsOver}
 
 -- ---- starts: the message of A and B, sender 0, sequence 7, its B first, in a receiver with slots of 4 bytes
 

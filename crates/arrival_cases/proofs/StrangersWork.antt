@@ -22,13 +22,13 @@ use Rattle.steps.specs.Worked.{inFours, A-of, B-of, begunBelow}
 use borrow.Author.Tests.{ltb-true}
 use Rattle.steps.proofs.Tables.{not-true}
 use Rattle.steps.proofs.Reaches.{reached-in-order}
 use Rattle.arrival.specs.Demand.{InFragments, done, unfinished, completes, completed}
-use Rattle.arrival.specs.Worked.{small-of, A-gap, B-gap, paperScene, paperFeed}
+use Rattle.arrival_cases.specs.Worked.{small-of, A-gap, B-gap, paperScene, paperFeed}
 use Rattle.arrival.specs.Strangers.{Start, Begins, Feed, after, noForeign, openings, complete, Supposed, its, handsOver}
-use Rattle.arrival.specs.StrangersWorked.{ours, startAfter, freshStart, fullStart, A, begins, sevenFeed, floodFeed, oddStart, Asked, asked, allMet, AllAsked, EachNeeded}
+use Rattle.arrival_cases.specs.StrangersWorked.{ours, startAfter, freshStart, fullStart, A, begins, sevenFeed, floodFeed, oddStart, Asked, asked, allMet, AllAsked, EachNeeded}
 use Rattle.arrival.proofs.Tests.{tests, allPass, tested}
-use Rattle.arrival.proofs.Works.{paper-meets}
+use Rattle.arrival_cases.proofs.Works.{paper-meets}
 use Rattle.arrival.proofs.Strangers.{strangers}
 
 -- calls of `step` lead to states that calls can reach
 run-reached : {n : ℕ} (w : World) → Reached n (w .machine) → (xs : List Arrival) → Reached n (leftBy w (run w xs) .machine)
