@@ -7,9 +7,10 @@ use Prim.Native.Nat.{ℕ, _+_}
 use lib.Dec.{ltb}
 use lib.ListN.{length}
 use Rattle.datagram.specs.Limits.{maxName}
-use Rattle.receiver.specs.Calls.{refusalOf, Receives, Opens, Forgets}
+use Rattle.receiver.specs.Calls.{refusalOf, Receives, Forgets}
 use Rattle.receiver.specs.declared.Outcome.{Outcome}
 use Rattle.receiver.specs.declared.Call.{Call}
+use Rattle.receiver_ends.specs.Ends.{Opens}
 use Rattle.log.specs.declared.reader.Limits.{Limits}
 use Rattle.bounded.specs.Within.{ReceivesWithin}
 use Rattle.host_receiver.specs.Outcomes.{Tells}

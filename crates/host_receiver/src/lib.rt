@@ -38,7 +38,7 @@ fn call_code(call: Call) -> u32
 pub extern "C" fn qm_open(state: &mut [u64], names: &mut [u8], store_length: usize) -> u32
     ensures { λ r. ⌜ OpenTold (now (state .entry)) (now (names .entry)) «store_length» r (now (state .exit)) (now (names .exit)) ⌝ }
 {
-    call_code(receiver::open(state, names, store_length))
+    call_code(receiver_ends::open(state, names, store_length))
 }
 
 // The sender's slots are freed and its remembered keys dropped: 0, or the number of the refusal.

@@ -1,8 +1,8 @@
--- `receiver::open` meets its contract. Assumes nothing.
-use Rattle.receiver.proofs.Others.{words-opens, names-opens, opens}
+-- `receiver_ends::open` meets its contract. Assumes nothing.
+use Rattle.receiver_ends.proofs.Opening.{words-opens, names-opens, opens}
 use borrow.Author.Needs.{needs}
-use Rattle.receiver.proofs.open.Statement.{statement}
-use Rattle.receiver.proofs.open.Tie as tie
+use Rattle.receiver_ends.proofs.open.Statement.{statement}
+use Rattle.receiver_ends.proofs.open.Tie as tie
 
 returns : tie.Need-returns
 returns c =

@@ -1,4 +1,4 @@
--- `receiver::payload` meets its contract. Assumes nothing.
+-- `receiver_ends::payload` meets its contract. Assumes nothing.
 use mathlib.Core.Path.{_≡_, sym, _∙_, ap}
 use mathlib.Core.List.{List}
 use Prim.Native.Nat.{ℕ}
@@ -7,10 +7,10 @@ use Rattle.steps.specs.declared.Answer.{Answer}
 use Rattle.steps.specs.declared.Answer.the-variants.{Delivered}
 use Rattle.steps.specs.declared.PayloadAt.{PayloadAt}
 use Rattle.steps.specs.Answers.{payloadAt, reply}
-use Rattle.receiver.specs.Calls.{payloadOf}
+use Rattle.receiver_ends.specs.Ends.{payloadOf}
 use borrow.Author.Needs.{needs}
-use Rattle.receiver.proofs.payload.Statement.{statement}
-use Rattle.receiver.proofs.payload.Tie as tie
+use Rattle.receiver_ends.proofs.payload.Statement.{statement}
+use Rattle.receiver_ends.proofs.payload.Tie as tie
 
 payload-is : (d store : List ℕ) (a : Answer) (p q : PayloadAt) (n : ℕ) → a ≡ Delivered p n → p ≡ q → payloadOf (reply d store a) ≡ take n (payloadAt d store q)
 payload-is d store a p q n e f = ap (λ (x : Answer). payloadOf (reply d store x)) e ∙ ap (λ (x : PayloadAt). take n (payloadAt d store x)) f
