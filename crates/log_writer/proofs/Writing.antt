@@ -10,12 +10,12 @@ use Rattle.seven.specs.Seven.{seven}
 use Rattle.wire.proofs.Overlays.{overlay-append, overlay-one, length-overlay}
 use Rattle.seven.proofs.Sevens.{groups-length}
 use Rattle.datagram.specs.Limits.{maxDatagram, maxPayload}
 use Rattle.log.specs.Editions.{edition2, secondByte, headBytes}
 use Rattle.log.specs.Entries.{Entry, entryOf, entryBytes}
-use Rattle.log.specs.Writes.{wrote, refused, fitted, beginAnswer, appendAnswer, Began, Appended}
-use Rattle.log.specs.declared.writer.Written.{Written}
-use Rattle.log.specs.declared.writer.Written.the-variants.{Next, Refused}
+use Rattle.log_writer.specs.Writes.{wrote, refused, fitted, beginAnswer, appendAnswer, Began, Appended}
+use Rattle.log_writer.specs.declared.Written.{Written}
+use Rattle.log_writer.specs.declared.Written.the-variants.{Next, Refused}
 use Rattle.log.proofs.Backs.{entry-some}
 
 -- ---- the bytes of an entry
 

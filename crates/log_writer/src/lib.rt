@@ -3,10 +3,9 @@ ghost use mathlib.Core.Path.{_≡_};
 ghost use Prim.Native.Nat.{_+_, _≤_};
 ghost use lib.ListN.{length};
 ghost use Rattle.wire.specs.Overlay.{overlay};
-ghost use Rattle.seven.specs.Seven.{seven};
 ghost use Rattle.datagram.specs.Limits.{maxDatagram};
 ghost use Rattle.log.specs.Entries.{entryBytes, entryOf};
-ghost use Rattle.log.specs.Writes.{Began, Appended};
+ghost use Rattle.log_writer.specs.Writes.{Began, Appended};
 
 // The place after what was written, or the refusal.
 pub enum Written {
@@ -25,7 +24,7 @@ pub fn begin(out: &mut [u8], limit: u64) -> Written
     if out.len() < n {
         return Written::Refused(13);
     }
-    out[0] = super::EDITION;
+    out[0] = log::EDITION;
     seven::put_seven(out, 1, limit);
     Written::Next(n)
 }

@@ -1,11 +1,11 @@
--- `log::writer::entry_length` meets its contract. Assumes nothing.
+-- `log_writer::entry_length` meets its contract. Assumes nothing.
 use mathlib.Core.Path.{sym}
 use native.Mathlib.Omega.{arith}
 use lib.ListN.{length}
-use Rattle.log.proofs.Writing.{entry-size, seven-most}
+use Rattle.log_writer.proofs.Writing.{entry-size, seven-most}
 use borrow.Author.Needs.{needs}
-use Rattle.log.proofs.writer.entry_length.Statement.{statement}
-use Rattle.log.proofs.writer.entry_length.Tie as tie
+use Rattle.log_writer.proofs.entry_length.Statement.{statement}
+use Rattle.log_writer.proofs.entry_length.Tie as tie
 
 seven-length-requires : tie.Need-seven-length-requires
 seven-length-requires c κs = search needs

@@ -1,10 +1,10 @@
--- `log::append` meets its contract. Assumes nothing.
+-- `log_writer::append` meets its contract. Assumes nothing.
 use native.Mathlib.Omega.{arith}
 use Rattle.log.specs.Entries.{entryOf}
-use Rattle.log.proofs.Writing.{append-long, append-short, fits-at, append-good}
+use Rattle.log_writer.proofs.Writing.{append-long, append-short, fits-at, append-good}
 use borrow.Author.Needs.{needs}
-use Rattle.log.proofs.writer.append.Statement.{statement}
-use Rattle.log.proofs.writer.append.Tie as tie
+use Rattle.log_writer.proofs.append.Statement.{statement}
+use Rattle.log_writer.proofs.append.Tie as tie
 
 returns : tie.Need-returns
 returns c =

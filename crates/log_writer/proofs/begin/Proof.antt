@@ -1,13 +1,13 @@
--- `log::begin` meets its contract. Assumes nothing.
+-- `log_writer::begin` meets its contract. Assumes nothing.
 use mathlib.Core.Path.{sym, ap, _∙_}
 use mathlib.Core.List.{List}
 use native.Mathlib.Omega.{arith}
 use Prim.Native.Nat.{ℕ}
 use lib.ListN.{length}
-use Rattle.log.proofs.Writing.{seven-most, begin-over, begin-short, begin-good, begin-length}
+use Rattle.log_writer.proofs.Writing.{seven-most, begin-over, begin-short, begin-good, begin-length}
 use borrow.Author.Needs.{needs}
-use Rattle.log.proofs.writer.begin.Statement.{statement}
-use Rattle.log.proofs.writer.begin.Tie as tie
+use Rattle.log_writer.proofs.begin.Statement.{statement}
+use Rattle.log_writer.proofs.begin.Tie as tie
 
 returns : tie.Need-returns
 returns c =

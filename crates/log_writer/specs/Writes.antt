@@ -7,10 +7,10 @@ use lib.ListN.{length}
 use Rattle.wire.specs.Choice.{pick}
 use Rattle.wire.specs.Overlay.{overlay}
 use Rattle.datagram.specs.Limits.{maxDatagram, maxPayload}
 use Rattle.log.specs.Editions.{edition2, headBytes}
 use Rattle.log.specs.Entries.{Entry, entryBytes}
-use Rattle.log.specs.declared.writer.Written.{Written}
-use Rattle.log.specs.declared.writer.Written.the-variants.{Next, Refused}
+use Rattle.log_writer.specs.declared.Written.{Written}
+use Rattle.log_writer.specs.declared.Written.the-variants.{Next, Refused}
 
 -- the place after what was written, or the number of the refusal
 pub data Answer : Type 0 where

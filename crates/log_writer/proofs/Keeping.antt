@@ -12,11 +12,11 @@ use Rattle.wire.specs.Choice.{pick}
 use Rattle.wire.specs.Overlay.{overlay}
 use Rattle.wire.proofs.Overlays.{length-overlay, overlay-next, overlay-at}
 use Rattle.datagram.specs.Limits.{maxDatagram, maxPayload}
 use Rattle.log.specs.Editions.{Edition, edition2, headBytes}
 use Rattle.log.specs.Entries.{Entry, entryBytes, bodyOf, logOf}
-use Rattle.log.specs.Writes.{Answer, wrote, refused, fitted, beginAnswer, appendAnswer, output, Began, Appended, Kept, begun, added}
-use Rattle.log.specs.declared.writer.Written.{Written}
-use Rattle.log.specs.declared.writer.Written.the-variants.{Next}
+use Rattle.log_writer.specs.Writes.{Answer, wrote, refused, fitted, beginAnswer, appendAnswer, output, Began, Appended, Kept, begun, added}
+use Rattle.log_writer.specs.declared.Written.{Written}
+use Rattle.log_writer.specs.declared.Written.the-variants.{Next}
 
 -- ---- one entry more
 

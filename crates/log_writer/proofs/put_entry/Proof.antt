@@ -1,11 +1,11 @@
--- `log::writer::put_entry` meets its contract: the three numbers and the bytes, each after the one before. Assumes nothing.
+-- `log_writer::put_entry` meets its contract: the three numbers and the bytes, each after the one before. Assumes nothing.
 use mathlib.Core.Path.{ap, _∙_}
 use native.Mathlib.Omega.{arith}
 use Prim.Native.Nat.{ℕ, _+_}
-use Rattle.log.proofs.Writing.{entry-size, entry-overlay}
+use Rattle.log_writer.proofs.Writing.{entry-size, entry-overlay}
 use borrow.Author.Needs.{needs}
-use Rattle.log.proofs.writer.put_entry.Statement.{statement}
-use Rattle.log.proofs.writer.put_entry.Tie as tie
+use Rattle.log_writer.proofs.put_entry.Statement.{statement}
+use Rattle.log_writer.proofs.put_entry.Tie as tie
 
 seven-length-requires : tie.Need-seven-length-requires
 seven-length-requires c κs = search needs
