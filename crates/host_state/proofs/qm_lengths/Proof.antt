@@ -1,8 +1,8 @@
--- `host_receiver::qm_lengths` meets its contract. Assumes nothing.
+-- `host_state::qm_lengths` meets its contract. Assumes nothing.
 use borrow.Author.Tests.{lt-ltb, le-ltb}
 use borrow.Author.Needs.{needs}
-use Rattle.host_receiver.proofs.qm_lengths.Statement.{statement}
-use Rattle.host_receiver.proofs.qm_lengths.Tie as tie
+use Rattle.host_state.proofs.qm_lengths.Statement.{statement}
+use Rattle.host_state.proofs.qm_lengths.Tie as tie
 
 returns : tie.Need-returns
 returns c =
