@@ -16,6 +16,11 @@ use stream::Next;
 // The bytes of the store, by the paper.
 const STORE: usize = 65536;
 
+// The bytes of the input and the output buffer of a program that replays.
+pub const HOLDS: usize = 262144;
+
+pub const WRITES: usize = output::HOLDS;
+
 fn pour_answer(out: &mut [u8], at: usize, answer: Answer) -> usize
     ensures { λ r. ⌜ Pours (now (out .entry)) at (answerText answer) (now (out .exit)) r ⌝ }
 {
