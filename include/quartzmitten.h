@@ -1,9 +1,9 @@
 /* Quartzmitten for a C host: the checksum, the datagram reader, the cutter, the receiver, the sequence watch, the log's writer and reader, and the
    index and the count of a log.
 
-   Link the archives libhost.a, libhost_receiver.a (qm_open, qm_receive, qm_receive_within, qm_forget, qm_lengths), libhost_flight.a (qm_log_first, qm_log_next,
-   qm_watch_see), libhost_index.a (qm_index, qm_find) and libhost_count.a (qm_count), or those whose functions are called: the toolchain's `rt staticlib host`,
-   `rt staticlib host_receiver` and so on write them (x86-64 Linux). No other header is needed.
+   Link the archives libhost.a, libhost_state.a (qm_open, qm_forget, qm_lengths), libhost_receiver.a (qm_receive, qm_receive_within), libhost_flight.a
+   (qm_log_first, qm_log_next, qm_watch_see), libhost_index.a (qm_index, qm_find) and libhost_count.a (qm_count), or those whose functions are called: the
+   toolchain's `rt staticlib host`, `rt staticlib host_state` and so on write them (x86-64 Linux). No other header is needed.
 
    What holds for all of them:
    - They end for any bytes and any lengths, keep no state of their own, ask the system for nothing, and may be called from any thread.

@@ -128,6 +128,6 @@ fn main() {
     let mut buf = [0u8; BUFFER];
     let mut list = [0u64; NUMBERS];
     let mut blocks = [0u8; ack_blocks::MAX_BLOCKS];
-    let mut out = [0u8; 65536];
+    let mut out = [0u8; output::HOLDS];
     run(&mut buf, &mut list, &mut blocks, &mut out);
 }

@@ -10,12 +10,8 @@ pub mod Demand3
 pub mod Runs
 pub mod Ours
 pub mod Tests
-pub mod Works
-pub mod Needed
-pub mod Computed
 pub mod Newer
 pub mod Beside
 pub mod Watched
 pub mod Strangers
-pub mod StrangersWork
 pub mod StrangersRuns

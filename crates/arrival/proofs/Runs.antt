@@ -13,7 +13,8 @@ use Rattle.steps.specs.Runs.{World, keyIn, run}
 use Rattle.receiver.specs.declared.Outcome.{Outcome}
 use Rattle.receiver.specs.declared.Call.{Call}
 use Rattle.receiver_state.specs.View.{view, shaped}
-use Rattle.receiver.specs.Calls.{refusalOf, Opens, Receives, received}
+use Rattle.receiver.specs.Calls.{refusalOf, Receives, received}
+use Rattle.receiver_ends.specs.Ends.{Opens}
 use Rattle.arrival.specs.Demand.{Scene, slotBytes, Event, Feed, start, _▹_, senderOf, bytesOf, arrival, Delivery, nameIn, handedBy, handed, push, call, after, own, completed, delivery, deliveries, NoneEmptied, Supposed, Promised}
 use Rattle.arrival.specs.Runs.{Lent, Calls, opens, calls, handsOver, handedOver, EachCall, CodePromised}
 use Rattle.arrival.proofs.Track.{Lawful, fair-of}

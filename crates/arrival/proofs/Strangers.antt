@@ -27,6 +27,7 @@ use Rattle.steps.specs.Slots.{Slot, busy, findOpen, opening, seat}
 use Rattle.steps.specs.Receive.{Machine, After, stay, step5, beginAt, receive, sound, step, sequenceOf}
 use Rattle.steps.specs.Runs.{World, worldOf, Arrival, keyIn, call}
 use Rattle.steps.specs.Reach.{found, isOpen}
+use Rattle.steps.proofs.Quick.{step5-ledger}
 use Rattle.steps.proofs.Tables.{not-true, not-false, and-no, all-at, all-of, all-none, all-cong}
 use Rattle.steps.proofs.Seats.{unturned, look, busyAt, set-there, set-here}
 use Rattle.steps.proofs.Stores.{part-fits}
@@ -40,7 +41,7 @@ use Rattle.arrival.proofs.Pieces.{fragmentSaid, piece, Cut, cut-within}
 use Rattle.arrival.proofs.Joining.{Holds, holds-move, holds-open}
 use Rattle.arrival.proofs.Newer.{newest}
 use Rattle.arrival.proofs.Beside.{Mine}
-use Rattle.arrival.proofs.Watched.{Watched, step5-store, step5-ledger, own-kept, own-delivered, stranger, own-step, own-last, forgotten-beside}
+use Rattle.arrival.proofs.Watched.{Watched, step5-store, own-kept, own-delivered, stranger, own-step, own-last, forgotten-beside}
 
 -- ---- what follows from its first fragment's being accepted
 

@@ -12,7 +12,7 @@ use Rattle.steps.specs.Reach.{Reached, opens, receives, forgets}
 use Rattle.receiver.specs.declared.Outcome.{Outcome}
 use Rattle.receiver.specs.declared.Call.{Call}
 use Rattle.receiver_state.specs.View.{view, shaped}
-use Rattle.receiver.specs.Calls.{refusalOf, Opens, Receives, received, Forgets, forgotten}
+use Rattle.receiver.specs.Calls.{refusalOf, Receives, received, Forgets, forgotten}
 use Rattle.arrival.specs.Demand.{Message, handedBy, nameIn}
 use Rattle.arrival.specs.Runs.{Lent, handsOver}
 use Rattle.arrival.specs.Strangers.{Start, part, isAccepted, Begins, Feed, begun, _▹_, comes, after, its}

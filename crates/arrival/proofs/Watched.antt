@@ -35,7 +35,8 @@ use Rattle.steps.specs.Reach.{found, isOpen, isStored, opensSlot}
 use Rattle.steps.proofs.Tables.{all-at, all-cong, or-not, or-yes}
 use Rattle.steps.proofs.Memories.{same-key, key-same, whole-ok, remember-other, forget-other}
 use Rattle.steps.proofs.Seats.{unturned, look, busyAt, keyAt, Found, open-found, open-none, same-its-key, set-there, set-here}
-use Rattle.steps.proofs.Stores.{part-fits, length-ledger}
+use Rattle.steps.proofs.Stores.{part-fits}
+use Rattle.steps.proofs.Quick.{step5-ledger}
 use Rattle.steps.proofs.Branches.{Course, unmoved, given, joined, begun, course, step-sound, fragment-open, fragment-begin, step5-delivered, step5-kept, step5-stores}
 use Rattle.steps.proofs.Ranks.{Ranks, Shrunk, Sat}
 use Rattle.steps.proofs.Reaches.{Good, Tidy, good-sound, good-form, seat-sat, begun-tidy, begun-busy, step-good, good-released, forget-good}
@@ -72,12 +73,6 @@ module _ (m : Machine) (slots : List Slot) (store ledger : List ℕ) (gone : Emp
   step5-store = elim (either (allHeld (filled (slotAt slots s) f))) [
     | inl e ↦ ap (λ (a : After). length (a .store)) (step5-delivered m slots store ledger s f e gone) ∙ length-overlay store (placeOf (m .slotSize) s f) (f .bytes)
     | inr e ↦ ap (λ (a : After). length (a .store)) (step5-kept m slots store ledger s f e gone) ∙ length-overlay store (placeOf (m .slotSize) s f) (f .bytes)
-  ]
-
-  pub step5-ledger : length (step5 m slots store ledger gone s f .ledger) ≡ length ledger
-  step5-ledger = elim (either (allHeld (filled (slotAt slots s) f))) [
-    | inl e ↦ ap (λ (a : After). length (a .ledger)) (step5-delivered m slots store ledger s f e gone) ∙ length-ledger ledger s f
-    | inr e ↦ ap (λ (a : After). length (a .ledger)) (step5-kept m slots store ledger s f e gone) ∙ length-ledger ledger s f
   ]
 
   -- another key than the slot's stays unknown

@@ -9,7 +9,8 @@ use Rattle.steps.specs.Runs.{Arrival, keyIn}
 use Rattle.receiver.specs.declared.Outcome.{Outcome}
 use Rattle.receiver.specs.declared.Call.{Call}
 use Rattle.receiver_state.specs.View.{view}
-use Rattle.receiver.specs.Calls.{refusalOf, Opens, Receives}
+use Rattle.receiver.specs.Calls.{refusalOf, Receives}
+use Rattle.receiver_ends.specs.Ends.{Opens}
 use Rattle.arrival.specs.Demand.{Scene, slotBytes, Event, Feed, start, _▹_, senderOf, bytesOf, arrival, Delivery, nameIn, handedBy, push, after, own, completed, delivery, deliveries, Promised}
 
 -- what is lent

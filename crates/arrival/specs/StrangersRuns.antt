@@ -9,7 +9,8 @@ use Rattle.steps.specs.Reach.{isOpen}
 use Rattle.receiver.specs.declared.Outcome.{Outcome}
 use Rattle.receiver.specs.declared.Call.{Call}
 use Rattle.receiver_state.specs.View.{view}
-use Rattle.receiver.specs.Calls.{refusalOf, Opens, Receives, Forgets}
+use Rattle.receiver.specs.Calls.{refusalOf, Receives, Forgets}
+use Rattle.receiver_ends.specs.Ends.{Opens}
 use Rattle.arrival.specs.Demand.{Message, InFragments, key, parts, Delivery}
 use Rattle.arrival.specs.Runs.{Lent, handsOver}
 use Rattle.arrival.specs.Strangers.{Start, part, isAccepted, Feed, begun, _▹_, comes, forgets, complete, Supposed, its}

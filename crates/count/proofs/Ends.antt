@@ -15,7 +15,7 @@ use Rattle.steps.specs.Answers.{Reply}
 use Rattle.receiver_state.specs.View.{stateWords, nameBytes, view, shaped}
 use Rattle.receiver_state.specs.Inside.{Shaped}
 use Rattle.receiver.specs.declared.Call.{Call}
-use Rattle.receiver.specs.Calls.{Opens}
+use Rattle.receiver_ends.specs.Ends.{Opens}
 use Rattle.log.specs.declared.reader.Limits.{Limits}
 use Rattle.log.specs.Editions.{limitsIn}
 use Rattle.log.specs.Entries.{Entry}

@@ -17,7 +17,7 @@ use Rattle.steps.specs.Answers.{Reply, refusedBy, kept, repeat, delivered, repl
 use Rattle.receiver_state.specs.View.{stateWords, nameBytes, view, shaped}
 use Rattle.receiver_state.specs.Inside.{Shaped}
 use Rattle.receiver.specs.declared.Outcome.{Outcome}
-use Rattle.receiver.specs.Calls.{payloadOf}
+use Rattle.receiver_ends.specs.Ends.{payloadOf}
 use Rattle.bounded.specs.Within.{stepWithin, receivedWithin, ReceivesWithin}
 use Rattle.log.specs.declared.reader.Limits.{Limits}
 use Rattle.log.specs.Entries.{Entry}

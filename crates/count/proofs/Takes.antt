@@ -6,7 +6,7 @@ use native.Mathlib.Omega.{arith}
 use lib.IntN.{ℤ}
 use lib.ListN.{length}
 use Rattle.steps.specs.Answers.{Reply, refusedBy, kept, repeat, delivered}
-use Rattle.receiver.specs.Calls.{payloadOf}
+use Rattle.receiver_ends.specs.Ends.{payloadOf}
 use Rattle.counting.specs.Marks.{PitList, listIn}
 use Rattle.counting.specs.Run.{payloadIn, listsRead}
 use Rattle.counting.specs.Count.{fault}

@@ -238,7 +238,7 @@ fn one_entry(
     );
     let answer = outcome.answer;
     let after = told(totals, answer);
-    let payload = receiver::payload(outcome, &*store, d);
+    let payload = receiver_ends::payload(outcome, &*store, d);
     one_payload(payload, numbers, tiles, pits, sure, after, sizes)
 }
 
@@ -387,7 +387,7 @@ fn afresh(
     let mut tiles = [0u64; MAX_TILES];
     let mut pits = [0u64; MAX_PITS];
     let mut sure = [0u64; MAX_PITS];
-    receiver::open(&mut state, &mut names, store.len());
+    receiver_ends::open(&mut state, &mut names, store.len());
     let limits = log::limits_in(log);
     let done = walk(
         log,

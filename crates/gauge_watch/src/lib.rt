@@ -14,7 +14,7 @@ use watch::Answer;
 
 // The session that goes on, if one was heard, and the number of its last message.
 pub struct Gauge {
-    pub session: [u8; 10],
+    pub session: [u8; moss::SESSION],
     pub last: u32,
     pub started: bool,
 }
@@ -30,7 +30,7 @@ pub fn new() -> Gauge
     ensures { λ r. ⌜ r ≡ silent ⌝ }
 {
     Gauge {
-        session: [0; 10],
+        session: [0; moss::SESSION],
         last: 0,
         started: false,
     }

@@ -1,7 +1,6 @@
 // The sequence watch in lent lists: how many senders it has and the senders, and the last number of each.
 ghost use mathlib.Core.Path.{_≡_};
 ghost use lib.ListN.{length};
-ghost use Rattle.wire.specs.Overlay.{overlay};
 ghost use Rattle.watch.specs.Limits.{maxSenders};
 ghost use Rattle.watch.specs.Noted.{notes};
 ghost use Rattle.host_flight.specs.Watches.{notedCode, SeeTold};
@@ -11,18 +10,6 @@ use watch::Watch;
 // How many numbers hold the senders: how many there are, and each.
 pub const WATCH: usize = 1 + watch::SENDERS;
 
-// Numbers at a place of a list.
-fn put_entries(l: &mut [u32], at: usize, src: &[u32])
-    ensures { λ _. ⌜ now (l .exit) ≡ overlay (now (l .entry)) at (now (src .entry)) ⌝ }
-{
-    let n = wire::least(src.len(), wire::room(l.len(), at));
-    let mut i: usize = 0;
-    while i < n {
-        l[at + i] = src[i];
-        i += 1;
-    }
-}
-
 // The watch of these senders and last numbers, of which so many are in use.
 fn shown(count: u64, senders: &[u64], lasts: &[u32]) -> Watch
     requires { ⌜ (length (now senders) ≡ maxSenders) × (length (now lasts) ≡ maxSenders) ⌝ }
@@ -31,7 +18,7 @@ fn shown(count: u64, senders: &[u64], lasts: &[u32]) -> Watch
     let mut s = [0u64; watch::SENDERS];
     let mut l = [0u32; watch::SENDERS];
     words::put_words(&mut s, 0, senders);
-    put_entries(&mut l, 0, lasts);
+    words::put_entries(&mut l, 0, lasts);
     Watch {
         senders: s,
         lasts: l,
@@ -79,6 +66,6 @@ pub extern "C" fn qm_watch_see(
     let after = seen.watch;
     words::put_word(&mut *senders, 0, after.count as u64);
     words::put_words(senders, 1, &after.senders);
-    put_entries(lasts, 0, &after.lasts);
+    words::put_entries(lasts, 0, &after.lasts);
     noted_code(answer)
 }

@@ -5,31 +5,14 @@ use mathlib.Core.List.{List}
 use Prim.Native.Nat.{ℕ}
 use Rattle.wire.specs.Overlay.{overlay}
 use Rattle.wire.proofs.Choices.{either}
-use Rattle.wire.proofs.Once.{one-answer}
-use Rattle.receiver.specs.Calls.{refusalOf, Receives}
-use Rattle.receiver.specs.declared.Call.{Call}
+use Rattle.receiver.specs.Calls.{Receives}
 use Rattle.receiver.specs.declared.Outcome.{Outcome}
-use Rattle.receiver_laws.proofs.Once.{Same, receive-once, Alike, open-once, forget-once}
+use Rattle.receiver_laws.proofs.Once.{Same, receive-once}
 use Rattle.log.specs.declared.reader.Limits.{Limits}
 use Rattle.bounded.specs.Within.{ReceivesWithin}
 use Rattle.bounded.proofs.Once.{within-once}
 use Rattle.host_receiver.specs.Outcomes.{outcomeNumbers, answerCode, unlessRefused}
-use Rattle.host_receiver.specs.Calls.{callCode, OpenTold, ForgetTold, lacking, Untouched, Heard, ReceiveTold, WithinTold}
-use Rattle.host_receiver.specs.Lengths.{LengthsTold}
-
--- ---- open and forget
-
-pub open-told-once : (w n : List ℕ) (k x y : ℕ) (w1 n1 w2 n2 : List ℕ) → OpenTold w n k x w1 n1 → OpenTold w n k y w2 n2 → (x ≡ y) × (w1 ≡ w2) × (n1 ≡ n2)
-open-told-once w n k x y w1 n1 w2 n2 A B =
-    let e : Alike (A .call) (B .call) w1 n1 w2 n2 = open-once w n k (A .call) (B .call) w1 n1 w2 n2 (A .opens) (B .opens) in
-    (A .gave ∙ ap (λ (c : Call). callCode (refusalOf c)) (e .answer) ∙ sym (B .gave), e .words, e .names)
-
-pub forget-told-once : (w n : List ℕ) (s x y : ℕ) (w1 n1 w2 n2 : List ℕ) → ForgetTold w n s x w1 n1 → ForgetTold w n s y w2 n2 → (x ≡ y) × (w1 ≡ w2) × (n1 ≡ n2)
-forget-told-once w n s x y w1 n1 w2 n2 A B =
-    let e : Alike (A .call) (B .call) w1 n1 w2 n2 = forget-once w n s (A .call) (B .call) w1 n1 w2 n2 (A .forgets) (B .forgets) in
-    (A .gave ∙ ap (λ (c : Call). callCode (refusalOf c)) (e .answer) ∙ sym (B .gave), e .words, e .names)
-
--- ---- receive
+use Rattle.host_receiver.specs.Calls.{lacking, Untouched, Heard, ReceiveTold, WithinTold}
 
 pub record Alone (x y : ℕ) (w n store ledger told name w′ n′ store′ ledger′ told′ name′ : List ℕ) : Type 0 where
   pub answer : x ≡ y
@@ -85,8 +68,3 @@ module _ (w n store ledger : List ℕ) (sender : ℕ) (d told name : List ℕ) (
     | inr f ↦
         heard-once (ReceivesWithin l w n store ledger sender d) (λ r s p q. within-once l w n store ledger sender d r s w1 n1 s1 l1 w2 n2 s2 l2 p q) (A .heard f) (B .heard f)
   ]
-
--- ---- lengths
-
-pub lengths-told-once : (list : List ℕ) (x y : ℕ) (a b : List ℕ) → LengthsTold list x a → LengthsTold list y b → (x ≡ y) × (a ≡ b)
-lengths-told-once list x y a b p q = (one-answer x y (p .gave) (q .gave), one-answer a b (p .left) (q .left))

@@ -12,8 +12,9 @@ use Rattle.receiver.specs.Calls.{Receives}
 use Rattle.receiver.specs.declared.Outcome.{Outcome}
 use Rattle.log.specs.declared.reader.Limits.{Limits}
 use Rattle.bounded.specs.Within.{ReceivesWithin}
+use Rattle.host_state.specs.Lengths.{outcomeCount}
 use Rattle.host_receiver.specs.Outcomes.{Tells}
-use Rattle.host_receiver.specs.Calls.{outcomeCount, lacking, ReceiveTold, WithinTold}
+use Rattle.host_receiver.specs.Calls.{lacking, ReceiveTold, WithinTold}
 
 -- ---- whether there is room
 

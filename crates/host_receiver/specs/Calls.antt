@@ -1,39 +1,17 @@
--- What the receiver's calls promise the C host: each is the receiver's own call, told in numbers. Definitions only.
+-- What receiving promises the C host: each is the receiver's own call, told in numbers. Definitions only.
 use mathlib.Core.Path.{_≡_}
 use mathlib.Core.Bool.{Bool, true, false, _||_}
-use mathlib.Core.Option.{Option, none, some}
-use mathlib.Core.List.{List, []}
-use Prim.Native.Nat.{ℕ, _+_}
+use mathlib.Core.List.{List}
+use Prim.Native.Nat.{ℕ}
 use lib.Dec.{ltb}
 use lib.ListN.{length}
 use Rattle.datagram.specs.Limits.{maxName}
-use Rattle.receiver.specs.Calls.{refusalOf, Receives, Opens, Forgets}
+use Rattle.receiver.specs.Calls.{Receives}
 use Rattle.receiver.specs.declared.Outcome.{Outcome}
-use Rattle.receiver.specs.declared.Call.{Call}
 use Rattle.log.specs.declared.reader.Limits.{Limits}
 use Rattle.bounded.specs.Within.{ReceivesWithin}
+use Rattle.host_state.specs.Lengths.{outcomeCount}
 use Rattle.host_receiver.specs.Outcomes.{Tells}
-
--- 0, or the number of the refusal
-abbrev pub callCode : Option ℕ → ℕ
-callCode none = 0
-callCode (some n) = n
-
-pub record OpenTold (w n : List ℕ) (storeLength answer : ℕ) (w′ n′ : List ℕ) : Type 0 where
-  pub call : Call
-  pub opens : Opens w n storeLength call w′ n′
-  pub gave : answer ≡ callCode (refusalOf call)
-
-pub record ForgetTold (w n : List ℕ) (sender answer : ℕ) (w′ n′ : List ℕ) : Type 0 where
-  pub call : Call
-  pub forgets : Forgets w n sender call w′ n′
-  pub gave : answer ≡ callCode (refusalOf call)
-
--- ---- receive
-
--- the numbers of an outcome: four of the answer, three of the emptied key
-abbrev pub outcomeCount : ℕ
-outcomeCount = 4 + 3
 
 -- what is lent for the outcome has no room for it
 abbrev pub lacking : List ℕ → List ℕ → Bool

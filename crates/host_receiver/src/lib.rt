@@ -1,58 +1,15 @@
-// The receiver as the van's C host calls it: state, names, store and ledger are lent, and an outcome goes to a lent list of numbers and lent bytes.
+// Receiving, as the van's C host calls it: state, names, store and ledger are lent, and an outcome goes to a lent list of numbers and lent bytes.
 use log::Limits;
-use receiver::Call;
 use receiver::Outcome;
 use steps::Answer;
 use steps::Emptied;
 use steps::PayloadAt;
 ghost use mathlib.Core.Path.{_≡_};
-ghost use Rattle.receiver.specs.Calls.{refusalOf};
 ghost use Rattle.host_receiver.specs.Outcomes.{placeNumbers, answerNumbers, emptiedNumbers, Writes, Tells};
-ghost use Rattle.host_receiver.specs.Calls.{callCode, OpenTold, ForgetTold, lacking, ReceiveTold, WithinTold};
-ghost use Rattle.host_receiver.specs.Lengths.{LengthsTold};
-
-// How many numbers tell of an answer, and of an outcome.
-const ANSWERED: usize = 4;
-
-pub const OUTCOME: usize = ANSWERED + 3;
-
-// How many lengths there are.
-pub const LENGTHS: usize = 10;
-
-// The list or the bytes for an outcome are too short.
-pub const TOO_SHORT: u32 = 13;
-
-// ---- opening and forgetting
-
-fn call_code(call: Call) -> u32
-    ensures { λ r. ⌜ r ≡ callCode (refusalOf call) ⌝ }
-{
-    match call {
-        Call::Done => 0,
-        Call::Refused(n) => n,
-    }
-}
-
-// A fresh receiver over a store of that many bytes: 0, or the number of the refusal.
-#[no_mangle]
-pub extern "C" fn qm_open(state: &mut [u64], names: &mut [u8], store_length: usize) -> u32
-    ensures { λ r. ⌜ OpenTold (now (state .entry)) (now (names .entry)) «store_length» r (now (state .exit)) (now (names .exit)) ⌝ }
-{
-    call_code(receiver::open(state, names, store_length))
-}
-
-// The sender's slots are freed and its remembered keys dropped: 0, or the number of the refusal.
-#[no_mangle]
-pub extern "C" fn qm_forget(state: &mut [u64], names: &mut [u8], sender: u64) -> u32
-    ensures { λ r. ⌜ ForgetTold (now (state .entry)) (now (names .entry)) sender r (now (state .exit)) (now (names .exit)) ⌝ }
-{
-    call_code(receiver::forget(state, names, sender))
-}
-
-// ---- receiving
+ghost use Rattle.host_receiver.specs.Calls.{lacking, ReceiveTold, WithinTold};
 
 // A delivered message: where its payload is, and how long.
-fn place_numbers(place: PayloadAt, len: usize) -> [u64; ANSWERED]
+fn place_numbers(place: PayloadAt, len: usize) -> [u64; host_state::ANSWERED]
     ensures { λ r. ⌜ r ≡ placeNumbers place len ⌝ }
 {
     match place {
@@ -61,7 +18,7 @@ fn place_numbers(place: PayloadAt, len: usize) -> [u64; ANSWERED]
     }
 }
 
-fn answer_numbers(answer: Answer) -> [u64; ANSWERED]
+fn answer_numbers(answer: Answer) -> [u64; host_state::ANSWERED]
     ensures { λ r. ⌜ r ≡ answerNumbers answer ⌝ }
 {
     match answer {
@@ -91,7 +48,7 @@ fn put_outcome(told: &mut [u64], name: &mut [u8], outcome: Outcome) -> u32
     let first = answer_numbers(answer);
     let second = emptied_numbers(emptied);
     words::put_words(&mut *told, 0, &first);
-    words::put_words(told, ANSWERED, &second);
+    words::put_words(told, host_state::ANSWERED, &second);
     wire::put_bytes(name, 0, &given);
     0
 }
@@ -113,7 +70,7 @@ fn tell(told: &mut [u64], name: &mut [u8], outcome: Outcome) -> u32
 fn no_room(told: &[u64], name: &[u8]) -> bool
     ensures { λ r. ⌜ r ≡ lacking (now (told .entry)) (now (name .entry)) ⌝ }
 {
-    if told.len() < OUTCOME {
+    if told.len() < host_state::OUTCOME {
         return true;
     }
     name.len() < datagram::MAX_NAME
@@ -135,7 +92,7 @@ pub extern "C" fn qm_receive(
         (now (name .entry)) r (now (state .exit)) (now (names .exit)) (now (store .exit)) (now (ledger .exit)) (now (told .exit)) (now (name .exit)) ⌝ }
 {
     if no_room(&*told, &*name) {
-        return TOO_SHORT;
+        return host_state::TOO_SHORT;
     }
     let outcome = receiver::receive(state, names, store, ledger, sender, datagram);
     tell(told, name, outcome)
@@ -160,35 +117,9 @@ pub extern "C" fn qm_receive_within(
         (now (name .exit)) ⌝ }
 {
     if no_room(&*told, &*name) {
-        return TOO_SHORT;
+        return host_state::TOO_SHORT;
     }
     let limits = Limits { payload, fragments };
     let outcome = bounded::receive_within(state, names, store, ledger, limits, sender, datagram);
     tell(told, name, outcome)
-}
-
-// ---- lengths
-
-// The lengths that a host goes by, as this code has them, at the start of a lent list: 0, or 13.
-#[no_mangle]
-pub extern "C" fn qm_lengths(lengths: &mut [u64]) -> u32
-    ensures { λ r. ⌜ LengthsTold (now (lengths .entry)) r (now (lengths .exit)) ⌝ }
-{
-    if lengths.len() < LENGTHS {
-        return TOO_SHORT;
-    }
-    let all = [
-        slots::SLOTS as u64,
-        datagram::MAX_PAYLOAD as u64,
-        datagram::MAX_FRAGMENTS as u64,
-        datagram::MAX_NAME as u64,
-        receiver::STATE_WORDS as u64,
-        receiver::NAME_BYTES as u64,
-        receiver::LEDGER as u64,
-        OUTCOME as u64,
-        watch::SENDERS as u64,
-        log_index::MAX_INDEX as u64,
-    ];
-    words::put_words(lengths, 0, &all);
-    0
 }

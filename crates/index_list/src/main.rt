@@ -62,6 +62,6 @@ fn run(buf: &mut [u8], index: &mut [u64], out: &mut [u8]) {
 fn main() {
     let mut buf = [0u8; log_lines::HOLDS];
     let mut index = [0u64; index_lines::WORDS];
-    let mut out = [0u8; 65536];
+    let mut out = [0u8; output::HOLDS];
     run(&mut buf, &mut index, &mut out);
 }

@@ -35,7 +35,7 @@ fn prepare(case: &[u8], place: usize, state: &mut [u64], names: &mut [u8])
 {
     let w = wire::least(receiver::STATE_WORDS, state.len());
     let b = wire::least(receiver::NAME_BYTES, names.len());
-    let _ = receiver::open(&mut state[..w], &mut names[..b], STORE);
+    let _ = receiver_ends::open(&mut state[..w], &mut names[..b], STORE);
     words::put_word(
         state,
         spot(crate::number(case, place)),
@@ -59,7 +59,7 @@ fn pour_call(out: &mut [u8], at: usize, call: Call, done: &[u8]) -> usize {
 fn opened_in(out: &mut [u8], at: usize, case: &[u8], state: &mut [u64], names: &mut [u8]) -> usize {
     let w = wire::least(state_words(case), state.len());
     let b = wire::least(name_bytes(case), names.len());
-    let call = receiver::open(&mut state[..w], &mut names[..b], crate::number(case, 16));
+    let call = receiver_ends::open(&mut state[..w], &mut names[..b], crate::number(case, 16));
     if let Call::Done = call {
         return output::pour_counted(out, at, b"slot size ", words::word(state, spot(1)));
     }

@@ -133,6 +133,6 @@ fn main() {
     let mut buf = [0u8; BUFFER];
     let mut list = [0i64; NUMBERS];
     let mut bytes = [0u8; lmcp::MAX_MESSAGE];
-    let mut out = [0u8; 65536];
+    let mut out = [0u8; output::HOLDS];
     run(&mut buf, &mut list, &mut bytes, &mut out);
 }

@@ -79,6 +79,6 @@ const BUFFER: usize = lmcp::MAX_MESSAGE + 8192;
 fn main() {
     let mut buf = [0u8; BUFFER];
     let mut list = [0i64; NUMBERS];
-    let mut out = [0u8; 65536];
+    let mut out = [0u8; output::HOLDS];
     run(&mut buf, &mut list, &mut out);
 }

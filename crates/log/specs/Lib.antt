@@ -2,4 +2,3 @@ pub mod Editions
 pub mod Entries
 pub mod Listed
 pub mod Told
-pub mod Writes

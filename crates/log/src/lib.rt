@@ -1,7 +1,6 @@
-// The flight on disk: a log of every datagram with its sender and arrival tick. A log determines its edition, in edition 2
-// its payload limit, and its entries, and they determine it.
+// The flight on disk: a log of every datagram with its sender and arrival tick, and its reader. A log determines its edition, in
+// edition 2 its payload limit, and its entries, and they determine it.
 mod reader;
-mod writer;
 
 pub use reader::EntryAt;
 pub use reader::First;
@@ -12,9 +11,6 @@ pub use reader::limits_in;
 pub use reader::next_entry;
 pub use reader::place_after;
 pub use reader::read_on;
-pub use writer::Written;
-pub use writer::append;
-pub use writer::begin;
 
 // The first byte of a log: of those that are written, and of edition 1, which is still read.
 pub const EDITION: u8 = 2;

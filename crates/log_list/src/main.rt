@@ -34,6 +34,6 @@ fn run(buf: &mut [u8], out: &mut [u8]) {
 
 fn main() {
     let mut buf = [0u8; log_lines::HOLDS];
-    let mut out = [0u8; 65536];
+    let mut out = [0u8; output::HOLDS];
     run(&mut buf, &mut out);
 }

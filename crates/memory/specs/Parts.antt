@@ -20,7 +20,9 @@ settledIn w i s = set (set (ranksLowered w turnRanks (getD w (turnAt i) 0) sende
 -- the first n numbers from a on have each taken the next one's place
 unfoldable pub shiftedIn : List ℕ → ℕ → ℕ → List ℕ
 shiftedIn w a zero = w
-shiftedIn w a (suc n) = set (shiftedIn w a n) (a + n) (getD (shiftedIn w a n) (a + n + 1) 0)
+shiftedIn w a (suc n) =
+    let v : List ℕ = shiftedIn w a n in
+    set v (a + n) (getD v (a + n + 1) 0)
 
 -- place i has n sequences and one more; of 32 the oldest goes
 unfoldable pub addedIn : List ℕ → ℕ → ℕ → ℕ → List ℕ

@@ -263,7 +263,7 @@ pub fn message(p: &[u8], n: usize) -> &[u8]
 }
 
 // The ten bytes of a session at a place; zeros past the end.
-pub fn session_at(b: &[u8], at: usize) -> [u8; 10]
+pub fn session_at(b: &[u8], at: usize) -> [u8; SESSION]
     ensures { λ r. ⌜ r ≡ overlay (replicate sessionLength 0) 0 (drop at (now (b .entry))) ⌝ }
 {
     let mut session = [0u8; SESSION];

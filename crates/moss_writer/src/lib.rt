@@ -50,7 +50,7 @@ fn plan(kind: u8, blocks: &[u8], room: usize) -> Written
 }
 
 // The bytes of a packet, field by field, at the start of the output.
-fn put_packet(out: &mut [u8], session: [u8; 10], sequence: u32, kind: u8, blocks: &[u8])
+fn put_packet(out: &mut [u8], session: [u8; moss::SESSION], sequence: u32, kind: u8, blocks: &[u8])
     requires { ⌜ length (now blocks) ≤ maxPacket ⌝ }
     ensures { λ _. ⌜ now (out .exit) ≡ overlay (now (out .entry)) 0 (packetBytes session sequence kind (now (blocks .entry))) ⌝ }
 {
@@ -64,7 +64,7 @@ fn put_packet(out: &mut [u8], session: [u8; 10], sequence: u32, kind: u8, blocks
 
 // Writes a packet of these message blocks, as they will lie, at the start of the output.
 pub fn write_packet(
-    session: [u8; 10],
+    session: [u8; moss::SESSION],
     sequence: u32,
     kind: u8,
     blocks: &[u8],

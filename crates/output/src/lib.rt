@@ -12,7 +12,10 @@ use stream::Next;
 // Room that any number needs, and the last line. A program's buffer has as much or more.
 pub const LINE: usize = 128;
 
-// So many bytes fill it in hexadecimal.
+// The bytes of a program's output buffer, but where one line is all.
+pub const HOLDS: usize = 65536;
+
+// So many bytes fill a line in hexadecimal.
 const PIECE: usize = LINE / 2;
 
 // Writes the bytes before a place to standard output.

@@ -29,7 +29,11 @@ ranksLowered w p t (suc n) =
     let v : List ℕ = ranksLowered w p t n in
     set v (placeAt p n + p .rank) (lowerRank (markOf v p n) t (rankOf v p n))
 
+-- place i where its rank is below that of the one before, else that one
+abbrev pub lowerRanked : List ℕ → Ranked → ℕ → ℕ → ℕ
+lowerRanked w p i before = pick (ltb (rankOf w p i) (rankOf w p before)) i before
+
 -- of the first n places the one with the lowest rank, on a tie the first
 unfoldable pub lowestRanked : List ℕ → Ranked → ℕ → ℕ
 lowestRanked w p zero = 0
-lowestRanked w p (suc n) = pick (ltb (rankOf w p n) (rankOf w p (lowestRanked w p n))) n (lowestRanked w p n)
+lowestRanked w p (suc n) = lowerRanked w p n (lowestRanked w p n)

@@ -1,4 +1,4 @@
--- Opening, and forgetting a sender: what was called on the way, put together into what the calls promise.
+-- Forgetting a sender: what was called on the way, put together into what the call promises.
 use mathlib.Core.Path.{_≡_, refl, sym, _∙_, ap}
 use mathlib.Core.Logic.{_≢_}
 use mathlib.Core.Bool.{Bool, true, false, _&&_}
@@ -8,23 +8,19 @@ use Prim.Native.Nat.{ℕ, suc, _+_, _<_}
 use native.Mathlib.Numerals.{add-one}
 use native.Mathlib.Omega.{arith}
 use lib.Dec.{eqb}
-use lib.ListN.{length, getD, set, replicate}
+use lib.ListN.{length}
 use borrow.Author.Tests.{eq-eqb, ne-eqb}
 use Rattle.wire.specs.Choice.{pick}
-use Rattle.wire.specs.Overlay.{overlay}
 use Rattle.wire.proofs.Choices.{and-false}
-use Rattle.steps.specs.Limits.{slotCount, slotSizeOf}
-use Rattle.steps.specs.Held.{noneHeld}
-use Rattle.steps.specs.Memory.{Memory, emptyMemory, forgetKeys, memoryOk}
-use Rattle.steps.specs.Slots.{Slot, busy, slotAt, noSlot, release, releaseOne, releaseOf}
-use Rattle.steps.specs.Receive.{Machine, withSlots, opened, forget}
+use Rattle.steps.specs.Limits.{slotCount}
+use Rattle.steps.specs.Memory.{forgetKeys, memoryOk}
+use Rattle.steps.specs.Slots.{Slot, busy, slotAt, release, releaseOne, releaseOf}
+use Rattle.steps.specs.Receive.{Machine, withSlots, forget}
 use Rattle.slots.specs.Words.{at, senderWord, countWord}
-use Rattle.receiver_state.specs.View.{storeWord, roomWord, stateWords, nameBytes, slotsOf, memoryOf, view, shaped}
+use Rattle.receiver_state.specs.View.{stateWords, nameBytes, slotsOf, memoryOf, view, shaped}
 use Rattle.receiver_state.specs.Inside.{Shaped, Drops}
-use Rattle.receiver_state.proofs.Windows.{overlay-whole}
-use Rattle.receiver_state.proofs.Remembers.{memory-fresh}
 use Rattle.receiver_state.proofs.Cases.{sender-is, count-is}
-use Rattle.receiver.specs.Calls.{Changes, Opens, Forgets, forgotten}
+use Rattle.receiver.specs.Calls.{Changes, Forgets, forgotten}
 use Rattle.receiver.specs.Inside.{Releases, ReleasesOne, ReleasesAll}
 use Rattle.receiver.specs.declared.Call.the-variants as call
 
@@ -67,16 +63,16 @@ released-more w n w1 n1 w2 n2 from i A B = record {
 -- ---- refusals
 
 module _ (w n : List ℕ) where
-  unshaped : length w ≢ stateWords → shaped w n ≡ false
+  pub unshaped : length w ≢ stateWords → shaped w n ≡ false
   unshaped d = rw (ne-eqb _ _ d)
 
-  nameless : length n ≢ nameBytes → shaped w n ≡ false
+  pub nameless : length n ≢ nameBytes → shaped w n ≡ false
   nameless d = rw (ne-eqb (length n) nameBytes d) (and-false (eqb (length w) stateWords))
 
-  whole : length w ≡ stateWords → length n ≡ nameBytes → shaped w n ≡ true
+  pub whole : length w ≡ stateWords → length n ≡ nameBytes → shaped w n ≡ true
   whole a b = rw (eq-eqb _ _ a, eq-eqb _ _ b)
 
-  refuses : (m : Machine) (o : Option ℕ) → view w n ≡ m → some 9 ≡ o → Changes m o w n (call.Refused 9) w n
+  pub refuses : (m : Machine) (o : Option ℕ) → view w n ≡ m → some 9 ≡ o → Changes m o w n (call.Refused 9) w n
   refuses m o a b = record { gave = b; machine = a; words = refl; bytes = refl; still = λ k q. (refl, refl) }
 
   pub words-forgets : (from : ℕ) → length w ≢ stateWords → Forgets w n from (call.Refused 9) w n
@@ -91,15 +87,9 @@ module _ (w n : List ℕ) where
   unfolding forgotten forget
   memory-forgets from a b d = rw (whole a b, d) (refuses (view w n) (some 9) refl refl)
 
-  pub words-opens : (k : ℕ) → length w ≢ stateWords → Opens w n k (call.Refused 9) w n
-  words-opens k d = rw (unshaped d) (refuses (view w n) (some 9) refl refl)
-
-  pub names-opens : (k : ℕ) → length n ≢ nameBytes → Opens w n k (call.Refused 9) w n
-  names-opens k d = rw (nameless d) (refuses (view w n) (some 9) refl refl)
-
 -- ---- forgetting
 
-never-some : (X : Type 0) (k : ℕ) → _≡_ {A = Option ℕ} none (some k) → X
+pub never-some : (X : Type 0) (k : ℕ) → _≡_ {A = Option ℕ} none (some k) → X
 never-some X k q = let z : _≡_ {A = ℕ} 0 1 = cc in absurd (let h : ⊥ = omega arith in h)
 
 -- the memory is still in order once slots were freed
@@ -116,26 +106,3 @@ module _ (w n : List ℕ) (a : length w ≡ stateWords) (b : length n ≡ nameBy
     bytes = A .shape .bytes ∙ sym b;
     still = λ j q. never-some _ j q;
   })
-
-  -- ---- opening
-
-  fresh : (k c : ℕ) → c ≡ slotSizeOf k → view (set (set (replicate stateWords 0) storeWord k) roomWord c) (replicate nameBytes 0) ≡ opened k
-  unfolding slotsOf opened noneHeld
-  fresh k c e =
-      ap (λ (x : ℕ). view (set (set (replicate stateWords 0) storeWord k) roomWord x) (replicate nameBytes 0)) e
-      ∙ ap (λ (m : Memory). record { storeLength = k; slotSize = slotSizeOf k; slots = replicate slotCount noSlot; memory = m }) memory-fresh
-
-  pub opens : (k c : ℕ) (w1 w2 w3 n1 : List ℕ) → c ≡ slotSizeOf k → w1 ≡ overlay w 0 (replicate stateWords 0) → w2 ≡ set w1 storeWord k → w3 ≡ set w2 roomWord c
-      → n1 ≡ overlay n 0 (replicate nameBytes 0) → Opens w n k call.Done w3 n1
-  opens k c w1 w2 w3 n1 ec e1 e2 e3 en =
-      let z : w1 ≡ replicate stateWords 0 = e1 ∙ overlay-whole w (replicate stateWords 0) (sym a) in
-      let y : w3 ≡ set (set (replicate stateWords 0) storeWord k) roomWord c =
-      e3 ∙ ap (λ (x : List ℕ). set x roomWord c) e2 ∙ ap (λ (x : List ℕ). set (set x storeWord k) roomWord c) z in
-      let t : n1 ≡ replicate nameBytes 0 = en ∙ overlay-whole n (replicate nameBytes 0) (sym b) in
-      rw (whole w n a b) (record {
-        gave = refl;
-        machine = (λ i. view (y i) (t i)) ∙ fresh k c ec;
-        words = ap length y ∙ sym a;
-        bytes = ap length t ∙ sym b;
-        still = λ j q. never-some _ j q;
-      })

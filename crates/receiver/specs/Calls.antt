@@ -1,13 +1,13 @@
 -- WHAT THE CALLS PROMISE, for every state, names, store, ledger, sender and datagram. Definitions only.
 use mathlib.Core.Path.{_≡_}
 use mathlib.Core.Option.{Option, none, some}
-use mathlib.Core.List.{List, []}
+use mathlib.Core.List.{List}
 use Prim.Native.Nat.{ℕ}
 use lib.ListN.{length}
 use Rattle.wire.specs.Choice.{pick}
 use Rattle.steps.specs.declared.Answer.the-variants.{Refused}
-use Rattle.steps.specs.Answers.{Reply, refusedBy, kept, repeat, delivered, reply, emptiedKey}
-use Rattle.steps.specs.Receive.{Machine, After, opened, stay, step, forget, Forgot}
+use Rattle.steps.specs.Answers.{reply, emptiedKey}
+use Rattle.steps.specs.Receive.{Machine, After, stay, step, forget, Forgot}
 use Rattle.steps.specs.Runs.{Heard, heard, from}
 use Rattle.receiver_state.specs.View.{view, shaped}
 use Rattle.receiver.specs.declared.Outcome.{Outcome}
@@ -47,13 +47,6 @@ pub record Receives (w n store ledger : List ℕ) (sender : ℕ) (d : List ℕ) 
   -- a refusal writes nothing
   pub still : (k : ℕ) → r .answer ≡ Refused k → (w′ ≡ w) × (n′ ≡ n) × (store′ ≡ store) × (ledger′ ≡ ledger)
 
--- the bytes that an answer hands over: none, but for Delivered
-abbrev pub payloadOf : Reply → List ℕ
-payloadOf (refusedBy n) = []
-payloadOf kept = []
-payloadOf repeat = []
-payloadOf (delivered bytes) = bytes
-
 -- the other calls: what machine is shown then, and whether it is refused
 pub record Changes (m : Machine) (refusal : Option ℕ) (w n : List ℕ) (r : Call) (w′ n′ : List ℕ) : Type 0 where
   pub gave : refusalOf r ≡ refusal
@@ -62,11 +55,6 @@ pub record Changes (m : Machine) (refusal : Option ℕ) (w n : List ℕ) (r : Ca
   pub bytes : length n′ ≡ length n
   -- a refusal writes nothing
   pub still : (k : ℕ) → refusalOf r ≡ some k → (w′ ≡ w) × (n′ ≡ n)
-
--- open: a fresh receiver over a store of that many bytes, or refused by 9
-abbrev pub Opens : List ℕ → List ℕ → ℕ → Call → List ℕ → List ℕ → Type 0
-Opens w n storeLength r w′ n′ =
-    Changes (pick (shaped w n) (opened storeLength) (view w n)) (pick (shaped w n) none (some 9)) w n r w′ n′
 
 -- forget: the step list's; a state or names of another length is refused by 9
 unfoldable pub forgotten : List ℕ → List ℕ → ℕ → Forgot

@@ -17,11 +17,10 @@ ghost use Rattle.datagram.specs.Said.{fragmentIn};
 ghost use Rattle.steps.specs.Limits.{slotCount};
 ghost use Rattle.steps.specs.Memory.{keyOf};
 ghost use Rattle.steps.specs.Slots.{noName};
-ghost use Rattle.steps.specs.Answers.{reply};
 ghost use Rattle.receiver_state.specs.View.{stateWords};
 ghost use Rattle.receiver_state.specs.Inside.{Shaped, Ready, Told, namedIn, Remembers};
 ghost use Rattle.deciding.specs.Inside.{Possible};
-ghost use Rattle.receiver.specs.Calls.{Receives, Opens, Forgets, payloadOf};
+ghost use Rattle.receiver.specs.Calls.{Receives, Forgets};
 ghost use Rattle.receiver.specs.Inside.{stayed, Releases, ReleasesOne, ReleasesAll, Occupies, Keeps, Delivers, SmallDone, Puts, Seats};
 ghost use Rattle.receiver.specs.Inside.{Begins, Plans, Able, Settles, Storable, StoredIn, StoredBy};
 
@@ -323,46 +322,7 @@ pub fn receive(
     settle(state, names, sender, plan, d)
 }
 
-// The delivered payload, as the part of the store or of the datagram that holds it: empty for any other answer.
-pub fn payload<'a>(outcome: Outcome, store: &'a [u8], d: &'a [u8]) -> &'a [u8]
-    ensures { λ r. ⌜ now r ≡ payloadOf (reply (now (d .entry)) (now (store .entry)) (outcome .answer)) ⌝ }
-{
-    let answer = outcome.answer;
-    match answer {
-        Answer::Refused(_) => wire::part(d, 0, 0),
-        Answer::Kept => wire::part(d, 0, 0),
-        Answer::Repeat => wire::part(d, 0, 0),
-        Answer::Delivered(place, n) => match place {
-            PayloadAt::InDatagram(at) => wire::part(d, at, n),
-            PayloadAt::InStore(at) => wire::part(store, at, n),
-        },
-    }
-}
-
-// ---- opening and forgetting
-
-// A fresh receiver over a store of that many bytes.
-pub fn open(state: &mut [u64], names: &mut [u8], store_len: usize) -> Call
-    ensures { λ r. ⌜ Opens (now (state .entry)) (now (names .entry)) «store_len» r (now (state .exit)) (now (names .exit)) ⌝ }
-{
-    if state.len() != STATE_WORDS {
-        return Call::Refused(9);
-    }
-    if names.len() != NAME_BYTES {
-        return Call::Refused(9);
-    }
-    let zeros = [0u64; STATE_WORDS];
-    let blank = [0u8; NAME_BYTES];
-    words::put_words(&mut *state, 0, &zeros);
-    words::put_word(&mut *state, receiver_state::STORE_LENGTH, store_len as u64);
-    words::put_word(
-        state,
-        receiver_state::SLOT_SIZE,
-        receiver_state::slot_size(store_len) as u64,
-    );
-    wire::put_bytes(names, 0, &blank);
-    Call::Done
-}
+// ---- forgetting
 
 // Slot i is freed where it is open for the sender.
 fn release_one(state: &mut [u64], names: &mut [u8], i: usize, sender: u64)

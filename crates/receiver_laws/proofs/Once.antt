@@ -16,7 +16,8 @@ use Rattle.steps.specs.Receive.{Machine, stay, step}
 use Rattle.steps.specs.Reach.{Reached, opens, receives, forgets}
 use Rattle.receiver_state.specs.View.{stateWords, nameBytes, view, shaped}
 use Rattle.receiver_state.specs.Inside.{Shaped}
-use Rattle.receiver.specs.Calls.{refusalOf, received, Receives, Changes, Opens, Forgets, forgotten}
+use Rattle.receiver.specs.Calls.{refusalOf, received, Receives, Changes, Forgets, forgotten}
+use Rattle.receiver_ends.specs.Ends.{Opens}
 use Rattle.receiver.specs.declared.Outcome.{Outcome}
 use Rattle.receiver.specs.declared.Call.{Call}
 use Rattle.receiver.specs.declared.Call.the-variants as call

@@ -69,7 +69,7 @@ fn afresh(log: &[u8], out: &mut [u8]) {
     let mut names = [0u8; receiver::NAME_BYTES];
     let mut store = [0u8; STORE];
     let mut ledger = [0u32; receiver::LEDGER];
-    let opened = receiver::open(&mut state, &mut names, STORE);
+    let opened = receiver_ends::open(&mut state, &mut names, STORE);
     if let Call::Done = opened {
         replayed(log, out, &mut state, &mut names, &mut store, &mut ledger);
     }
@@ -89,6 +89,6 @@ fn run(buf: &mut [u8], out: &mut [u8]) {
 
 fn main() {
     let mut buf = [0u8; log_lines::HOLDS];
-    let mut out = [0u8; 65536];
+    let mut out = [0u8; output::HOLDS];
     run(&mut buf, &mut out);
 }

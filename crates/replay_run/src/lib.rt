@@ -16,6 +16,11 @@ use stream::Next;
 // The bytes of the store, by the paper.
 const STORE: usize = 65536;
 
+// The bytes of the input and the output buffer of a program that replays.
+pub const HOLDS: usize = 262144;
+
+pub const WRITES: usize = output::HOLDS;
+
 fn pour_answer(out: &mut [u8], at: usize, answer: Answer) -> usize
     ensures { λ r. ⌜ Pours (now (out .entry)) at (answerText answer) (now (out .exit)) r ⌝ }
 {
@@ -111,7 +116,7 @@ pub fn run(buf: &mut [u8], out: &mut [u8])
     let mut names = [0u8; receiver::NAME_BYTES];
     let mut store = [0u8; STORE];
     let mut ledger = [0u32; receiver::LEDGER];
-    let opened = receiver::open(&mut state, &mut names, STORE);
+    let opened = receiver_ends::open(&mut state, &mut names, STORE);
     if let Call::Done = opened {
         replayed(buf, out, &mut state, &mut names, &mut store, &mut ledger);
     }

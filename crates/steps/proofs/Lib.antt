@@ -1,3 +1,4 @@
+pub mod Quick
 pub mod Answered
 pub mod Tables
 pub mod Helds

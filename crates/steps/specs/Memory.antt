@@ -73,10 +73,14 @@ isRemembered m k = has (keptAt m (first (isOf (k .sender)) m)) (k .sequence)
 
 -- ---- a key is remembered
 
+-- place i where it lies further back than the one before, else that one
+abbrev pub further : Memory → ℕ → ℕ → ℕ
+further m i before = pick (ltb (placeAt m i .turn) (placeAt m before .turn)) i before
+
 -- of the first n places the one with the lowest turn; of two the first
 abbrev pub furthestBack : Memory → ℕ → ℕ
 furthestBack m zero = 0
-furthestBack m (suc n) = pick (ltb (placeAt m n .turn) (placeAt m (furthestBack m n) .turn)) n (furthestBack m n)
+furthestBack m (suc n) = further m n (furthestBack m n)
 
 abbrev pub orElse : Option ℕ → ℕ → ℕ
 orElse none j = j

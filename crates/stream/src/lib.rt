@@ -12,6 +12,9 @@ ghost use Rattle.stream.specs.Windows.{Fronted, Grown, Ready, Dropped, W
 // More records than any input has: a proved loop has to end, so a program counts its records up to this.
 pub const MANY: u64 = 18446744073709551615;
 
+// The bytes of a program's input buffer: a record of any length and as much again.
+pub const HOLDS: usize = 131072;
+
 // How records stand in the input: after a 2-byte length, after a 4-byte length, as one byte and a 4-byte count of 8-byte numbers, or as an
 // entry of a flight: an 8-byte sender, an 8-byte tick and a 2-byte length.
 pub enum Kind {

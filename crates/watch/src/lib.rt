@@ -22,8 +22,8 @@ pub const NO_ROOM: u32 = 14;
 
 // The first `count` places are in use: a sender, and the last number that moved its watch.
 pub struct Watch {
-    pub senders: [u64; 16],
-    pub lasts: [u32; 16],
+    pub senders: [u64; SENDERS],
+    pub lasts: [u32; SENDERS],
     pub count: usize,
 }
 
@@ -48,8 +48,8 @@ pub fn new() -> Watch
     ensures { λ r. ⌜ r ≡ empty ⌝ }
 {
     Watch {
-        senders: [0; 16],
-        lasts: [0; 16],
+        senders: [0; SENDERS],
+        lasts: [0; SENDERS],
         count: 0,
     }
 }

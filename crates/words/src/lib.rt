@@ -71,3 +71,15 @@ pub fn put_entry(l: &mut [u32], i: usize, x: u32)
         l[i] = x;
     }
 }
+
+// The numbers of src at a place of the ledger.
+pub fn put_entries(l: &mut [u32], at: usize, src: &[u32])
+    ensures { λ _. ⌜ now (l .exit) ≡ overlay (now (l .entry)) at (now (src .entry)) ⌝ }
+{
+    let n = wire::least(src.len(), wire::room(l.len(), at));
+    let mut i: usize = 0;
+    while i < n {
+        l[at + i] = src[i];
+        i += 1;
+    }
+}

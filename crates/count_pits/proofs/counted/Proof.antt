@@ -1,11 +1,11 @@
--- Nothing is asked of the three arrays but their lengths, which are those written. Assumes nothing.
+-- Nothing is asked of the three arrays but their lengths, which are those written; the longest is named, since looking for it takes seconds. Assumes nothing.
 use Rattle.count_pits.proofs.Zeros.{zeros}
 use borrow.Author.Needs.{needs}
 use Rattle.count_pits.proofs.counted.Statement.{statement}
 use Rattle.count_pits.proofs.counted.Tie as tie
 
 slice-aggregate-pour-log : tie.Need-slice-aggregate-pour-log
-slice-aggregate-pour-log c = zeros _
+slice-aggregate-pour-log c = zeros 2_097_152
 
 slice-aggregate-pour-log-2 : tie.Need-slice-aggregate-pour-log-2
 slice-aggregate-pour-log-2 c = search needs

@@ -1,4 +1,4 @@
--- A fresh receiver over arrays whose lengths are those written. Assumes nothing.
+-- A fresh receiver over arrays whose lengths are those written; the longest is named, since looking for it takes seconds. Assumes nothing.
 use borrow.Author.Needs.{needs}
 use Rattle.replay_log.proofs.Zeros.{zeros}
 use Rattle.replay_log.proofs.afresh.Statement.{statement}
@@ -23,7 +23,7 @@ slice-aggregate-replayed-2 : tie.Need-slice-aggregate-replayed-2
 slice-aggregate-replayed-2 c = search needs
 
 slice-aggregate-replayed-3 : tie.Need-slice-aggregate-replayed-3
-slice-aggregate-replayed-3 c = zeros _
+slice-aggregate-replayed-3 c = zeros 2_097_152
 
 slice-aggregate-replayed-4 : tie.Need-slice-aggregate-replayed-4
 slice-aggregate-replayed-4 c = search needs

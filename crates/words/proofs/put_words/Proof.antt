@@ -1,16 +1,13 @@
 -- `words::put_words` meets its contract. The loop's invariant: the i words passed are written. Assumes nothing.
-use mathlib.Core.Path.{_≡_, refl, sym, _∙_}
-use Prim.Native.Nat.{_-_, _≤_, min}
+use Prim.Native.Nat.{_-_}
 use native.Mathlib.Omega.{arith}
-use lib.ListN.{length, take, length-set}
 use borrow.Author.Needs.{needs}
-use Rattle.wire.specs.Overlay.{overlay}
-use Rattle.wire.proofs.Overlays.{overlay-nil, overlay-turn, overlay-least}
+use Rattle.words.proofs.Copies.{Copied, copied-none, copied-more, copied-all}
 use Rattle.words.proofs.put_words.Statement.{statement}
 use Rattle.words.proofs.put_words.Tie as tie
 
 abbrev Inv-loop : tie.InvT-loop
-Inv-loop w₀ at src n i₀ w i = (i ≤ n) × (n ≡ min (length src) (length w₀ - at)) × (length w ≡ length w₀) × (w ≡ overlay w₀ at (take i src))
+Inv-loop w₀ at src n i₀ w i = Copied w₀ at src n w i
 
 abbrev μ-loop : tie.MeasureT-loop
 μ-loop w₀ at src n i₀ w i = n - i
@@ -24,7 +21,7 @@ least-requires c κs = search needs
 loop-holds : tie.Need-loop-holds Inv-loop μ-loop
 loop-holds c =
     let a = c .before .before .before .before .args in
-    (omega arith, omega arith, refl, sym (overlay-nil (a .w .now) (a .at)))
+    copied-none (a .w .now) (a .at) (a .src .now) _ (omega arith)
 
 mul-w : tie.Need-mul-w Inv-loop μ-loop
 mul-w c = search needs
@@ -49,19 +46,18 @@ loop-less c = search needs
 
 loop-again : tie.Need-loop-again Inv-loop μ-loop
 loop-again c =
-    let inv = c .before .before .loop .inv in
+    let l = c .before .before .loop in
     let a = c .before .before .before .before .before .before .before .args in
-    (omega arith, inv .1, simp length-set (inv .2), rw (inv .3) (overlay-turn (a .w .now) (a .at) (a .src .now) (c .before .before .loop .i) (omega arith)))
+    copied-more (a .w .now) (a .at) (a .src .now) _ _ (l .i) (l .inv) (omega arith)
 
 same-length : tie.Need-same-length Inv-loop μ-loop
 same-length c = search needs
 
 returns : tie.Need-returns Inv-loop μ-loop
 returns c =
-    let inv = c .before .loop .inv in
+    let l = c .before .loop in
     let a = c .before .before .before .before .before .before .args in
-    let e : c .before .loop .i ≡ min (length (a .src .now)) (length (a .w .now) - a .at) = omega arith in
-    inv .3 ∙ overlay-least (a .w .now) (a .at) (a .src .now) _ e
+    copied-all (a .w .now) (a .at) (a .src .now) _ _ (l .i) (l .inv) (omega arith)
 
 pub put-words-spec : {M : Type 1} → statement M
 put-words-spec =

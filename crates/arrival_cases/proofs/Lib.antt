@@ -1,0 +1,4 @@
+pub mod Computed
+pub mod Works
+pub mod Needed
+pub mod StrangersWork
