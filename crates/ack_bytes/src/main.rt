@@ -7,7 +7,7 @@ ghost use lib.ListN.{length, take};
 ghost use lib.Seq.{sets};
 ghost use Rattle.ack_blocks.specs.Limits.{maxBlocks};
 ghost use Rattle.text.specs.Text.{decimal};
-ghost use Rattle.output.specs.Output.{Pours};
+ghost use Rattle.output.specs.Output.{Pours, lineLimit};
 ghost use Rattle.ack_bytes.specs.Lines.{numbersOf, listLimit, bytesText, longerText, writtenText, line};
 use ack_writer::Written;
 use stream::Input;
@@ -107,7 +107,7 @@ fn one_more(
 
 // One line a record, and the last line.
 fn run(buf: &mut [u8], list: &mut [u64], blocks: &mut [u8], out: &mut [u8])
-    requires { ⌜ (length (now list) ≡ listLimit) × (length (now blocks) ≡ maxBlocks) ⌝ }
+    requires { ⌜ ((length (now list) ≡ listLimit) × (length (now blocks) ≡ maxBlocks)) × (lineLimit ≤ length (now out)) ⌝ }
 {
     let mut input = Input { at: 0, end: 0 };
     let mut at: usize = 0;

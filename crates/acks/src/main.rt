@@ -1,8 +1,10 @@
 // Is a packet acknowledged? Standard input holds records, each after a 4-byte big-endian length: an 8-byte number and then acknowledge blocks;
 // a line says whether the blocks acknowledge the number, or why they are refused.
+ghost use Prim.Native.Nat.{_≤_};
+ghost use lib.ListN.{length};
 ghost use mathlib.Core.List.{[], _∷_, _++_};
 ghost use Rattle.ack_blocks.specs.Read.{answers};
-ghost use Rattle.output.specs.Output.{Pours};
+ghost use Rattle.output.specs.Output.{Pours, lineLimit};
 ghost use Rattle.text.specs.Text.{decimal};
 ghost use Rattle.acks.specs.Lines.{answerText, line};
 use ack_blocks::Answer;
@@ -43,7 +45,9 @@ fn one_more(out: &mut [u8], at: usize, n: u64, b: &[u8]) -> usize
 }
 
 // One line a record, and the last line. The buffer holds more than the longest record, so that a longer one is refused by its front.
-fn run(buf: &mut [u8], out: &mut [u8]) {
+fn run(buf: &mut [u8], out: &mut [u8])
+    requires { ⌜ lineLimit ≤ length (now out) ⌝ }
+{
     let mut input = Input { at: 0, end: 0 };
     let mut at: usize = 0;
     let mut n: u64 = 0;

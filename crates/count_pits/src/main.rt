@@ -1,7 +1,8 @@
 // What the map gets. Standard input is a log; it is counted over a fresh receiver, and the lines tell its entries by their answers, and of each
 // tile its pits and how many of them are sure.
+ghost use Prim.Native.Nat.{_≤_};
 ghost use mathlib.Core.Path.{_≡_};
-ghost use Rattle.output.specs.Output.{Pours};
+ghost use Rattle.output.specs.Output.{Pours, lineLimit};
 ghost use lib.ListN.{length};
 ghost use Rattle.counting.specs.Count.{countLog};
 ghost use Rattle.count_pits.specs.Lines.{outcomeLines, reportLines, countLines};
@@ -74,7 +75,9 @@ fn counted(log: &[u8], out: &mut [u8]) {
 }
 
 // Counts the whole input, or says that it is longer than the buffer.
-fn run(buf: &mut [u8], out: &mut [u8]) {
+fn run(buf: &mut [u8], out: &mut [u8])
+    requires { ⌜ lineLimit ≤ length (now out) ⌝ }
+{
     let all = stream::read_all(buf);
     match all {
         All::Whole(n) => counted(wire::part(buf, 0, n), out),

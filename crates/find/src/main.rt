@@ -3,7 +3,7 @@
 ghost use mathlib.Core.Path.{_≡_};
 ghost use Prim.Native.Nat.{_≤_};
 ghost use lib.ListN.{length};
-ghost use Rattle.output.specs.Output.{Pours};
+ghost use Rattle.output.specs.Output.{Pours, lineLimit};
 ghost use Rattle.find.specs.Numbers.{withDigit, numberIn, says};
 ghost use Rattle.find.specs.Said.{keyLine};
 use indexing::Indexed;
@@ -75,7 +75,9 @@ fn answer(log: &[u8], index: &mut [u64], out: &mut [u8], sender: u64, sequence: 
 }
 
 // Looks the key up in the whole input, or says that it is longer than the buffer.
-fn run(buf: &mut [u8], index: &mut [u64], out: &mut [u8], sender: u64, sequence: u64) {
+fn run(buf: &mut [u8], index: &mut [u64], out: &mut [u8], sender: u64, sequence: u64)
+    requires { ⌜ lineLimit ≤ length (now out) ⌝ }
+{
     let all = stream::read_all(buf);
     match all {
         All::Whole(n) => {

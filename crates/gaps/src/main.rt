@@ -1,6 +1,8 @@
 // Which numbers of a flight were missed. Standard input holds datagrams, each after a 2-byte big-endian length, from one sender; of each that
 // has good form the sequence watch is asked, and a line says what it notes.
-ghost use Rattle.output.specs.Output.{Pours};
+ghost use Prim.Native.Nat.{_≤_};
+ghost use lib.ListN.{length};
+ghost use Rattle.output.specs.Output.{lineLimit, Pours};
 ghost use Rattle.watch.specs.Noted.{notes};
 ghost use Rattle.gaps.specs.Lines.{answerText, line, Judged};
 use datagram::Read;
@@ -57,7 +59,9 @@ fn pour_line(out: &mut [u8], at: usize, n: u64, answer: Answer) -> usize
 }
 
 // One line a datagram, and the last line.
-fn run(buf: &mut [u8], out: &mut [u8]) {
+fn run(buf: &mut [u8], out: &mut [u8])
+    requires { ⌜ lineLimit ≤ length (now out) ⌝ }
+{
     let mut w = watch::new();
     let mut input = Input { at: 0, end: 0 };
     let mut at: usize = 0;

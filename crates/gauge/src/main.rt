@@ -1,9 +1,11 @@
 // What the tide gauge's packets say, and which messages were missed. Standard input holds MossUDP packets, each after a 2-byte big-endian
 // length; one gauge hears them all, and a line says what it notes of each.
+ghost use Prim.Native.Nat.{_≤_};
+ghost use lib.ListN.{length};
 ghost use mathlib.Core.Path.{_≡_};
 ghost use Rattle.watch.specs.Noted.{notes};
 ghost use Rattle.moss.specs.Packet.{packetOf};
-ghost use Rattle.output.specs.Output.{Pours};
+ghost use Rattle.output.specs.Output.{Pours, lineLimit};
 ghost use Rattle.gauge.specs.Lines.{notedText, spaced, firstLengths, messagesText, line, Tells};
 use gauge_watch::Gauge;
 use moss::Read;
@@ -87,7 +89,9 @@ fn one_more(out: &mut [u8], at: usize, n: u64, g: Gauge, p: &[u8]) -> Step
 }
 
 // One line a packet, and the last line.
-fn run(buf: &mut [u8], out: &mut [u8]) {
+fn run(buf: &mut [u8], out: &mut [u8])
+    requires { ⌜ lineLimit ≤ length (now out) ⌝ }
+{
     let mut g = gauge_watch::new();
     let mut input = Input { at: 0, end: 0 };
     let mut at: usize = 0;

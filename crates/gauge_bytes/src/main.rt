@@ -1,12 +1,13 @@
 // MossUDP packets from their parts. Standard input holds records, each after a 4-byte big-endian length: 10 session bytes, a 4-byte
 // sequence, a type byte, and the message blocks as they will lie; a line gives the bytes of each packet, or its refusal.
+ghost use Prim.Native.Nat.{_≤_};
 ghost use mathlib.Core.Path.{_≡_};
 ghost use mathlib.Core.List.{[], _∷_, _++_};
 ghost use lib.ListN.{length, take, drop};
 ghost use Rattle.wire.specs.Bytes.{be};
 ghost use Rattle.moss.specs.Limits.{maxPacket};
 ghost use Rattle.text.specs.Text.{decimal, hex};
-ghost use Rattle.output.specs.Output.{Pours};
+ghost use Rattle.output.specs.Output.{Pours, lineLimit};
 ghost use Rattle.gauge_bytes.specs.Lines.{line};
 use moss_writer::Written;
 use stream::Input;
@@ -64,7 +65,7 @@ fn one_more(out: &mut [u8], at: usize, n: u64, packet: &mut [u8], b: &[u8]) -> u
 
 // One line a record, and the last line. The buffer holds more than the longest record, so that a longer one is refused by its front.
 fn run(buf: &mut [u8], packet: &mut [u8], out: &mut [u8])
-    requires { ⌜ length (now packet) ≡ maxPacket ⌝ }
+    requires { ⌜ (length (now packet) ≡ maxPacket) × (lineLimit ≤ length (now out)) ⌝ }
 {
     let mut input = Input { at: 0, end: 0 };
     let mut at: usize = 0;

@@ -1,7 +1,7 @@
 // The index of a log. Standard input is a log; a line tells each row in order, and the last line how many there are, or the refusal alone.
 ghost use Prim.Native.Nat.{_*_, _+_, _≤_};
 ghost use lib.ListN.{length};
-ghost use Rattle.output.specs.Output.{Pours};
+ghost use Rattle.output.specs.Output.{Pours, lineLimit};
 ghost use Rattle.log_index.specs.Words.{rowAt};
 ghost use Rattle.index_lines.specs.Lines.{rowLine};
 use indexing::Indexed;
@@ -48,7 +48,9 @@ fn indexed(log: &[u8], index: &mut [u64], out: &mut [u8]) {
 }
 
 // Indexes the whole input, or says that it is longer than the buffer.
-fn run(buf: &mut [u8], index: &mut [u64], out: &mut [u8]) {
+fn run(buf: &mut [u8], index: &mut [u64], out: &mut [u8])
+    requires { ⌜ lineLimit ≤ length (now out) ⌝ }
+{
     let all = stream::read_all(buf);
     match all {
         All::Whole(n) => indexed(wire::part(buf, 0, n), index, out),

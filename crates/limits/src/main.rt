@@ -1,6 +1,10 @@
 // Cases of the limits that no other program reaches, over the proved crates. Standard input holds cases, each as one byte that names the call,
 // a 4-byte big-endian count and that many 8-byte numbers; a line says what the call answers. `tests/vectors` makes the cases, and what must be
 // said of them, from the paper.
+ghost use Prim.Native.Nat.{_≤_};
+ghost use lib.ListN.{length};
+ghost use Rattle.output.specs.Output.{lineLimit};
+
 mod cuts;
 mod lent;
 mod watching;
@@ -51,7 +55,9 @@ fn one_more(
 }
 
 // One line a case, and the last line.
-fn run(buf: &mut [u8], out: &mut [u8], payload: &[u8], d: &mut [u8]) {
+fn run(buf: &mut [u8], out: &mut [u8], payload: &[u8], d: &mut [u8])
+    requires { ⌜ lineLimit ≤ length (now out) ⌝ }
+{
     let mut input = Input { at: 0, end: 0 };
     let mut at: usize = 0;
     let mut n: u64 = 0;

@@ -7,7 +7,7 @@ ghost use Prim.Native.Nat.{_/_, _≤_};
 ghost use lib.ListN.{length, take};
 ghost use lib.Seq.{sets};
 ghost use Rattle.wire.specs.Signed.{signed};
-ghost use Rattle.output.specs.Output.{Pours};
+ghost use Rattle.output.specs.Output.{Pours, lineLimit};
 ghost use Rattle.lmcp_bytes.specs.Lines.{numbersOf, calculated, longerText, madeText, Written};
 use lmcp::Made;
 use stream::Input;
@@ -104,7 +104,9 @@ fn one_more(
 }
 
 // One line a list, and the last line.
-fn run(buf: &mut [u8], list: &mut [i64], bytes: &mut [u8], out: &mut [u8]) {
+fn run(buf: &mut [u8], list: &mut [i64], bytes: &mut [u8], out: &mut [u8])
+    requires { ⌜ lineLimit ≤ length (now out) ⌝ }
+{
     let mut input = Input { at: 0, end: 0 };
     let mut at: usize = 0;
     let mut n: u64 = 0;

@@ -1,8 +1,9 @@
 // What is in survey messages. Standard input holds messages, each after a 4-byte big-endian length; a line gives the numbers of each,
 // or its refusal.
+ghost use Prim.Native.Nat.{_≤_};
 ghost use mathlib.Core.List.{[], _∷_, _++_};
-ghost use lib.ListN.{take};
-ghost use Rattle.output.specs.Output.{Pours};
+ghost use lib.ListN.{take, length};
+ghost use Rattle.output.specs.Output.{Pours, lineLimit};
 ghost use Rattle.lmcp_list.specs.Lines.{spaced, foundText, line, Listed};
 use lmcp::Found;
 use stream::Input;
@@ -57,7 +58,9 @@ fn one_more(out: &mut [u8], at: usize, n: u64, list: &mut [i64], message: &[u8])
 }
 
 // One line a message, and the last line.
-fn run(buf: &mut [u8], list: &mut [i64], out: &mut [u8]) {
+fn run(buf: &mut [u8], list: &mut [i64], out: &mut [u8])
+    requires { ⌜ lineLimit ≤ length (now out) ⌝ }
+{
     let mut input = Input { at: 0, end: 0 };
     let mut at: usize = 0;
     let mut n: u64 = 0;

@@ -1,4 +1,7 @@
 // What is in a log. Standard input is a log; a line tells each entry, and the last line how many there are, or the refusal that ended them.
+ghost use Prim.Native.Nat.{_≤_};
+ghost use lib.ListN.{length};
+ghost use Rattle.output.specs.Output.{lineLimit};
 use log::Step;
 use stream::All;
 
@@ -21,7 +24,9 @@ fn listed(log: &[u8], out: &mut [u8]) {
 }
 
 // Lists the whole input, or says that it is longer than the buffer.
-fn run(buf: &mut [u8], out: &mut [u8]) {
+fn run(buf: &mut [u8], out: &mut [u8])
+    requires { ⌜ lineLimit ≤ length (now out) ⌝ }
+{
     let all = stream::read_all(buf);
     match all {
         All::Whole(n) => listed(wire::part(buf, 0, n), out),

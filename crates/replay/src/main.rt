@@ -1,6 +1,5 @@
 // Replays standard input: a line a datagram, then `end` or `cut` and the count.
 fn main() {
     let mut buf = [0u8; replay_run::HOLDS];
-    let mut out = [0u8; replay_run::WRITES];
-    replay_run::run(&mut buf, &mut out);
+    replay_run::run(&mut buf);
 }

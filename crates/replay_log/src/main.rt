@@ -1,6 +1,9 @@
 // Replays a flight that was kept. Standard input is a log; each datagram is given, from its entry's sender, to a fresh receiver, and a line
 // says what it answers, as in `replay`; the last line says how many entries there are, or the refusal that ended them. The log's limits bind
 // beside the slot size.
+ghost use Prim.Native.Nat.{_≤_};
+ghost use lib.ListN.{length};
+ghost use Rattle.output.specs.Output.{lineLimit};
 ghost use Rattle.log.specs.Told.{entrySaid};
 ghost use Rattle.replay_log.specs.Lines.{Replayed};
 use log::EntryAt;
@@ -76,7 +79,9 @@ fn afresh(log: &[u8], out: &mut [u8]) {
 }
 
 // Replays the whole input, or says that it is longer than the buffer.
-fn run(buf: &mut [u8], out: &mut [u8]) {
+fn run(buf: &mut [u8], out: &mut [u8])
+    requires { ⌜ lineLimit ≤ length (now out) ⌝ }
+{
     let all = stream::read_all(buf);
     match all {
         All::Whole(n) => afresh(wire::part(buf, 0, n), out),

@@ -1,9 +1,10 @@
 // What the program `replay` does. Standard input holds datagrams, each after a 2-byte big-endian length, from one sender; each is given
 // to a fresh receiver, and a line says what it answers. `replay_log` shares the lines.
+ghost use Prim.Native.Nat.{_≤_};
 ghost use mathlib.Core.Path.{_≡_};
 ghost use mathlib.Core.List.{[], _∷_, _++_};
 ghost use lib.ListN.{length};
-ghost use Rattle.output.specs.Output.{Pours};
+ghost use Rattle.output.specs.Output.{Pours, lineLimit};
 ghost use Rattle.replay_run.specs.Lines.{answerText, emptiedText, line, Replayed};
 use receiver::Call;
 use receiver::Outcome;
@@ -16,10 +17,8 @@ use stream::Next;
 // The bytes of the store, by the paper.
 const STORE: usize = 65536;
 
-// The bytes of the input and the output buffer of a program that replays.
+// The bytes of the input buffer of a program that replays.
 pub const HOLDS: usize = 262144;
-
-pub const WRITES: usize = output::HOLDS;
 
 fn pour_answer(out: &mut [u8], at: usize, answer: Answer) -> usize
     ensures { λ r. ⌜ Pours (now (out .entry)) at (answerText answer) (now (out .exit)) r ⌝ }
@@ -82,7 +81,9 @@ fn replayed(
     names: &mut [u8],
     store: &mut [u8],
     ledger: &mut [u32],
-) {
+)
+    requires { ⌜ lineLimit ≤ length (now out) ⌝ }
+{
     let mut input = Input { at: 0, end: 0 };
     let mut at: usize = 0;
     let mut n: u64 = 0;
@@ -107,17 +108,25 @@ fn replayed(
     }
 }
 
-// Replays standard input over two lent buffers. What is read and written no contract can say; the buffers keep their lengths. A state of
+// Replays standard input over a lent buffer. What is read and written no contract can say; the buffer keeps its length. A state of
 // the receiver's own lengths is opened, so the refusal, after which nothing would be replayed, does not come.
-pub fn run(buf: &mut [u8], out: &mut [u8])
-    ensures { λ _. ⌜ (length (now (buf .exit)) ≡ length (now (buf .entry))) × (length (now (out .exit)) ≡ length (now (out .entry))) ⌝ }
+pub fn run(buf: &mut [u8])
+    ensures { λ _. ⌜ length (now (buf .exit)) ≡ length (now (buf .entry)) ⌝ }
 {
+    let mut out = [0u8; output::HOLDS];
     let mut state = [0u64; receiver::STATE_WORDS];
     let mut names = [0u8; receiver::NAME_BYTES];
     let mut store = [0u8; STORE];
     let mut ledger = [0u32; receiver::LEDGER];
     let opened = receiver_ends::open(&mut state, &mut names, STORE);
     if let Call::Done = opened {
-        replayed(buf, out, &mut state, &mut names, &mut store, &mut ledger);
+        replayed(
+            buf,
+            &mut out,
+            &mut state,
+            &mut names,
+            &mut store,
+            &mut ledger,
+        );
     }
 }

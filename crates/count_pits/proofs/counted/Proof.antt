@@ -1,6 +1,6 @@
 -- Nothing is asked of the three arrays but their lengths, which are those written; the longest is named, since looking for it takes seconds. Assumes nothing.
-use Rattle.count_pits.proofs.Zeros.{zeros}
 use borrow.Author.Needs.{needs}
+use Rattle.output.proofs.Zeros.{zeros}
 use Rattle.count_pits.proofs.counted.Statement.{statement}
 use Rattle.count_pits.proofs.counted.Tie as tie
 

@@ -1,6 +1,6 @@
 -- Nothing is asked of the two buffers but their lengths, which are those written. Assumes nothing.
-use Rattle.count_pits.proofs.Zeros.{zeros}
 use borrow.Author.Needs.{needs}
+use Rattle.output.proofs.Zeros.{zeros}
 use Rattle.count_pits.proofs.main.Statement.{statement}
 use Rattle.count_pits.proofs.main.Tie as tie
 

@@ -3,11 +3,10 @@ use mathlib.Core.Path.{_≡_, sym}
 use Prim.Native.Nat.{ℕ}
 use lib.ListN.{length, replicate, length-replicate}
 use lib.IntN.{ℤ, pos}
+use borrow.Author.Needs.{needs}
+use Rattle.output.proofs.Zeros.{zeros}
 use Rattle.lmcp_list.proofs.main.Statement.{statement}
 use Rattle.lmcp_list.proofs.main.Tie as tie
-
-zeros : (n : ℕ) → n ≡ length {A = ℕ} (replicate n 0)
-zeros n = sym (length-replicate {A = ℕ} n 0)
 
 numbers : (n : ℕ) → n ≡ length {A = ℤ} (replicate n (pos 0))
 numbers n = sym (length-replicate {A = ℤ} n (pos 0))
@@ -22,7 +21,7 @@ slice-aggregate-run-3 : tie.Need-slice-aggregate-run-3
 slice-aggregate-run-3 c = zeros _
 
 run-requires : tie.Need-run-requires
-run-requires c κs = tt
+run-requires c κs = search needs
 
 returns : tie.Need-returns
 returns c = tt

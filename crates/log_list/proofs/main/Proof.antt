@@ -1,15 +1,11 @@
 -- Nothing is asked of the two buffers but their lengths, which are those written. Assumes nothing.
-use mathlib.Core.Path.{_≡_, sym}
-use Prim.Native.Nat.{ℕ}
-use lib.ListN.{length, replicate, length-replicate}
+use lib.ListN.{length}
 use borrow.Author.Needs.{needs}
+use Rattle.output.proofs.Zeros.{zeros}
 use Rattle.log_list.proofs.main.Statement.{statement}
 use Rattle.log_list.proofs.main.Tie as tie
 
 -- over any length, so that no list of that many zeros is written out
-zeros : (n : ℕ) → n ≡ length {A = ℕ} (replicate n 0)
-zeros n = sym (length-replicate {A = ℕ} n 0)
-
 slice-aggregate-run : tie.Need-slice-aggregate-run
 slice-aggregate-run c = zeros _
 
@@ -17,7 +13,7 @@ slice-aggregate-run-2 : tie.Need-slice-aggregate-run-2
 slice-aggregate-run-2 c = zeros _
 
 run-requires : tie.Need-run-requires
-run-requires c κs = tt
+run-requires c κs = search needs
 
 returns : tie.Need-returns
 returns c = tt

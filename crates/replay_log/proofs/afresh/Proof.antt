@@ -1,6 +1,6 @@
 -- A fresh receiver over arrays whose lengths are those written; the longest is named, since looking for it takes seconds. Assumes nothing.
 use borrow.Author.Needs.{needs}
-use Rattle.replay_log.proofs.Zeros.{zeros}
+use Rattle.output.proofs.Zeros.{zeros}
 use Rattle.replay_log.proofs.afresh.Statement.{statement}
 use Rattle.replay_log.proofs.afresh.Tie as tie
 

@@ -1,5 +1,6 @@
 -- Nothing is asked of the two buffers but their lengths, which are those written. Assumes nothing.
-use Rattle.replay_log.proofs.Zeros.{zeros}
+use borrow.Author.Needs.{needs}
+use Rattle.output.proofs.Zeros.{zeros}
 use Rattle.replay_log.proofs.main.Statement.{statement}
 use Rattle.replay_log.proofs.main.Tie as tie
 
@@ -10,7 +11,7 @@ slice-aggregate-run-2 : tie.Need-slice-aggregate-run-2
 slice-aggregate-run-2 c = zeros _
 
 run-requires : tie.Need-run-requires
-run-requires c κs = tt
+run-requires c κs = search needs
 
 returns : tie.Need-returns
 returns c = tt
