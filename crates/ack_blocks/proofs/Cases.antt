@@ -12,7 +12,7 @@ use lib.Seq.{getD-drop, getD-take}
 use borrow.Author.Tests.{eq-eqb, ne-eqb, lt-ltb, le-ltb, lt-leb, le-leb}
 use Rattle.wire.specs.Bytes.{be}
 use Rattle.wire.proofs.Choices.{pick-all}
-use Rattle.ack_blocks.specs.Limits.{largest, kindSingle, kindRun, kindMap, singleLength, runLength, mapHead, cut, unknownKind, badBits, badPadding}
+use Rattle.ack_blocks.specs.Limits.{largest, kindSingle, kindRun, kindMap, singleLength, runLength, mapHead}
 use Rattle.ack_blocks.specs.Blocks.{single, run, map, bitOf, inMap}
 use Rattle.ack_blocks.specs.Read.{kindIn, firstIn, lastIn, bitsIn, mapBytes, mapIn, sizeIn, blockIn, runFault, padding, mapFault, faultIn}
 
@@ -52,12 +52,12 @@ module _ (b : List ℕ) where
       (λ e. pick-all (λ (n : ℕ). 0 < n) (eqb (kindIn b) kindRun) (λ f. omega arith) (λ f. omega arith))
 
   -- ---- what is wrong with a bitmap
-  pub map-none : bitsIn b ≡ 0 → mapFault b ≡ badBits
+  pub map-none : bitsIn b ≡ 0 → mapFault b ≡ 73
   unfolding mapFault
   map-none h = rw (eq-eqb (bitsIn b) 0 h)
 
   module _ (some : bitsIn b ≡ 0 → ⊥) where
-    pub map-over : largest < firstIn b + bitsIn b - 1 → mapFault b ≡ badBits
+    pub map-over : largest < firstIn b + bitsIn b - 1 → mapFault b ≡ 73
     unfolding mapFault
     map-over h = rw (ne-eqb (bitsIn b) 0 some, lt-ltb largest (firstIn b + bitsIn b - 1) h)
 
@@ -66,17 +66,17 @@ module _ (b : List ℕ) where
       unfolding mapFault
       map-good h = rw (ne-eqb (bitsIn b) 0 some, le-ltb largest (firstIn b + bitsIn b - 1) fits, eq-eqb (padding b) 0 h)
 
-      pub map-padded : (padding b ≡ 0 → ⊥) → mapFault b ≡ badPadding
+      pub map-padded : (padding b ≡ 0 → ⊥) → mapFault b ≡ 74
       unfolding mapFault
       map-padded h = rw (ne-eqb (bitsIn b) 0 some, le-ltb largest (firstIn b + bitsIn b - 1) fits, ne-eqb (padding b) 0 h)
 
   -- ---- what is wrong with a block
-  pub fault-kind : kindMap < kindIn b → faultIn b ≡ unknownKind
+  pub fault-kind : kindMap < kindIn b → faultIn b ≡ 71
   unfolding faultIn
   fault-kind h = rw (lt-ltb kindMap (kindIn b) h)
 
   module _ (known : kindIn b ≤ kindMap) where
-    pub fault-cut : length b < sizeIn b → faultIn b ≡ cut
+    pub fault-cut : length b < sizeIn b → faultIn b ≡ 70
     unfolding faultIn
     fault-cut h = rw (le-ltb kindMap (kindIn b) known, lt-ltb (length b) (sizeIn b) h)
 

@@ -7,7 +7,7 @@ use native.Mathlib.Omega.{arith}
 use lib.ListN.{length, drop, length-drop, drop-of-length-le}
 use lib.Seq.{drop-drop}
 use borrow.Author.Tests.{eq-eqb, ne-eqb, lt-ltb, le-ltb}
-use Rattle.ack_blocks.specs.Limits.{maxBlocks, tooLong}
+use Rattle.ack_blocks.specs.Limits.{maxBlocks}
 use Rattle.ack_blocks.specs.Blocks.{Block, has, acknowledges}
 use Rattle.ack_blocks.specs.Read.{Given, gives, refuses, sizeIn, blockIn, faultIn, before, firstThen, blocksWithin, blocksIn, told, asked}
 use Rattle.ack_blocks.specs.Walk.{also}
@@ -86,7 +86,7 @@ walk-end s f n at h =
     ∙ ap (λ (g : Given (List Block)). also f (told n g)) blocks-end
     ∙ ap gives (or-false f)
 
-pub asked-long : (b : List ℕ) (n : ℕ) → maxBlocks < length b → asked b n ≡ refuses tooLong
+pub asked-long : (b : List ℕ) (n : ℕ) → maxBlocks < length b → asked b n ≡ refuses 77
 unfolding asked
 asked-long b n h = rw (lt-ltb maxBlocks (length b) h)
 

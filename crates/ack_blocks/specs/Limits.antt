@@ -28,35 +28,3 @@ runLength = 1 + 8 + 8
 
 abbrev pub mapHead : ℕ
 mapHead = 1 + 8 + 2
-
--- cut
-abbrev pub cut : ℕ
-cut = 70
-
--- unknown kind
-abbrev pub unknownKind : ℕ
-unknownKind = 71
-
--- last below first
-abbrev pub lastBelow : ℕ
-lastBelow = 72
-
--- no bits, or a last number above the largest
-abbrev pub badBits : ℕ
-badBits = 73
-
--- padding not zero
-abbrev pub badPadding : ℕ
-badPadding = 74
-
--- list not rising
-abbrev pub notRising : ℕ
-notRising = 75
-
--- output short
-abbrev pub outputShort : ℕ
-outputShort = 76
-
--- blocks over 65,535 bytes
-abbrev pub tooLong : ℕ
-tooLong = 77

@@ -5,9 +5,9 @@ use mathlib.Core.List.{List, [], _∷_}
 use Prim.Native.Nat.{ℕ, zero, suc, _+_, _-_, _*_, _/_, _%_, _^_}
 use lib.Dec.{eqb, ltb}
 use lib.ListN.{length, take, drop}
-use Rattle.wire.specs.Choice.{pick}
+use Rattle.wire.specs.Choice.{pick, _when_else_}
 use Rattle.wire.specs.Bytes.{be}
-use Rattle.ack_blocks.specs.Limits.{maxBlocks, largest, kindSingle, kindRun, kindMap, singleLength, runLength, mapHead, cut, unknownKind, lastBelow, badBits, badPadding, tooLong}
+use Rattle.ack_blocks.specs.Limits.{maxBlocks, largest, kindSingle, kindRun, kindMap, singleLength, runLength, mapHead}
 use Rattle.ack_blocks.specs.Blocks.{Block, single, run, map, acknowledges}
 use Rattle.ack_blocks.specs.declared.Answer.{Answer}
 use Rattle.ack_blocks.specs.declared.Answer.the-variants.{Yes, No, Refused}
@@ -44,14 +44,14 @@ sizeIn b = pick (eqb (kindIn b) kindSingle) singleLength (pick (eqb (kindIn b) k
 
 unfoldable pub blockIn : List ℕ → Block
 blockIn b =
-    pick (eqb (kindIn b) kindSingle) (single (firstIn b))
-    (pick (eqb (kindIn b) kindRun) (run (firstIn b) (lastIn b))
-    (map (firstIn b) (bitsIn b) (mapIn b)))
+    single (firstIn b) when eqb (kindIn b) kindSingle else
+    run (firstIn b) (lastIn b) when eqb (kindIn b) kindRun else
+    map (firstIn b) (bitsIn b) (mapIn b)
 
 -- ---- what is wrong with it: 0 where nothing is
 
 abbrev pub runFault : List ℕ → ℕ
-runFault b = pick (ltb (lastIn b) (firstIn b)) lastBelow 0
+runFault b = pick (ltb (lastIn b) (firstIn b)) 72 0
 
 -- the bits of the last byte of the map below its last bit
 abbrev pub padding : List ℕ → ℕ
@@ -59,15 +59,17 @@ padding b = be 1 (drop (10 + mapBytes (bitsIn b)) b) % 2 ^ (8 * mapBytes (bitsIn
 
 unfoldable pub mapFault : List ℕ → ℕ
 mapFault b =
-    pick (eqb (bitsIn b) 0 || ltb largest (firstIn b + bitsIn b - 1)) badBits
-    (pick (eqb (padding b) 0) 0 badPadding)
+    73 when eqb (bitsIn b) 0 || ltb largest (firstIn b + bitsIn b - 1) else
+    0 when eqb (padding b) 0 else
+    74
 
 unfoldable pub faultIn : List ℕ → ℕ
 faultIn b =
-    pick (ltb kindMap (kindIn b)) unknownKind
-    (pick (ltb (length b) (sizeIn b)) cut
-    (pick (eqb (kindIn b) kindRun) (runFault b)
-    (pick (eqb (kindIn b) kindMap) (mapFault b) 0)))
+    71 when ltb kindMap (kindIn b) else
+    70 when ltb (length b) (sizeIn b) else
+    runFault b when eqb (kindIn b) kindRun else
+    mapFault b when eqb (kindIn b) kindMap else
+    0
 
 -- ---- the list
 
@@ -96,7 +98,7 @@ told n (refuses number) = refuses number
 told n (gives bs) = gives (acknowledges bs n)
 
 unfoldable pub asked : List ℕ → ℕ → Given Bool
-asked b n = pick (ltb maxBlocks (length b)) (refuses tooLong) (told n (blocksIn b))
+asked b n = pick (ltb maxBlocks (length b)) (refuses 77) (told n (blocksIn b))
 
 -- the code's answer, in the paper's values
 abbrev pub answers : Answer → Given Bool

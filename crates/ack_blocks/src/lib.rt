@@ -28,24 +28,6 @@ pub const RUN_LENGTH: usize = 1 + 8 + 8;
 
 const MAP_HEAD: usize = 1 + 8 + 2;
 
-// Refusals: cut; unknown kind; last below first; no bits, or a last number above the largest; padding; list not rising; output short;
-// blocks too long.
-pub const CUT: u32 = 70;
-
-pub const UNKNOWN_KIND: u32 = 71;
-
-pub const LAST_BELOW: u32 = 72;
-
-pub const BAD_BITS: u32 = 73;
-
-pub const BAD_PADDING: u32 = 74;
-
-pub const NOT_RISING: u32 = 75;
-
-pub const OUTPUT_SHORT: u32 = 76;
-
-pub const TOO_LONG: u32 = 77;
-
 // Whether a number is acknowledged.
 pub enum Answer {
     Yes,
@@ -104,7 +86,7 @@ fn run_fault(b: &[u8], at: usize) -> u32
     ensures { λ r. ⌜ r ≡ runFault (drop at (now (b .entry))) ⌝ }
 {
     if field(b, at, 9, 8) < field(b, at, 1, 8) {
-        return LAST_BELOW;
+        return 72;
     }
     0
 }
@@ -116,10 +98,10 @@ fn map_fault(b: &[u8], at: usize) -> u32
 {
     let bits = bits_at(b, at);
     if bits == 0 {
-        return BAD_BITS;
+        return 73;
     }
     if LARGEST - field(b, at, 1, 8) < bits - 1 {
-        return BAD_BITS;
+        return 73;
     }
     let m = map_bytes(bits);
     let unused = 8 * m - bits as usize;
@@ -127,7 +109,7 @@ fn map_fault(b: &[u8], at: usize) -> u32
     if field(b, at, 10 + m, 1) % step == 0 {
         return 0;
     }
-    BAD_PADDING
+    74
 }
 
 // What is wrong with the block at a place: 0 where nothing is.
@@ -137,10 +119,10 @@ fn fault_at(b: &[u8], at: usize) -> u32
 {
     let kind = kind_at(b, at);
     if BITMAP < kind {
-        return UNKNOWN_KIND;
+        return 71;
     }
     if b.len() - at < size_at(b, at) {
-        return CUT;
+        return 70;
     }
     if kind == RUN {
         return run_fault(b, at);
@@ -229,7 +211,7 @@ pub fn ask(b: &[u8], n: u64) -> Answer
     ensures { λ r. ⌜ answers r ≡ asked (now (b .entry)) n ⌝ }
 {
     if MAX_BLOCKS < b.len() {
-        return Answer::Refused(TOO_LONG);
+        return Answer::Refused(77);
     }
     walk(b, n)
 }

@@ -5,7 +5,7 @@ use Prim.Native.Nat.{ℕ, _/_, _%_, _≤_, _<_}
 use native.Mathlib.Omega.{arith}
 use lib.ListN.{length}
 use borrow.Author.Tests.{lt-ltb, le-ltb, eq-eqb, ne-eqb}
-use Rattle.ack_blocks.specs.Limits.{maxBlocks, cut}
+use Rattle.ack_blocks.specs.Limits.{maxBlocks}
 use Rattle.ack_blocks.specs.Read.{Given, refuses}
 use Rattle.ack_writer.specs.Write.{bytesOf, writtenOf, writes, WritesBlocks}
 use Rattle.ack_writer.specs.declared.Written.{Written}
@@ -36,7 +36,7 @@ module _ (n : ℕ) (b : List ℕ) where
     unfolding line
     line-is = rw (le-ltb listLimit (length b / 8) held)
 
-    answer-cut : (length b % 8 ≡ 0 → ⊥) → recordAnswer b ≡ refuses cut
+    answer-cut : (length b % 8 ≡ 0 → ⊥) → recordAnswer b ≡ refuses 70
     unfolding recordAnswer
     answer-cut h = rw (ne-eqb (length b % 8) 0 h)
 
@@ -44,7 +44,7 @@ module _ (n : ℕ) (b : List ℕ) where
     unfolding recordAnswer
     answer-whole h = rw (eq-eqb (length b % 8) 0 h)
 
-    pub line-cut : (length b % 8 ≡ 0 → ⊥) → decimal n ++ answerText (refuses cut) (bytesOf (recordList b)) ≡ line n b
+    pub line-cut : (length b % 8 ≡ 0 → ⊥) → decimal n ++ answerText (refuses 70) (bytesOf (recordList b)) ≡ line n b
     line-cut h = sym (line-is ∙ ap (λ (g : Given ℕ). decimal n ++ answerText g (bytesOf (recordList b))) (answer-cut h))
 
     module _ (whole : length b % 8 ≡ 0) (out out′ : List ℕ) (room : length out ≡ maxBlocks) where

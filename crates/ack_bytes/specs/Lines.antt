@@ -3,9 +3,10 @@ use mathlib.Core.List.{List, [], _∷_, _++_}
 use Prim.Native.Nat.{ℕ, zero, suc, _/_, _%_}
 use lib.Dec.{eqb, ltb}
 use lib.ListN.{length, take, drop}
+use Rattle.wire.specs.Text.{ascii}
 use Rattle.wire.specs.Choice.{pick}
 use Rattle.wire.specs.Bytes.{be}
-use Rattle.ack_blocks.specs.Limits.{maxBlocks, cut}
+use Rattle.ack_blocks.specs.Limits.{maxBlocks}
 use Rattle.ack_blocks.specs.Read.{Given, gives, refuses}
 use Rattle.ack_writer.specs.Write.{bytesOf, writtenOf}
 use Rattle.ack_writer.specs.declared.Written.{Written}
@@ -26,28 +27,28 @@ recordList b = numbersOf (length b / 8) b
 
 -- where the numbers are whole, what the writer answers for an output of the longest block list
 unfoldable pub recordAnswer : List ℕ → Given ℕ
-recordAnswer b = pick (eqb (length b % 8) 0) (writtenOf (recordList b) maxBlocks) (refuses cut)
+recordAnswer b = pick (eqb (length b % 8) 0) (writtenOf (recordList b) maxBlocks) (refuses 70)
 
 -- " bytes 000000000000000001"; nothing after the word where there are no blocks
 abbrev pub bytesText : List ℕ → List ℕ
-bytesText [] = 32 ∷ 98 ∷ 121 ∷ 116 ∷ 101 ∷ 115 ∷ 10 ∷ []
-bytesText (x ∷ b) = (32 ∷ 98 ∷ 121 ∷ 116 ∷ 101 ∷ 115 ∷ 32 ∷ []) ++ hex (x ∷ b) ++ 10 ∷ []
+bytesText [] = ascii " bytes\n"
+bytesText (x ∷ b) = ascii " bytes " ++ hex (x ∷ b) ++ ascii "\n"
 
 -- the blocks, or " refused 75", and the end of the line
 abbrev pub answerText : Given ℕ → List ℕ → List ℕ
-answerText (refuses number) b = (32 ∷ 114 ∷ 101 ∷ 102 ∷ 117 ∷ 115 ∷ 101 ∷ 100 ∷ 32 ∷ []) ++ decimal number ++ 10 ∷ []
+answerText (refuses number) b = ascii " refused " ++ decimal number ++ ascii "\n"
 answerText (gives n) b = bytesText b
 
 -- the same of the code's answer and of the output that it left
 abbrev pub writtenText : List ℕ → Written → List ℕ
 writtenText blocks (Bytes k) = bytesText (take k blocks)
-writtenText blocks (Refused number) = (32 ∷ 114 ∷ 101 ∷ 102 ∷ 117 ∷ 115 ∷ 101 ∷ 100 ∷ 32 ∷ []) ++ decimal number ++ 10 ∷ []
+writtenText blocks (Refused number) = ascii " refused " ++ decimal number ++ ascii "\n"
 
 -- " longer than 65536 numbers"
 abbrev pub longerText : List ℕ
 longerText =
-    (32 ∷ 108 ∷ 111 ∷ 110 ∷ 103 ∷ 101 ∷ 114 ∷ 32 ∷ 116 ∷ 104 ∷ 97 ∷ 110 ∷ 32 ∷ []) ++ decimal listLimit
-    ++ 32 ∷ 110 ∷ 117 ∷ 109 ∷ 98 ∷ 101 ∷ 114 ∷ 115 ∷ 10 ∷ []
+    ascii " longer than " ++ decimal listLimit
+    ++ ascii " numbers\n"
 
 -- line n
 unfoldable pub line : ℕ → List ℕ → List ℕ

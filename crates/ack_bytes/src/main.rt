@@ -5,6 +5,7 @@ ghost use mathlib.Core.List.{[], _∷_, _++_};
 ghost use Prim.Native.Nat.{_/_, _≤_};
 ghost use lib.ListN.{length, take};
 ghost use lib.Seq.{sets};
+ghost use Rattle.wire.specs.Text.{ascii};
 ghost use Rattle.ack_blocks.specs.Limits.{maxBlocks};
 ghost use Rattle.text.specs.Text.{decimal};
 ghost use Rattle.output.specs.Output.{Pours, lineLimit};
@@ -47,7 +48,7 @@ fn front(list: &[u64], n: usize) -> &[u64]
 }
 
 fn pour_refused(out: &mut [u8], at: usize, number: u32) -> usize
-    ensures { λ r. ⌜ Pours (now (out .entry)) at ((32 ∷ 114 ∷ 101 ∷ 102 ∷ 117 ∷ 115 ∷ 101 ∷ 100 ∷ 32 ∷ []) ++ decimal number ++ 10 ∷ []) (now (out .exit)) r ⌝ }
+    ensures { λ r. ⌜ Pours (now (out .entry)) at (ascii " refused " ++ decimal number ++ ascii "\n") (now (out .exit)) r ⌝ }
 {
     output::pour_counted_line(out, at, b" refused ", number as u64)
 }
@@ -98,7 +99,7 @@ fn one_more(
         return pour_longer(out, next);
     }
     if body.len() % WIDTH != 0 {
-        return pour_refused(out, next, ack_blocks::CUT);
+        return pour_refused(out, next, 70);
     }
     let count = take_list(body, list);
     let w = ack_writer::write_blocks(front(list, count), blocks);

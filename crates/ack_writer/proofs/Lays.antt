@@ -8,7 +8,7 @@ use native.Mathlib.Decide.{decLe}
 use lib.ListN.{length, getD, take, drop, length-take, drop-of-length-le}
 use Rattle.wire.specs.Overlay.{overlay}
 use Rattle.wire.proofs.Overlays.{overlay-nil, overlay-at, length-overlay}
-use Rattle.ack_blocks.specs.Limits.{maxBlocks, notRising}
+use Rattle.ack_blocks.specs.Limits.{maxBlocks}
 use Rattle.ack_blocks.specs.Blocks.{blockBytes}
 use Rattle.ack_blocks.specs.Read.{Given, gives, refuses}
 use Rattle.ack_writer.specs.Write.{rising, oneBlock, bytesOf, roomFor, writtenOf, writes, outputOf, WritesBlocks}
@@ -59,7 +59,7 @@ module _ (l d₀ d d′ : List ℕ) (at i last next r : ℕ) where
 
 -- a list that does not go on rising
 pub sofar-falls : (l d₀ d : List ℕ) (at i last next room : ℕ) {rises : Bool} → Sofar l d₀ d at i → RunFrom l i last next rises → rises ≡ false
-    → writtenOf l room ≡ refuses notRising
+    → writtenOf l room ≡ refuses 75
 sofar-falls l d₀ d at i last next room f g u =
     written-not l room (sym (f .rise) ∙ g .rise ∙ ap (λ (t : Bool). t && rising (drop next l)) u)
 

@@ -12,7 +12,7 @@ use borrow.Author.Tests.{lt-ltb, le-ltb, ltb-false, eqb-true}
 use Rattle.wire.specs.Choice.{pick}
 use Rattle.wire.specs.Overlay.{overlay}
 use Rattle.wire.proofs.Overlays.{overlay-append}
-use Rattle.ack_blocks.specs.Limits.{maxBlocks, notRising, outputShort, tooLong}
+use Rattle.ack_blocks.specs.Limits.{maxBlocks}
 use Rattle.ack_blocks.specs.Blocks.{Block, blockBytes, laid}
 use Rattle.ack_blocks.specs.Read.{gives, refuses}
 use Rattle.ack_writer.specs.Write.{rising, risingFrom, oneBlock, blocksFrom, blocksOf, bytesOf, roomFor, writtenOf}
@@ -91,17 +91,17 @@ put-next d s t x y at k e f g = g ∙ rw (e, f) (sym (overlay-append d at s t))
 -- ---- what the writer answers
 
 module _ (n room : ℕ) where
-  pub room-long : maxBlocks < n → roomFor n room ≡ refuses tooLong
+  pub room-long : maxBlocks < n → roomFor n room ≡ refuses 77
   room-long h = rw (lt-ltb maxBlocks n h)
 
   module _ (fits : n ≤ maxBlocks) where
-    pub room-short : room < n → roomFor n room ≡ refuses outputShort
+    pub room-short : room < n → roomFor n room ≡ refuses 76
     room-short h = rw (le-ltb maxBlocks n fits, lt-ltb room n h)
 
     pub room-enough : n ≤ room → roomFor n room ≡ gives n
     room-enough h = rw (le-ltb maxBlocks n fits, le-ltb room n h)
 
-pub written-not : (l : List ℕ) (room : ℕ) → rising l ≡ false → writtenOf l room ≡ refuses notRising
+pub written-not : (l : List ℕ) (room : ℕ) → rising l ≡ false → writtenOf l room ≡ refuses 75
 unfolding writtenOf
 written-not l room h = rw h
 
@@ -116,18 +116,18 @@ pub record Makes (n room k : ℕ) : Type 0 where
   pub enough : n ≤ room
   pub is : k ≡ n
 
-makes-room : (n room k : ℕ) (u : Bool) → n ≤ maxBlocks → ltb room n ≡ u → pick u (refuses outputShort) (gives n) ≡ gives k → Makes n room k
+makes-room : (n room k : ℕ) (u : Bool) → n ≤ maxBlocks → ltb room n ≡ u → pick u (refuses 76) (gives n) ≡ gives k → Makes n room k
 makes-room n room k true f h e = absurd (let z : _≡_ {A = ℕ} 0 1 = cc in omega arith)
 makes-room n room k false f h e = record { fits = f; enough = ltb-false room n h; is = cc }
 
-makes-long : (n room k : ℕ) (t : Bool) → ltb maxBlocks n ≡ t → pick t (refuses tooLong) (pick (ltb room n) (refuses outputShort) (gives n)) ≡ gives k → Makes n room k
+makes-long : (n room k : ℕ) (t : Bool) → ltb maxBlocks n ≡ t → pick t (refuses 77) (pick (ltb room n) (refuses 76) (gives n)) ≡ gives k → Makes n room k
 makes-long n room k true h e = absurd (let z : _≡_ {A = ℕ} 0 1 = cc in omega arith)
 makes-long n room k false h e = makes-room n room k (ltb room n) (ltb-false maxBlocks n h) refl e
 
 pub room-makes : (n room k : ℕ) → roomFor n room ≡ gives k → Makes n room k
 room-makes n room k e = makes-long n room k (ltb maxBlocks n) refl e
 
-makes-rising : (l : List ℕ) (room k : ℕ) (t : Bool) → pick t (roomFor (length (bytesOf l)) room) (refuses notRising) ≡ gives k → Makes (length (bytesOf l)) room k
+makes-rising : (l : List ℕ) (room k : ℕ) (t : Bool) → pick t (roomFor (length (bytesOf l)) room) (refuses 75) ≡ gives k → Makes (length (bytesOf l)) room k
 makes-rising l room k true e = room-makes (length (bytesOf l)) room k e
 makes-rising l room k false e = absurd (let z : _≡_ {A = ℕ} 0 1 = cc in omega arith)
 

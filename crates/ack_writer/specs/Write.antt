@@ -7,7 +7,7 @@ use lib.Dec.{eqb, ltb}
 use lib.ListN.{length}
 use Rattle.wire.specs.Choice.{pick}
 use Rattle.wire.specs.Overlay.{overlay}
-use Rattle.ack_blocks.specs.Limits.{maxBlocks, notRising, outputShort, tooLong}
+use Rattle.ack_blocks.specs.Limits.{maxBlocks}
 use Rattle.ack_blocks.specs.Blocks.{Block, single, run, laid}
 use Rattle.ack_blocks.specs.Read.{Given, gives, refuses}
 use Rattle.ack_writer.specs.declared.Written.{Written}
@@ -45,10 +45,10 @@ bytesOf l = laid (blocksOf l)
 
 -- so many bytes, where they are not too many and the output has room
 abbrev pub roomFor : ℕ → ℕ → Given ℕ
-roomFor n room = pick (ltb maxBlocks n) (refuses tooLong) (pick (ltb room n) (refuses outputShort) (gives n))
+roomFor n room = pick (ltb maxBlocks n) (refuses 77) (pick (ltb room n) (refuses 76) (gives n))
 
 unfoldable pub writtenOf : List ℕ → ℕ → Given ℕ
-writtenOf l room = pick (rising l) (roomFor (length (bytesOf l)) room) (refuses notRising)
+writtenOf l room = pick (rising l) (roomFor (length (bytesOf l)) room) (refuses 75)
 
 -- the code's answer, in the paper's values
 abbrev pub writes : Written → Given ℕ

@@ -99,10 +99,10 @@ fn room_for(n: usize, room: usize) -> Written
     ensures { λ r. ⌜ writes r ≡ roomFor n room ⌝ }
 {
     if ack_blocks::MAX_BLOCKS < n {
-        return Written::Refused(ack_blocks::TOO_LONG);
+        return Written::Refused(77);
     }
     if room < n {
-        return Written::Refused(ack_blocks::OUTPUT_SHORT);
+        return Written::Refused(76);
     }
     Written::Bytes(n)
 }
@@ -117,7 +117,7 @@ fn lay(list: &[u64], room: usize, blocks: &mut [u8]) -> Written
     while i < list.len() {
         let run = run_from(list, i);
         if !run.rises {
-            return Written::Refused(ack_blocks::NOT_RISING);
+            return Written::Refused(75);
         }
         at = put_next(&mut *blocks, at, list[i], run.last);
         i = run.next;

@@ -5,11 +5,10 @@ use Prim.Native.Nat.{ℕ, _≤_, _<_}
 use lib.ListN.{length, drop}
 use borrow.Author.Tests.{lt-ltb, le-ltb}
 use Rattle.wire.specs.Bytes.{be}
-use Rattle.ack_blocks.specs.Limits.{cut}
 use Rattle.ack_blocks.specs.Read.{refuses, asked}
 use Rattle.acks.specs.Lines.{numberLength, recordAnswer}
 
-pub answer-short : (b : List ℕ) → length b < numberLength → recordAnswer b ≡ refuses cut
+pub answer-short : (b : List ℕ) → length b < numberLength → recordAnswer b ≡ refuses 70
 unfolding recordAnswer
 answer-short b h = rw (lt-ltb (length b) numberLength h)
 

@@ -4,9 +4,9 @@ use mathlib.Core.List.{List, [], _∷_, _++_}
 use Prim.Native.Nat.{ℕ}
 use lib.Dec.{ltb}
 use lib.ListN.{length, drop}
+use Rattle.wire.specs.Text.{ascii}
 use Rattle.wire.specs.Choice.{pick}
 use Rattle.wire.specs.Bytes.{be}
-use Rattle.ack_blocks.specs.Limits.{cut}
 use Rattle.ack_blocks.specs.Read.{Given, gives, refuses, asked}
 use Rattle.text.specs.Text.{decimal}
 
@@ -15,13 +15,13 @@ abbrev pub numberLength : ℕ
 numberLength = 8
 
 unfoldable pub recordAnswer : List ℕ → Given Bool
-recordAnswer b = pick (ltb (length b) numberLength) (refuses cut) (asked (drop numberLength b) (be numberLength b))
+recordAnswer b = pick (ltb (length b) numberLength) (refuses 70) (asked (drop numberLength b) (be numberLength b))
 
 -- " yes", " no" or " refused 71", and the end of the line
 abbrev pub answerText : Given Bool → List ℕ
-answerText (gives true) = 32 ∷ 121 ∷ 101 ∷ 115 ∷ 10 ∷ []
-answerText (gives false) = 32 ∷ 110 ∷ 111 ∷ 10 ∷ []
-answerText (refuses number) = (32 ∷ 114 ∷ 101 ∷ 102 ∷ 117 ∷ 115 ∷ 101 ∷ 100 ∷ 32 ∷ []) ++ decimal number ++ 10 ∷ []
+answerText (gives true) = ascii " yes\n"
+answerText (gives false) = ascii " no\n"
+answerText (refuses number) = ascii " refused " ++ decimal number ++ ascii "\n"
 
 -- line n
 abbrev pub line : ℕ → List ℕ → List ℕ

@@ -3,6 +3,7 @@
 ghost use Prim.Native.Nat.{_≤_};
 ghost use lib.ListN.{length};
 ghost use mathlib.Core.List.{[], _∷_, _++_};
+ghost use Rattle.wire.specs.Text.{ascii};
 ghost use Rattle.ack_blocks.specs.Read.{answers};
 ghost use Rattle.output.specs.Output.{Pours, lineLimit};
 ghost use Rattle.text.specs.Text.{decimal};
@@ -16,7 +17,7 @@ use stream::Next;
 const NUMBER: usize = 8;
 
 fn pour_refused(out: &mut [u8], at: usize, number: u32) -> usize
-    ensures { λ r. ⌜ Pours (now (out .entry)) at ((32 ∷ 114 ∷ 101 ∷ 102 ∷ 117 ∷ 115 ∷ 101 ∷ 100 ∷ 32 ∷ []) ++ decimal number ++ 10 ∷ []) (now (out .exit)) r ⌝ }
+    ensures { λ r. ⌜ Pours (now (out .entry)) at (ascii " refused " ++ decimal number ++ ascii "\n") (now (out .exit)) r ⌝ }
 {
     output::pour_counted_line(out, at, b" refused ", number as u64)
 }
@@ -37,7 +38,7 @@ fn one_more(out: &mut [u8], at: usize, n: u64, b: &[u8]) -> usize
 {
     let next = output::pour_decimal(out, at, n);
     if b.len() < NUMBER {
-        return pour_refused(out, next, ack_blocks::CUT);
+        return pour_refused(out, next, 70);
     }
     let number = wire::number(b, 0, NUMBER);
     let a = ack_blocks::ask(wire::part(b, NUMBER, b.len()), number);

@@ -13,10 +13,11 @@ use Rattle.steps.specs.Runs.{World, keyIn, run}
 use Rattle.receiver.specs.declared.Outcome.{Outcome}
 use Rattle.receiver.specs.declared.Call.{Call}
 use Rattle.receiver_state.specs.View.{view, shaped}
+use Rattle.receiver.specs.Lent.{Lent, lent}
 use Rattle.receiver.specs.Calls.{refusalOf, Receives, received}
-use Rattle.receiver_ends.specs.Ends.{Opens}
+use Rattle.open_and_payload.specs.Ends.{Opens}
 use Rattle.arrival.specs.Demand.{Scene, slotBytes, Event, Feed, start, _▹_, senderOf, bytesOf, arrival, Delivery, nameIn, handedBy, handed, push, call, after, own, completed, delivery, deliveries, NoneEmptied, Supposed, Promised}
-use Rattle.arrival.specs.Runs.{Lent, Calls, opens, calls, handsOver, handedOver, EachCall, CodePromised}
+use Rattle.arrival.specs.Runs.{Calls, opens, calls, handsOver, handedOver, EachCall, CodePromised}
 use Rattle.arrival.proofs.Track.{Lawful, fair-of}
 use Rattle.arrival.proofs.Order.{after-more}
 use Rattle.arrival.proofs.Demand3.{delivered-own, demand3}
@@ -38,7 +39,7 @@ was-shaped false e = absurd (Option·some-ne-none 9 e)
 
 module _ (σ : Scene) where
   opening-shows : (w n : List ℕ) (r : Call) (w′ n′ : List ℕ) → Opens w n (length (σ .store)) r w′ n′ → refusalOf r ≡ none
-      → Shows σ start (record { state = w′; names = n′; store = σ .store; ledger = σ .ledger })
+      → Shows σ start (lent w′ n′ (σ .store) (σ .ledger))
   unfolding after run
   opening-shows w n r w′ n′ o q =
       let s : shaped w n ≡ true = was-shaped (shaped w n) (sym (o .gave) ∙ q) in
@@ -51,12 +52,12 @@ module _ (σ : Scene) where
 
   module _ (f : Feed) (l : Lent) (h : Shows σ f l) (e : Event) where
     -- the call is the step list's
-    received-is : received (l .state) (l .names) (l .store) (l .ledger) (senderOf σ e) (bytesOf σ e) ≡ call σ (after σ f) e
+    received-is : received l (senderOf σ e) (bytesOf σ e) ≡ call σ (after σ f) e
     unfolding received
     received-is = rw (h .shape) (λ i. step (h .machine i) (h .store i) (h .ledger i) (senderOf σ e) (bytesOf σ e))
 
     module _ (r : Outcome) (l′ : Lent)
-        (k : Receives (l .state) (l .names) (l .store) (l .ledger) (senderOf σ e) (bytesOf σ e) r (l′ .state) (l′ .names) (l′ .store) (l′ .ledger)) where
+        (k : Receives l (senderOf σ e) (bytesOf σ e) r l′) where
       call-shows : Shows σ (f ▹ e) l′
       call-shows = record {
         shape = shaped-on (l .state) (l .names) (l′ .state) (l′ .names) (k .words) (k .bytes) (h .shape);

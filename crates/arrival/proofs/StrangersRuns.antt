@@ -12,9 +12,10 @@ use Rattle.steps.specs.Reach.{Reached, opens, receives, forgets}
 use Rattle.receiver.specs.declared.Outcome.{Outcome}
 use Rattle.receiver.specs.declared.Call.{Call}
 use Rattle.receiver_state.specs.View.{view, shaped}
+use Rattle.receiver.specs.Lent.{Lent, lent}
 use Rattle.receiver.specs.Calls.{refusalOf, Receives, received, Forgets, forgotten}
 use Rattle.arrival.specs.Demand.{Message, handedBy, nameIn}
-use Rattle.arrival.specs.Runs.{Lent, handsOver}
+use Rattle.arrival.specs.Runs.{handsOver}
 use Rattle.arrival.specs.Strangers.{Start, part, isAccepted, Begins, Feed, begun, _▹_, comes, after, its}
 use Rattle.arrival.specs.Strangers as strange
 use Rattle.arrival.specs.StrangersRuns.{Led, by-open, by-receive, by-forget, Takes, shown, startOf, Calls, begins, takes, drops, hands, CodeBegins, CodePromised, CodeStrangers}
@@ -35,11 +36,11 @@ led-to {n} (by-open w nm r w′ nm′ o q) =
       shape = shaped-on w nm w′ nm′ (o .words) (o .bytes) s;
       reached = subst (Reached n) (sym (o .machine ∙ ap (λ (b : Bool). pick b (opened n) (view w nm)) s)) opens;
     }
-led-to {n} (by-receive {w = w} {nm = nm} l store ledger sender d r w′ nm′ store′ ledger′ k) =
+led-to {n} (by-receive {w = w} {nm = nm} l store ledger sender d r l′ k) =
     let t : LedTo n w nm = led-to l in
-    let e : received w nm store ledger sender d .machine ≡ step (view w nm) store ledger sender d .machine = rw (t .shape) in
+    let e : received (lent w nm store ledger) sender d .machine ≡ step (view w nm) store ledger sender d .machine = rw (t .shape) in
     record {
-      shape = shaped-on w nm w′ nm′ (k .words) (k .bytes) (t .shape);
+      shape = shaped-on w nm (l′ .state) (l′ .names) (k .words) (k .bytes) (t .shape);
       reached = subst (Reached n) (sym (k .leaves .machine ∙ e)) (receives (t .reached) store ledger sender d);
     }
 led-to {n} (by-forget {w = w} {nm = nm} l sender r w′ nm′ k) =
@@ -57,7 +58,7 @@ record Shows (w : World) (l : Lent) : Type 0 where
   world : shown l ≡ w
 
 module _ (w : World) (l : Lent) (h : Shows w l) (x : Arrival) (r : Outcome) (l′ : Lent) (k : Takes l x r l′) where
-  received-is : received (l .state) (l .names) (l .store) (l .ledger) (x .sender) (x .datagram) ≡ call w x
+  received-is : received l (x .sender) (x .datagram) ≡ call w x
   unfolding received
   received-is = rw (h .shape) (ap (λ (v : World). call v x) (h .world))
 
@@ -83,7 +84,7 @@ module _ (w : World) (l : Lent) (h : Shows w l) (x : Arrival) (r : Outcome) (l�
       (reply (x .datagram) ((k .leaves .store ∙ ap (λ (a : After). a .store) received-is) i) (takes-answers i))
 
 drops-shows : (w : World) (l : Lent) → Shows w l → (sender : ℕ) (r : Call) (v nm : List ℕ) → Forgets (l .state) (l .names) sender r v nm
-    → Shows (lending (forget (w .machine) sender .machine) (w .store) (w .ledger)) (record { state = v; names = nm; store = l .store; ledger = l .ledger })
+    → Shows (lending (forget (w .machine) sender .machine) (w .store) (w .ledger)) (lent v nm (l .store) (l .ledger))
 unfolding forgotten
 drops-shows w l h sender r v nm k =
     let e : forgotten (l .state) (l .names) sender .machine ≡ forget (view (l .state) (l .names)) sender .machine = rw (h .shape) in

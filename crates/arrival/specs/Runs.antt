@@ -9,24 +9,18 @@ use Rattle.steps.specs.Runs.{Arrival, keyIn}
 use Rattle.receiver.specs.declared.Outcome.{Outcome}
 use Rattle.receiver.specs.declared.Call.{Call}
 use Rattle.receiver_state.specs.View.{view}
+use Rattle.receiver.specs.Lent.{Lent, lent}
 use Rattle.receiver.specs.Calls.{refusalOf, Receives}
-use Rattle.receiver_ends.specs.Ends.{Opens}
+use Rattle.open_and_payload.specs.Ends.{Opens}
 use Rattle.arrival.specs.Demand.{Scene, slotBytes, Event, Feed, start, _▹_, senderOf, bytesOf, arrival, Delivery, nameIn, handedBy, push, after, own, completed, delivery, deliveries, Promised}
-
--- what is lent
-pub record Lent : Type 0 where
-  pub state : List ℕ
-  pub names : List ℕ
-  pub store : List ℕ
-  pub ledger : List ℕ
 
 -- `open` was not refused, and since then each arrival of the feed was a call of `receive`, with what the call before left: this is lent now.
 -- Of each call only its contract is known.
 pub data Calls (σ : Scene) : Feed → Lent → Type 0 where
   opens : (w n : List ℕ) (r : Call) (w′ n′ : List ℕ) → Opens w n (length (σ .store)) r w′ n′ → refusalOf r ≡ none
-      → Calls σ start (record { state = w′; names = n′; store = σ .store; ledger = σ .ledger })
+      → Calls σ start (lent w′ n′ (σ .store) (σ .ledger))
   calls : {f : Feed} {l : Lent} → Calls σ f l → (e : Event) (r : Outcome) (l′ : Lent)
-      → Receives (l .state) (l .names) (l .store) (l .ledger) (senderOf σ e) (bytesOf σ e) r (l′ .state) (l′ .names) (l′ .store) (l′ .ledger)
+      → Receives l (senderOf σ e) (bytesOf σ e) r l′
       → Calls σ (f ▹ e) l′
 
 -- what a call handed over to that arrival, with slots of C bytes, by its outcome and the store that it left

@@ -9,22 +9,23 @@ use Rattle.steps.specs.Reach.{isOpen}
 use Rattle.receiver.specs.declared.Outcome.{Outcome}
 use Rattle.receiver.specs.declared.Call.{Call}
 use Rattle.receiver_state.specs.View.{view}
+use Rattle.receiver.specs.Lent.{Lent, lent}
 use Rattle.receiver.specs.Calls.{refusalOf, Receives, Forgets}
-use Rattle.receiver_ends.specs.Ends.{Opens}
+use Rattle.open_and_payload.specs.Ends.{Opens}
 use Rattle.arrival.specs.Demand.{Message, InFragments, key, parts, Delivery}
-use Rattle.arrival.specs.Runs.{Lent, handsOver}
+use Rattle.arrival.specs.Runs.{handsOver}
 use Rattle.arrival.specs.Strangers.{Start, part, isAccepted, Feed, begun, _▹_, comes, forgets, complete, Supposed, its}
 
 -- the state and the names that calls lead to, with whatever store and ledger is lent to each: `open` was not refused, then any calls of `receive` and `forget`
 pub data Led (n : ℕ) : List ℕ → List ℕ → Type 0 where
   by-open : (w nm : List ℕ) (r : Call) (w′ nm′ : List ℕ) → Opens w nm n r w′ nm′ → refusalOf r ≡ none → Led n w′ nm′
-  by-receive : {w nm : List ℕ} → Led n w nm → (store ledger : List ℕ) (sender : ℕ) (d : List ℕ) (r : Outcome) (w′ nm′ store′ ledger′ : List ℕ)
-      → Receives w nm store ledger sender d r w′ nm′ store′ ledger′ → Led n w′ nm′
+  by-receive : {w nm : List ℕ} → Led n w nm → (store ledger : List ℕ) (sender : ℕ) (d : List ℕ) (r : Outcome) (l′ : Lent)
+      → Receives (lent w nm store ledger) sender d r l′ → Led n (l′ .state) (l′ .names)
   by-forget : {w nm : List ℕ} → Led n w nm → (sender : ℕ) (r : Call) (w′ nm′ : List ℕ) → Forgets w nm sender r w′ nm′ → Led n w′ nm′
 
 -- a call of `receive` with what is lent, to that arrival
 abbrev pub Takes : Lent → Arrival → Outcome → Lent → Type 0
-Takes l x r l′ = Receives (l .state) (l .names) (l .store) (l .ledger) (x .sender) (x .datagram) r (l′ .state) (l′ .names) (l′ .store) (l′ .ledger)
+Takes l x r l′ = Receives l (x .sender) (x .datagram) r l′
 
 -- what is lent shows this world
 abbrev pub shown : Lent → World
@@ -39,7 +40,7 @@ pub data Calls (l₁ : Lent) : Feed → Lent → Type 0 where
   begins : Calls l₁ begun l₁
   takes : {f : Feed} {l : Lent} → Calls l₁ f l → (x : Arrival) (r : Outcome) (l′ : Lent) → Takes l x r l′ → Calls l₁ (f ▹ comes x) l′
   drops : {f : Feed} {l : Lent} → Calls l₁ f l → (sender : ℕ) (r : Call) (w nm : List ℕ) → Forgets (l .state) (l .names) sender r w nm
-      → Calls l₁ (f ▹ forgets sender) (record { state = w; names = nm; store = l .store; ledger = l .ledger })
+      → Calls l₁ (f ▹ forgets sender) (lent w nm (l .store) (l .ledger))
 
 -- what the call handed over, by its outcome and the store that it left
 abbrev pub hands : Lent → Arrival → Outcome → Lent → Option Delivery

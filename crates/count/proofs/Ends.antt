@@ -14,36 +14,36 @@ use Rattle.wire.specs.Choice.{pick}
 use Rattle.steps.specs.Answers.{Reply}
 use Rattle.receiver_state.specs.View.{stateWords, nameBytes, view, shaped}
 use Rattle.receiver_state.specs.Inside.{Shaped}
+use Rattle.receiver.specs.Lent.{lent}
 use Rattle.receiver.specs.declared.Call.{Call}
-use Rattle.receiver_ends.specs.Ends.{Opens}
+use Rattle.open_and_payload.specs.Ends.{Opens}
 use Rattle.log.specs.declared.reader.Limits.{Limits}
 use Rattle.log.specs.Editions.{limitsIn}
 use Rattle.log.specs.Entries.{Entry}
 use Rattle.log.specs.Listed.{Listed, whole, broken, entriesIn}
-use Rattle.counting.specs.Marks.{PitList}
-use Rattle.counting.specs.Report.{Line, report}
-use Rattle.counting.specs.Run.{payloads, listsRead}
-use Rattle.counting.specs.Count.{maxEntries, maxTiles, maxPits, firstFault, reportOf, Outcome, reported, noReport, answersTo, unless, countEntries, countListed, countLog}
-use Rattle.counting.specs.Count as counting
-use Rattle.counting.specs.Walk.{Held, seenAfter, atFirst, walkEntries, leftAfter, heldBy, CountsTo}
-use Rattle.counting.proofs.Seen.{seen-report, seen-long}
-use Rattle.counting.proofs.Walks.{walk-agrees}
-use Rattle.pit_marks.specs.Sets.{Has}
+use Rattle.count_rules.specs.Marks.{PitList}
+use Rattle.count_rules.specs.Report.{Line, report}
+use Rattle.count_rules.specs.Run.{payloads, listsRead}
+use Rattle.count_rules.specs.Count.{maxEntries, maxTiles, maxPits, firstFault, reportOf, Outcome, reported, noReport, answersTo, unless, countEntries, countListed, countLog}
+use Rattle.count_rules.specs.Count as counting
+use Rattle.count_rules.specs.Walk.{Held, seenAfter, atFirst, walkEntries, leftAfter, heldBy, CountsTo}
+use Rattle.count_rules.proofs.Seen.{seen-report, seen-long}
+use Rattle.count_rules.proofs.Walks.{walk-agrees}
 use Rattle.pit_marks.proofs.Told.{has-none}
 use Rattle.count.specs.declared.Counted.{Counted}
 use Rattle.count.specs.declared.Surveyed.{Surveyed}
 use Rattle.count.specs.declared.Surveyed.the-variants as surveyed
 use Rattle.count.specs.declared.Totals.{Totals}
 use Rattle.count.specs.declared.Ran.{Ran}
-use Rattle.count.specs.Counts.{counted, Counts}
-use Rattle.count.specs.Inside.{many, surveyOf, totalsOf, At, Whole, Begins, Walks, reportWith}
+use Rattle.count.specs.Counts.{counted, loan, Counts}
+use Rattle.count.specs.Inside.{many, surveyOf, totalsOf, book, Holds, Desk, desk, At, Whole, Begins, Walks, reportWith}
 
 -- ---- by what the survey found
 
 module _ (log store ledger : List ℕ) (list : List ℤ) where
   -- the count of a log that is listed so
   by-listed : (X : Listed) → entriesIn log ≡ X → (n : ℕ) → countListed (limitsIn log) (length list) store ledger X ≡ noReport n → leftAfter (limitsIn log) store ledger list X ≡ atFirst store ledger list
-      → (c : Counted) → c ≡ counted (noReport n) → Counts log store ledger list c store ledger list
+      → (c : Counted) → c ≡ counted (noReport n) → Counts log (loan store ledger list) c (loan store ledger list)
   unfolding countLog heldBy
   by-listed X e n q h c g =
       let k : heldBy store ledger list log ≡ atFirst store ledger list = ap (leftAfter (limitsIn log) store ledger list) e ∙ h in
@@ -59,18 +59,18 @@ module _ (log store ledger : List ℕ) (list : List ℤ) where
       }
 
   -- refused before any call
-  pub refused-first : (s : Surveyed) → s ≡ surveyOf (entriesIn log) → (n : ℕ) → s ≡ surveyed.Refused n → (c : Counted) → c ≡ counted (noReport n) → Counts log store ledger list c store ledger list
+  pub refused-first : (s : Surveyed) → s ≡ surveyOf (entriesIn log) → (n : ℕ) → s ≡ surveyed.Refused n → (c : Counted) → c ≡ counted (noReport n) → Counts log (loan store ledger list) c (loan store ledger list)
   unfolding countEntries
   refused-first s e n q c g = by (entriesIn log) refl (sym e ∙ q)
     where
       too-many : (es : List Entry) → entriesIn log ≡ whole es → (b : Bool) → ltb maxEntries (length es) ≡ b → pick b (surveyed.Refused 62) (surveyed.Entries (length es)) ≡ surveyed.Refused n
-          → Counts log store ledger list c store ledger list
+          → Counts log (loan store ledger list) c (loan store ledger list)
       too-many es i true o u =
           let z : n ≡ 62 = cc in
           by-listed (whole es) i n (rw o (ap noReport (sym z))) (rw o) c g
       too-many es i false o u = absurd (let z : _≡_ {A = ℕ} 0 1 = cc in let y : ⊥ = omega arith in y)
 
-      by : (X : Listed) → entriesIn log ≡ X → surveyOf X ≡ surveyed.Refused n → Counts log store ledger list c store ledger list
+      by : (X : Listed) → entriesIn log ≡ X → surveyOf X ≡ surveyed.Refused n → Counts log (loan store ledger list) c (loan store ledger list)
       by (whole es) i u = too-many es i (ltb maxEntries (length es)) refl u
       by (broken es k) i u = let z : k ≡ n = cc in by-listed (broken es k) i n (ap noReport z) refl c g
 
@@ -92,7 +92,7 @@ is-whole log s e n q = by (entriesIn log) refl (sym e ∙ q)
 
 pub begins : (log store ledger : List ℕ) (list : List ℤ) (n : ℕ) → Whole log n → (w names : List ℕ) (call : Call) (w′ names′ : List ℕ) → Opens w names (length store) call w′ names′
     → length w ≡ stateWords → length names ≡ nameBytes → (t p s : List ℕ) → length t ≡ maxTiles → length p ≡ maxPits → length s ≡ maxPits
-    → Begins log w′ names′ store ledger list t p s
+    → Begins log (desk (lent w′ names′ store ledger) (book list t p s))
 begins log store ledger list n W w names call w′ names′ O lw ln t p s lt lp ls =
     let sh : shaped w names ≡ true = rw (eq-eqb _ _ lw, eq-eqb _ _ ln) in
     record {
@@ -111,16 +111,28 @@ begins log store ledger list n W w names call w′ names′ O lw ln t p s lt lp 
 
 -- ---- after the walk
 
-module _ (log store ledger : List ℕ) (list : List ℤ) (n : ℕ) (W : Whole log n) (l : Limits) (own : l ≡ limitsIn log) (r : Ran) (store′ ledger′ : List ℕ) (list′ : List ℤ) (t p s : List ℕ)
-    (w : (es : List Entry) → entriesIn log ≡ whole es → Walks l store ledger list es r store′ ledger′ list′ t p s) where
+module _ (log : List ℕ) (D : Desk) (n : ℕ) (W : Whole log n) (l : Limits) (own : l ≡ limitsIn log) (r : Ran) (D′ : Desk)
+    (w : (es : List Entry) → entriesIn log ≡ whole es → Walks l D es r D′) where
+  abbrev store : List ℕ
+  store = D .lent .store
+
+  abbrev ledger : List ℕ
+  ledger = D .lent .ledger
+
+  abbrev list : List ℤ
+  list = D .book .list
+
+  abbrev Counted-so : Counted → Type 0
+  Counted-so c = Counts log (loan store ledger list) c (loan (D′ .lent .store) (D′ .lent .ledger) (D′ .book .list))
+
   abbrev es : List Entry
   es = W .entries
 
   abbrev rs : List Reply
   rs = answersTo (limitsIn log) store ledger es
 
-  walks : Walks (limitsIn log) store ledger list es r store′ ledger′ list′ t p s
-  walks = subst (λ (x : Limits). Walks x store ledger list es r store′ ledger′ list′ t p s) own (w es (W .is))
+  walks : Walks (limitsIn log) D es r D′
+  walks = subst (λ (x : Limits). Walks x D es r D′) own (w es (W .is))
 
   within : ltb maxEntries (length es) ≡ false
   within = le-ltb maxEntries (length es) (let a = W .few in omega (arith, W .size))
@@ -136,7 +148,7 @@ module _ (log store ledger : List ℕ) (list : List ℤ) (n : ℕ) (W : Whole lo
   unfolding heldBy
   held-is = ap (leftAfter (limitsIn log) store ledger list) (W .is) ∙ rw within
 
-  counts : (o : Outcome) → o ≡ unless (r .fault) (reportOf es rs) → (c : Counted) → c ≡ counted o → Counts log store ledger list c store′ ledger′ list′
+  counts : (o : Outcome) → o ≡ unless (r .fault) (reportOf es rs) → (c : Counted) → c ≡ counted o → Counted-so c
   counts o e c g = record {
     outcome = o;
     says = record {
@@ -148,7 +160,7 @@ module _ (log store ledger : List ℕ) (list : List ℤ) (n : ℕ) (W : Whole lo
     gave = g;
   }
 
-  pub refused-then : (r .fault ≡ 0 → ⊥) → (c : Counted) → c ≡ counted (noReport (r .fault)) → Counts log store ledger list c store′ ledger′ list′
+  pub refused-then : (r .fault ≡ 0 → ⊥) → (c : Counted) → c ≡ counted (noReport (r .fault)) → Counted-so c
   refused-then z c g = counts (noReport (r .fault)) (rw (ne-eqb _ _ z)) c g
 
   abbrev seen : List PitList
@@ -161,7 +173,7 @@ module _ (log store ledger : List ℕ) (list : List ℤ) (n : ℕ) (W : Whole lo
       ap (λ (x : Totals). reportWith n x (report seen)) e
       ∙ (λ i. reportWith (W .size i) (totalsOf rs (a i)) (seen-report (payloads rs) i))
 
-  pub given-then : r .fault ≡ 0 → (c : Counted) → ((ls : List PitList) → Has t p s (r .sizes) ls → c ≡ counted (reported (reportWith n (r .totals) (report ls)))) → Counts log store ledger list c store′ ledger′ list′
+  pub given-then : r .fault ≡ 0 → (c : Counted) → ((ls : List PitList) → Holds (D′ .book) (r .sizes) ls → c ≡ counted (reported (reportWith n (r .totals) (report ls)))) → Counted-so c
   given-then z c g =
       let o = walks .on z in
       counts (reported (reportOf es rs)) (rw (eq-eqb _ _ z)) c (g seen (o .1) ∙ ap (λ (x : counting.Report). counted (reported x)) (report-is (r .totals) (o .0)))

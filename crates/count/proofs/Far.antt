@@ -14,21 +14,21 @@ use Rattle.steps.specs.Answers.{Reply, refusedBy, kept, repeat, delivered}
 use Rattle.steps.specs.Runs.{World}
 use Rattle.log.specs.declared.reader.Limits.{Limits}
 use Rattle.log.specs.Entries.{Entry}
-use Rattle.tally.specs.Lists.{gather}
+use Rattle.sorted_set.specs.Lists.{gather}
 use Rattle.lmcp.specs.Run.{got, refused}
 use Rattle.lmcp.specs.Read.{Read}
 use Rattle.lmcp.specs.Lists.{readList}
-use Rattle.counting.specs.Marks.{PitList, at, pitListOf, listRead, listIn}
-use Rattle.counting.specs.Run.{answerTo, leftBy, answers, payloadIn, payloads, listsRead}
-use Rattle.counting.specs.Count.{answersTo}
-use Rattle.counting.specs.Walk.{faultAt, seenAt, Held, Walked, heldAfter, seenAfter, heldAll, walk, atFirst, walkEntries}
-use Rattle.counting.proofs.Seen.{answers-append, walk-on, seen-long}
-use Rattle.counting.proofs.Walks.{walk-whole}
+use Rattle.count_rules.specs.Marks.{PitList, at, pitListOf, listRead, listIn}
+use Rattle.count_rules.specs.Run.{answerTo, leftBy, answers, payloadIn, payloads, listsRead}
+use Rattle.count_rules.specs.Count.{answersTo}
+use Rattle.count_rules.specs.Walk.{faultAt, seenAt, Held, Walked, heldAfter, seenAfter, heldAll, walk, atFirst, walkEntries}
+use Rattle.count_rules.proofs.Seen.{answers-append, walk-on, seen-long}
+use Rattle.count_rules.proofs.Walks.{walk-whole}
 use Rattle.pit_marks.specs.declared.Sizes.{Sizes}
 use Rattle.pit_marks.specs.Sets.{Has}
 use Rattle.count.specs.declared.Totals.{Totals}
 use Rattle.count.specs.declared.Ran.{Ran}
-use Rattle.count.specs.Inside.{totalsOf, Few, ran, noTotals, noSizes, At, Went, Walks}
+use Rattle.count.specs.Inside.{totalsOf, Few, ran, noTotals, noSizes, Desk, firstOf, At, Went, Walks}
 use Rattle.count.proofs.Goes.{few}
 
 seen-last : (seen : List PitList) (y : Reply) → seenAfter seen (payloadIn y ++ []) ≡ seenAt seen y
@@ -65,28 +65,28 @@ unfolding answers
 answers-long l w [] = refl
 answers-long l w (e ∷ es) = ap suc (answers-long l (leftBy l w e) es)
 
-module _ (lim : Limits) (store₀ ledger₀ : List ℕ) (list₀ : List ℤ) where
+module _ (lim : Limits) (D₀ : Desk) where
   abbrev first : Held
-  first = atFirst store₀ ledger₀ list₀
+  first = firstOf D₀
 
   abbrev room : ℕ
-  room = length list₀
+  room = length (D₀ .book .list)
 
   -- after the entries ds: what is held, the answers, the lists seen
   abbrev pub heldBy : List Entry → Held
   heldBy ds = heldAll lim first ds
 
   abbrev pub answersBy : List Entry → List Reply
-  answersBy ds = answersTo lim store₀ ledger₀ ds
+  answersBy ds = answersTo lim (D₀ .lent .store) (D₀ .lent .ledger) ds
 
   abbrev pub seenBy : List Entry → List PitList
   seenBy ds = seenAfter [] (payloads (answersBy ds))
 
   -- nothing was found against the entries ds, and all is as they left it
-  pub record Far (ds : List Entry) (w n store ledger : List ℕ) (list : List ℤ) (t p s : List ℕ) (r : Ran) : Type 0 where
+  pub record Far (ds : List Entry) (D : Desk) (r : Ran) : Type 0 where
     pub clean : walk lim room [] first ds .fault ≡ 0
     pub going : r .fault ≡ 0
-    pub at : At (heldBy ds) (seenBy ds) (answersBy ds) w n store ledger list t p s (r .totals) (r .sizes)
+    pub at : At (heldBy ds) (seenBy ds) (answersBy ds) D (r .totals) (r .sizes)
 
   -- ---- one entry more
 
@@ -110,15 +110,15 @@ module _ (lim : Limits) (store₀ ledger₀ : List ℕ) (list₀ : List ℤ) whe
     unfolding walk
     walk-more es q = walk-on lim room [] first ds (e ∷ es) q
 
-  pub far-first : (w n t p s : List ℕ) → At first [] [] w n store₀ ledger₀ list₀ t p s noTotals noSizes → (r : Ran) → r ≡ ran 0 noTotals noSizes → Far [] w n store₀ ledger₀ list₀ t p s r
+  pub far-first : At first [] [] D₀ noTotals noSizes → (r : Ran) → r ≡ ran 0 noTotals noSizes → Far [] D₀ r
   unfolding walk answers
-  far-first w n t p s a r q = record {
+  far-first a r q = record {
     clean = refl;
     going = ap (λ (x : Ran). x .fault) q;
-    at = subst (λ (x : Ran). At first [] [] w n store₀ ledger₀ list₀ t p s (x .totals) (x .sizes)) (sym q) a;
+    at = subst (λ (x : Ran). At first [] [] D₀ (x .totals) (x .sizes)) (sym q) a;
   }
 
-  module _ (ds : List Entry) (w n store ledger : List ℕ) (list : List ℤ) (t p s : List ℕ) (r₀ : Ran) (f : Far ds w n store ledger list t p s r₀) where
+  module _ (ds : List Entry) (D : Desk) (r₀ : Ran) (f : Far ds D r₀) where
     pub far-few : length ds < 2 ^ 32 → Few (r₀ .totals)
     far-few o =
         let a : length (answersBy ds) ≡ length ds = answers-long lim _ ds in
@@ -127,7 +127,7 @@ module _ (lim : Limits) (store₀ ledger₀ : List ℕ) (list₀ : List ℤ) whe
         subst Few (sym (f .at .totals-are)) (few (answersBy ds) (length (seenBy ds)) (omega arith) (omega arith))
 
     -- all entries
-    pub far-all : Walks lim store₀ ledger₀ list₀ ds r₀ store ledger list t p s
+    pub far-all : Walks lim D₀ ds r₀ D
     unfolding walkEntries
     far-all =
         let e : walk lim room [] first ds .held ≡ heldBy ds = walk-whole lim room [] first ds (f .clean) in
@@ -139,12 +139,12 @@ module _ (lim : Limits) (store₀ ledger₀ : List ℕ) (list₀ : List ℤ) whe
           on = λ z. (f .at .totals-are, f .at .has);
         }
 
-    module _ (e : Entry) (r : Ran) (w′ n′ store′ ledger′ : List ℕ) (list′ : List ℤ) (t′ p′ s′ : List ℕ) (same : length list ≡ room)
-        (W : Went lim (length list) (heldBy ds) (seenBy ds) (answersBy ds) e r w′ n′ store′ ledger′ list′ t′ p′ s′) where
+    module _ (e : Entry) (r : Ran) (D′ : Desk) (same : length (D .book .list) ≡ room)
+        (W : Went lim (length (D .book .list)) (heldBy ds) (seenBy ds) (answersBy ds) e r D′) where
       found-is : r .fault ≡ faultAt room (seenBy ds) (x ds e)
       found-is = W .found ∙ ap (λ (k : ℕ). faultAt k (seenBy ds) (x ds e)) same
 
-      pub far-more : r .fault ≡ 0 → Far (ds ++ e ∷ []) w′ n′ store′ ledger′ list′ t′ p′ s′ r
+      pub far-more : r .fault ≡ 0 → Far (ds ++ e ∷ []) D′ r
       unfolding walk
       far-more z =
           let q : faultAt room (seenBy ds) (x ds e) ≡ 0 = sym found-is ∙ z in
@@ -155,7 +155,7 @@ module _ (lim : Limits) (store₀ ledger₀ : List ℕ) (list₀ : List ℤ) whe
           }
 
       -- refused
-      pub far-ends : (r .fault ≡ 0 → ⊥) → (es rest : List Entry) → es ≡ (ds ++ e ∷ []) ++ rest → Walks lim store₀ ledger₀ list₀ es r store′ ledger′ list′ t′ p′ s′
+      pub far-ends : (r .fault ≡ 0 → ⊥) → (es rest : List Entry) → es ≡ (ds ++ e ∷ []) ++ rest → Walks lim D₀ es r D′
       unfolding walkEntries
       far-ends z es rest q =
           let o : faultAt room (seenBy ds) (x ds e) ≡ 0 → ⊥ = λ u. z (found-is ∙ u) in

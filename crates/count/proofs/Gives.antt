@@ -7,10 +7,10 @@ use native.Mathlib.Omega.{arith}
 use lib.ListN.{length, drop, replicate, length-map, length-replicate}
 use Rattle.wire.specs.Overlay.{overlay}
 use Rattle.wire.proofs.Overlays.{overlay-eq}
-use Rattle.tally.proofs.Sets.{as-many}
-use Rattle.counting.specs.Marks.{PitList}
-use Rattle.counting.specs.Report.{tiles, pits, surePits, Line, line, report}
-use Rattle.counting.specs.Count.{maxTiles, reported}
+use Rattle.sorted_set.proofs.Sets.{as-many}
+use Rattle.count_rules.specs.Marks.{PitList}
+use Rattle.count_rules.specs.Report.{tiles, pits, surePits, Line, line, report}
+use Rattle.count_rules.specs.Count.{maxTiles, reported}
 use Rattle.pit_marks.specs.declared.Sizes.{Sizes}
 use Rattle.pit_marks.specs.Lines.{Lays}
 use Rattle.pit_marks.specs.Sets.{Has}

@@ -16,23 +16,23 @@ use Rattle.steps.specs.Receive.{After}
 use Rattle.steps.specs.Answers.{Reply, refusedBy, kept, repeat, delivered, reply}
 use Rattle.receiver_state.specs.View.{stateWords, nameBytes, view, shaped}
 use Rattle.receiver_state.specs.Inside.{Shaped}
+use Rattle.receiver.specs.Lent.{Lent}
 use Rattle.receiver.specs.declared.Outcome.{Outcome}
-use Rattle.receiver_ends.specs.Ends.{payloadOf}
-use Rattle.bounded.specs.Within.{stepWithin, receivedWithin, ReceivesWithin}
+use Rattle.open_and_payload.specs.Ends.{payloadOf}
+use Rattle.within_limits.specs.Within.{stepWithin, receivedWithin, ReceivesWithin}
 use Rattle.log.specs.declared.reader.Limits.{Limits}
 use Rattle.log.specs.Entries.{Entry}
 use Rattle.words.specs.Builds.{build}
 use Rattle.words.proofs.Builds.{getD-build}
-use Rattle.counting.specs.Marks.{PitList, listIn}
-use Rattle.counting.specs.Run.{called, answerTo, leftBy, isKept, isRepeat, isDelivered, isRefused, howMany, refusals, refusedIn, payloadIn, listsRead}
-use Rattle.counting.specs.Walk.{faultAt, seenAt, listAt, Held, heldAfter}
-use Rattle.counting.proofs.Steps.{howMany-more, refused-more, refused-stay}
-use Rattle.counting.proofs.Totals.{called-number}
+use Rattle.count_rules.specs.Marks.{PitList, listIn}
+use Rattle.count_rules.specs.Run.{called, answerTo, leftBy, isKept, isRepeat, isDelivered, isRefused, howMany, refusals, refusedIn, payloadIn, listsRead}
+use Rattle.count_rules.specs.Walk.{faultAt, seenAt, listAt, Held, heldAfter}
+use Rattle.count_rules.proofs.Steps.{howMany-more, refused-more, refused-stay}
+use Rattle.count_rules.proofs.Totals.{called-number}
 use Rattle.pit_marks.specs.declared.Sizes.{Sizes}
-use Rattle.pit_marks.specs.Sets.{Has}
 use Rattle.count.specs.declared.Totals.{Totals}
 use Rattle.count.specs.declared.Ran.{Ran}
-use Rattle.count.specs.Inside.{totalsOf, oneMore, toldOf, withLists, Few, TakesPayload, Answered, At, Went, TakesEntry}
+use Rattle.count.specs.Inside.{totalsOf, oneMore, toldOf, withLists, Few, Book, Desk, desk, TakesPayload, Answered, At, Went, TakesEntry}
 use Rattle.count.proofs.Takes.{list-left, answered}
 
 -- ---- the totals with one answer more
@@ -118,28 +118,27 @@ seen-more seen (delivered b) =
 
 -- ---- the call
 
-module _ (l : Limits) (h : Held) (w n : List ℕ) (e : Entry) (shape : Shaped w n) (m : view w n ≡ h .world .machine) (store ledger : List ℕ) (es : store ≡ h .world .store) (el : ledger ≡ h .world .ledger) where
-  is-shaped : shaped w n ≡ true
-  is-shaped = rw (eq-eqb _ _ (shape .words), eq-eqb _ _ (shape .bytes))
+module _ (l : Limits) (h : Held) (e : Entry) (seen : List PitList) (rs : List Reply) (D : Desk) (totals : Totals) (sizes : Sizes) (a : At h seen rs D totals sizes) where
+  is-shaped : shaped (D .lent .state) (D .lent .names) ≡ true
+  is-shaped = rw (eq-eqb _ _ (a .shape .words), eq-eqb _ _ (a .shape .bytes))
 
-  call-is : receivedWithin l w n store ledger (e .sender) (e .datagram) ≡ called l (h .world) e
+  call-is : receivedWithin l (D .lent) (e .sender) (e .datagram) ≡ called l (h .world) e
   unfolding receivedWithin called
-  call-is = rw is-shaped (λ i. stepWithin l (m i) (es i) (el i) (e .sender) (e .datagram))
+  call-is = rw is-shaped (λ i. stepWithin l (a .machine i) (a .store-is i) (a .ledger-is i) (e .sender) (e .datagram))
 
 -- what the receiver answered and left is what the step list says of the entry
-record Called (l : Limits) (h : Held) (e : Entry) (outcome : Outcome) (w′ n′ store′ ledger′ : List ℕ) : Type 0 where
+record Called (l : Limits) (h : Held) (e : Entry) (outcome : Outcome) (L′ : Lent) : Type 0 where
   answered : outcome .answer ≡ called l (h .world) e .answer
-  stored : store′ ≡ called l (h .world) e .store
-  wrote : ledger′ ≡ called l (h .world) e .ledger
-  shows : view w′ n′ ≡ called l (h .world) e .machine
-  shape : Shaped w′ n′
+  stored : L′ .store ≡ called l (h .world) e .store
+  wrote : L′ .ledger ≡ called l (h .world) e .ledger
+  shows : view (L′ .state) (L′ .names) ≡ called l (h .world) e .machine
+  shape : Shaped (L′ .state) (L′ .names)
 
-module _ (l : Limits) (h : Held) (e : Entry) (w n store ledger : List ℕ) (list : List ℤ) (t p s : List ℕ) (totals : Totals) (sizes : Sizes) (seen : List PitList) (rs : List Reply)
-    (a : At h seen rs w n store ledger list t p s totals sizes)
-    (outcome : Outcome) (w′ n′ store′ ledger′ : List ℕ) (R : ReceivesWithin l w n store ledger (e .sender) (e .datagram) outcome w′ n′ store′ ledger′) where
-  is-called : Called l h e outcome w′ n′ store′ ledger′
+module _ (l : Limits) (h : Held) (e : Entry) (D : Desk) (totals : Totals) (sizes : Sizes) (seen : List PitList) (rs : List Reply) (a : At h seen rs D totals sizes)
+    (outcome : Outcome) (L′ : Lent) (R : ReceivesWithin l (D .lent) (e .sender) (e .datagram) outcome L′) where
+  is-called : Called l h e outcome L′
   is-called =
-      let q : receivedWithin l w n store ledger (e .sender) (e .datagram) ≡ called l (h .world) e = call-is l h w n e (a .shape) (a .machine) store ledger (a .store-is) (a .ledger-is) in
+      let q : receivedWithin l (D .lent) (e .sender) (e .datagram) ≡ called l (h .world) e = call-is l h e seen rs D totals sizes a in
       record {
         answered = R .leaves .answer ∙ ap (λ (x : After). x .answer) q;
         stored = R .leaves .store ∙ ap (λ (x : After). x .store) q;
@@ -148,7 +147,7 @@ module _ (l : Limits) (h : Held) (e : Entry) (w n store ledger : List ℕ) (list
         shape = record { words = R .words ∙ a .shape .words; bytes = R .bytes ∙ a .shape .bytes };
       }
 
-  reply-is : reply (e .datagram) store′ (outcome .answer) ≡ answerTo l (h .world) e
+  reply-is : reply (e .datagram) (L′ .store) (outcome .answer) ≡ answerTo l (h .world) e
   reply-is = λ i. reply (e .datagram) (is-called .stored i) (is-called .answered i)
 
   number : (k : ℕ) → outcome .answer ≡ Refused k → k < refusals
@@ -156,22 +155,22 @@ module _ (l : Limits) (h : Held) (e : Entry) (w n store ledger : List ℕ) (list
 
 -- ---- the entry
 
-module _ (l : Limits) (e : Entry) (w n store ledger : List ℕ) (list : List ℤ) (t p s : List ℕ) (totals : Totals) (sizes : Sizes) (outcome : Outcome) (w′ n′ store′ ledger′ : List ℕ)
-    (R : ReceivesWithin l w n store ledger (e .sender) (e .datagram) outcome w′ n′ store′ ledger′) (after : Totals) (ea : after ≡ toldOf totals (outcome .answer))
-    (r : Ran) (list′ : List ℤ) (t′ p′ s′ : List ℕ) (T : TakesPayload (payloadOf (reply (e .datagram) store′ (outcome .answer))) list t p s after sizes r list′ t′ p′ s′) where
-  goes : TakesEntry l e w n store ledger list t p s totals sizes r w′ n′ store′ ledger′ list′ t′ p′ s′
+module _ (l : Limits) (e : Entry) (D : Desk) (totals : Totals) (sizes : Sizes) (outcome : Outcome) (L′ : Lent)
+    (R : ReceivesWithin l (D .lent) (e .sender) (e .datagram) outcome L′) (after : Totals) (ea : after ≡ toldOf totals (outcome .answer))
+    (r : Ran) (B′ : Book) (T : TakesPayload (payloadOf (reply (e .datagram) (L′ .store) (outcome .answer))) (D .book) after sizes r B′) where
+  goes : TakesEntry l e D totals sizes r (desk L′ B′)
   goes h seen rs a =
       let x : Reply = answerTo l (h .world) e in
-      let c : Called l h e outcome w′ n′ store′ ledger′ = is-called l h e w n store ledger list t p s totals sizes seen rs a outcome w′ n′ store′ ledger′ R in
-      let q : reply (e .datagram) store′ (outcome .answer) ≡ x = reply-is l h e w n store ledger list t p s totals sizes seen rs a outcome w′ n′ store′ ledger′ R in
-      let f = number l h e w n store ledger list t p s totals sizes seen rs a outcome w′ n′ store′ ledger′ R in
-      let u : TakesPayload (payloadOf x) list t p s after sizes r list′ t′ p′ s′ = subst (λ (y : Reply). TakesPayload (payloadOf y) list t p s after sizes r list′ t′ p′ s′) q T in
-      let v : Answered (length list) x after seen r t′ p′ s′ = answered list list′ t p s t′ p′ s′ after sizes r seen (a .has) x u in
-      let left : list′ ≡ listAt (h .list) x = list-left list list′ t p s t′ p′ s′ after sizes r x u ∙ ap (λ (z : List ℤ). listAt z x) (a .list-is) in
+      let c : Called l h e outcome L′ = is-called l h e D totals sizes seen rs a outcome L′ R in
+      let q : reply (e .datagram) (L′ .store) (outcome .answer) ≡ x = reply-is l h e D totals sizes seen rs a outcome L′ R in
+      let f = number l h e D totals sizes seen rs a outcome L′ R in
+      let u : TakesPayload (payloadOf x) (D .book) after sizes r B′ = subst (λ (y : Reply). TakesPayload (payloadOf y) (D .book) after sizes r B′) q T in
+      let v : Answered (length (D .book .list)) x after seen r B′ = answered (D .book) B′ after sizes r seen (a .has) x u in
+      let left : B′ .list ≡ listAt (h .list) x = list-left (D .book) B′ after sizes r x u ∙ ap (λ (z : List ℤ). listAt z x) (a .list-is) in
       let told : after ≡ totalsOf (rs ++ x ∷ []) (length seen) =
       ea
       ∙ (ap (λ (z : Totals). toldOf z (outcome .answer)) (a .totals-are)
-      ∙ (told-more rs (length seen) (e .datagram) store′ (outcome .answer) f ∙ ap (λ (y : Reply). totalsOf (rs ++ y ∷ []) (length seen)) q)) in
+      ∙ (told-more rs (length seen) (e .datagram) (L′ .store) (outcome .answer) f ∙ ap (λ (y : Reply). totalsOf (rs ++ y ∷ []) (length seen)) q)) in
       let lists = ap (λ (y : Totals). withLists y (length (listsRead (payloadIn x)))) told ∙ ap (λ (k : ℕ). totalsOf (rs ++ x ∷ []) k) (sym (seen-more seen x)) in
       record {
         found = v .found;
@@ -190,12 +189,11 @@ module _ (l : Limits) (e : Entry) (w n store ledger : List ℕ) (list : List ℤ
       }
 
 -- whose datagram is d, and that delivers the payload b
-module _ (l : Limits) (e : Entry) (w n store ledger : List ℕ) (list : List ℤ) (t p s : List ℕ) (totals : Totals) (sizes : Sizes) (d : List ℕ) (ed : d ≡ e .datagram) (outcome : Outcome)
-    (w′ n′ store′ ledger′ : List ℕ) (R : ReceivesWithin l w n store ledger (e .sender) d outcome w′ n′ store′ ledger′) (after : Totals) (ea : after ≡ toldOf totals (outcome .answer))
-    (b : List ℕ) (eb : b ≡ payloadOf (reply d store′ (outcome .answer)))
-    (r : Ran) (list′ : List ℤ) (t′ p′ s′ : List ℕ) (T : TakesPayload b list t p s after sizes r list′ t′ p′ s′) where
-  pub entry-goes : TakesEntry l e w n store ledger list t p s totals sizes r w′ n′ store′ ledger′ list′ t′ p′ s′
+module _ (l : Limits) (e : Entry) (D : Desk) (totals : Totals) (sizes : Sizes) (d : List ℕ) (ed : d ≡ e .datagram) (outcome : Outcome) (L′ : Lent)
+    (R : ReceivesWithin l (D .lent) (e .sender) d outcome L′) (after : Totals) (ea : after ≡ toldOf totals (outcome .answer)) (b : List ℕ)
+    (eb : b ≡ payloadOf (reply d (L′ .store) (outcome .answer))) (r : Ran) (B′ : Book) (T : TakesPayload b (D .book) after sizes r B′) where
+  pub entry-goes : TakesEntry l e D totals sizes r (desk L′ B′)
   entry-goes =
-      let q : b ≡ payloadOf (reply (e .datagram) store′ (outcome .answer)) = eb ∙ ap (λ (x : List ℕ). payloadOf (reply x store′ (outcome .answer))) ed in
-      goes l e w n store ledger list t p s totals sizes outcome w′ n′ store′ ledger′ (subst (λ (x : List ℕ). ReceivesWithin l w n store ledger (e .sender) x outcome w′ n′ store′ ledger′) ed R)
-      after ea r list′ t′ p′ s′ (subst (λ (x : List ℕ). TakesPayload x list t p s after sizes r list′ t′ p′ s′) q T)
+      let q : b ≡ payloadOf (reply (e .datagram) (L′ .store) (outcome .answer)) = eb ∙ ap (λ (x : List ℕ). payloadOf (reply x (L′ .store) (outcome .answer))) ed in
+      goes l e D totals sizes outcome L′ (subst (λ (x : List ℕ). ReceivesWithin l (D .lent) (e .sender) x outcome L′) ed R)
+      after ea r B′ (subst (λ (x : List ℕ). TakesPayload x (D .book) after sizes r B′) q T)

@@ -13,17 +13,19 @@ use Rattle.steps.specs.declared.Answer.the-variants.{Refused, Kept, Repeat, Del
 use Rattle.steps.specs.Answers.{Reply}
 use Rattle.receiver_state.specs.View.{view}
 use Rattle.receiver_state.specs.Inside.{Shaped}
+use Rattle.wire.specs.Slices.{Slice, SignedSlice}
+use Rattle.receiver.specs.Lent.{Lent}
 use Rattle.log.specs.declared.reader.EntryAt.{EntryAt}
 use Rattle.log.specs.declared.reader.Limits.{Limits}
 use Rattle.log.specs.declared.reader.Step.{Step}
 use Rattle.log.specs.declared.reader.Step.the-variants as step
 use Rattle.log.specs.Entries.{Entry}
 use Rattle.log.specs.Listed.{Listed, whole, broken, entriesIn}
-use Rattle.counting.specs.Marks.{PitList}
-use Rattle.counting.specs.Run.{keptIn, repeatedIn, deliveredIn, refusedIn, answerTo, leftBy, payloadIn, payloads, listsRead}
-use Rattle.counting.specs.Report.{Line}
-use Rattle.counting.specs.Count.{maxEntries, answersTo, Report}
-use Rattle.counting.specs.Walk.{faultAt, seenAt, Held, heldAfter, seenAfter, atFirst, walkEntries}
+use Rattle.count_rules.specs.Marks.{PitList}
+use Rattle.count_rules.specs.Run.{keptIn, repeatedIn, deliveredIn, refusedIn, answerTo, leftBy, payloadIn, payloads, listsRead}
+use Rattle.count_rules.specs.Report.{Line}
+use Rattle.count_rules.specs.Count.{maxEntries, answersTo, Report}
+use Rattle.count_rules.specs.Walk.{faultAt, seenAt, Held, heldAfter, seenAfter, atFirst, walkEntries}
 use Rattle.pit_marks.specs.declared.Sizes.{Sizes}
 use Rattle.pit_marks.specs.Sets.{Has}
 use Rattle.pit_payloads.specs.declared.Looked.{Looked}
@@ -80,43 +82,68 @@ ran n t s = record { fault = n; totals = t; sizes = s }
 abbrev pub ranBy : Totals → Sizes → Looked → Ran
 ranBy t s x = ran (faultIn x) (withLists t (listsIn x)) (sizesIn s x)
 
-pub record TakesPayload (payload : List ℕ) (list : List ℤ) (t p s : List ℕ) (totals : Totals) (sizes : Sizes) (r : Ran) (list′ : List ℤ) (t′ p′ s′ : List ℕ) : Type 0 where
+-- what payloads are entered into: the number list, and the sets of tiles, of pits and of sure pits
+pub record Book : Type 0 where
+  pub list : List ℤ
+  pub tiles : List ℕ
+  pub pits : List ℕ
+  pub sure : List ℕ
+
+abbrev pub book : List ℤ → List ℕ → List ℕ → List ℕ → Book
+book list tiles pits sure = record { list = list; tiles = tiles; pits = pits; sure = sure }
+
+abbrev pub bookBefore : SignedSlice → Slice → Slice → Slice → Book
+bookBefore list tiles pits sure = book (list .entry .now) (tiles .entry .now) (pits .entry .now) (sure .entry .now)
+
+abbrev pub bookAfter : SignedSlice → Slice → Slice → Slice → Book
+bookAfter list tiles pits sure = book (list .exit .now) (tiles .exit .now) (pits .exit .now) (sure .exit .now)
+
+-- what the sets hold
+abbrev pub Holds : Book → Sizes → List PitList → Type 0
+Holds b sizes seen = Has (b .tiles) (b .pits) (b .sure) sizes seen
+
+pub record TakesPayload (payload : List ℕ) (b : Book) (totals : Totals) (sizes : Sizes) (r : Ran) (b′ : Book) : Type 0 where
   pub bytes : Bytes payload
   pub answer : Looked
-  pub looks : Looks payload list t p s sizes answer list′ t′ p′ s′
+  pub looks : Looks payload (b .list) (b .tiles) (b .pits) (b .sure) sizes answer (b′ .list) (b′ .tiles) (b′ .pits) (b′ .sure)
   pub gave : r ≡ ranBy totals sizes answer
 
 -- one answer, of which only a delivered payload is read
-pub record Answered (room : ℕ) (a : Reply) (totals : Totals) (seen : List PitList) (r : Ran) (t′ p′ s′ : List ℕ) : Type 0 where
+pub record Answered (room : ℕ) (a : Reply) (totals : Totals) (seen : List PitList) (r : Ran) (b′ : Book) : Type 0 where
   pub found : r .fault ≡ faultAt room seen a
-  pub on : r .fault ≡ 0 → (r .totals ≡ withLists totals (length (listsRead (payloadIn a)))) × Has t′ p′ s′ (r .sizes) (seenAt seen a)
+  pub on : r .fault ≡ 0 → (r .totals ≡ withLists totals (length (listsRead (payloadIn a)))) × Holds b′ (r .sizes) (seenAt seen a)
 
 -- ---- one entry
 
--- with the answers rs and the lists seen, the state's words w and names n, and what is lent, are those of h
-pub record At (h : Held) (seen : List PitList) (rs : List Reply) (w n store ledger : List ℕ) (list : List ℤ) (t p s : List ℕ) (totals : Totals) (sizes : Sizes) : Type 0 where
-  pub shape : Shaped w n
-  pub machine : view w n ≡ h .world .machine
-  pub store-is : store ≡ h .world .store
-  pub ledger-is : ledger ≡ h .world .ledger
-  pub list-is : list ≡ h .list
-  pub has : Has t p s sizes seen
+-- what the count works on: what is lent to its receiver, and its book
+pub record Desk : Type 0 where
+  pub lent : Lent
+  pub book : Book
+
+abbrev pub desk : Lent → Book → Desk
+desk l b = record { lent = l; book = b }
+
+-- with the answers rs and the lists seen, what is on the desk is that of h
+pub record At (h : Held) (seen : List PitList) (rs : List Reply) (k : Desk) (totals : Totals) (sizes : Sizes) : Type 0 where
+  pub shape : Shaped (k .lent .state) (k .lent .names)
+  pub machine : view (k .lent .state) (k .lent .names) ≡ h .world .machine
+  pub store-is : k .lent .store ≡ h .world .store
+  pub ledger-is : k .lent .ledger ≡ h .world .ledger
+  pub list-is : k .book .list ≡ h .list
+  pub has : Holds (k .book) sizes seen
   pub totals-are : totals ≡ totalsOf rs (length seen)
 
 -- with one entry more
-pub record Went (l : Limits) (room : ℕ) (h : Held) (seen : List PitList) (rs : List Reply) (e : Entry) (r : Ran) (w′ n′ store′ ledger′ : List ℕ) (list′ : List ℤ) (t′ p′ s′ : List ℕ) : Type 0 where
+pub record Went (l : Limits) (room : ℕ) (h : Held) (seen : List PitList) (rs : List Reply) (e : Entry) (r : Ran) (k′ : Desk) : Type 0 where
   pub found : r .fault ≡ faultAt room seen (answerTo l (h .world) e)
-  pub store-left : store′ ≡ heldAfter l h e .world .store
-  pub ledger-left : ledger′ ≡ heldAfter l h e .world .ledger
-  pub list-left : list′ ≡ heldAfter l h e .list
-  pub on : r .fault ≡ 0
-      → At (heldAfter l h e) (seenAt seen (answerTo l (h .world) e)) (rs ++ answerTo l (h .world) e ∷ []) w′ n′ store′ ledger′ list′ t′ p′ s′ (r .totals) (r .sizes)
+  pub store-left : k′ .lent .store ≡ heldAfter l h e .world .store
+  pub ledger-left : k′ .lent .ledger ≡ heldAfter l h e .world .ledger
+  pub list-left : k′ .book .list ≡ heldAfter l h e .list
+  pub on : r .fault ≡ 0 → At (heldAfter l h e) (seenAt seen (answerTo l (h .world) e)) (rs ++ answerTo l (h .world) e ∷ []) k′ (r .totals) (r .sizes)
 
-abbrev pub TakesEntry : Limits → Entry → List ℕ → List ℕ → List ℕ → List ℕ → List ℤ → List ℕ → List ℕ → List ℕ → Totals → Sizes
-    → Ran → List ℕ → List ℕ → List ℕ → List ℕ → List ℤ → List ℕ → List ℕ → List ℕ → Type 0
-TakesEntry l e w n store ledger list t p s totals sizes r w′ n′ store′ ledger′ list′ t′ p′ s′ =
-    (h : Held) (seen : List PitList) (rs : List Reply)
-    → At h seen rs w n store ledger list t p s totals sizes → Went l (length list) h seen rs e r w′ n′ store′ ledger′ list′ t′ p′ s′
+abbrev pub TakesEntry : Limits → Entry → Desk → Totals → Sizes → Ran → Desk → Type 0
+TakesEntry l e k totals sizes r k′ =
+    (h : Held) (seen : List PitList) (rs : List Reply) → At h seen rs k totals sizes → Went l (length (k .book .list)) h seen rs e r k′
 
 -- ---- all entries
 
@@ -133,20 +160,24 @@ pub record Whole (log : List ℕ) (n : ℕ) : Type 0 where
   pub size : n ≡ length entries
   pub few : n ≤ maxEntries
 
+-- what the count is lent of a desk, before any entry
+abbrev pub firstOf : Desk → Held
+firstOf k = atFirst (k .lent .store) (k .lent .ledger) (k .book .list)
+
 -- and a fresh receiver for it
-pub record Begins (log w n store ledger : List ℕ) (list : List ℤ) (t p s : List ℕ) : Type 0 where
+pub record Begins (log : List ℕ) (k : Desk) : Type 0 where
   pub size : ℕ
   pub log-whole : Whole log size
-  pub at-first : At (atFirst store ledger list) [] [] w n store ledger list t p s noTotals noSizes
+  pub at-first : At (firstOf k) [] [] k noTotals noSizes
 
-pub record Walks (l : Limits) (store ledger : List ℕ) (list : List ℤ) (es : List Entry) (r : Ran) (store′ ledger′ : List ℕ) (list′ : List ℤ) (t′ p′ s′ : List ℕ) : Type 0 where
-  pub found : r .fault ≡ walkEntries l store ledger list es .fault
-  pub store-left : store′ ≡ walkEntries l store ledger list es .held .world .store
-  pub ledger-left : ledger′ ≡ walkEntries l store ledger list es .held .world .ledger
-  pub list-left : list′ ≡ walkEntries l store ledger list es .held .list
+pub record Walks (l : Limits) (k : Desk) (es : List Entry) (r : Ran) (k′ : Desk) : Type 0 where
+  pub found : r .fault ≡ walkEntries l (k .lent .store) (k .lent .ledger) (k .book .list) es .fault
+  pub store-left : k′ .lent .store ≡ walkEntries l (k .lent .store) (k .lent .ledger) (k .book .list) es .held .world .store
+  pub ledger-left : k′ .lent .ledger ≡ walkEntries l (k .lent .store) (k .lent .ledger) (k .book .list) es .held .world .ledger
+  pub list-left : k′ .book .list ≡ walkEntries l (k .lent .store) (k .lent .ledger) (k .book .list) es .held .list
   pub on : r .fault ≡ 0
-      → (r .totals ≡ totalsOf (answersTo l store ledger es) (length (seenAfter [] (payloads (answersTo l store ledger es)))))
-      × Has t′ p′ s′ (r .sizes) (seenAfter [] (payloads (answersTo l store ledger es)))
+      → (r .totals ≡ totalsOf (answersTo l (k .lent .store) (k .lent .ledger) es) (length (seenAfter [] (payloads (answersTo l (k .lent .store) (k .lent .ledger) es)))))
+      × Holds (k′ .book) (r .sizes) (seenAfter [] (payloads (answersTo l (k .lent .store) (k .lent .ledger) es)))
 
 -- the report of so many entries, by their totals and the tile lines
 abbrev pub reportWith : ℕ → Totals → List Line → Report

@@ -6,12 +6,13 @@ ghost use lib.ListN.{getD};
 ghost use Rattle.log.specs.Listed.{entriesIn, whole};
 ghost use Rattle.log.specs.Entries.{Entry};
 ghost use Rattle.log.specs.Told.{entrySaid};
-ghost use Rattle.counting.specs.Count.{noReport, reported};
-ghost use Rattle.counting.specs.Marks.{PitList};
-ghost use Rattle.counting.specs.Report.{report};
+ghost use Rattle.count_rules.specs.Count.{noReport, reported};
+ghost use Rattle.count_rules.specs.Marks.{PitList};
+ghost use Rattle.count_rules.specs.Report.{report};
 ghost use Rattle.pit_marks.specs.Sets.{Has};
-ghost use Rattle.count.specs.Counts.{counted, Counts};
-ghost use Rattle.count.specs.Inside.{many, surveyOf, Few, oneMore, toldOf, ran, ranBy, noTotals, noSizes, TakesPayload, TakesEntry, Begins, Whole, Walks, reportWith};
+ghost use Rattle.receiver.specs.Lent.{lent, lentBefore, lentAfter};
+ghost use Rattle.count.specs.Counts.{counted, loanBefore, loanAfter, Counts};
+ghost use Rattle.count.specs.Inside.{many, surveyOf, Few, oneMore, toldOf, ran, ranBy, noTotals, noSizes, book, bookBefore, bookAfter, desk, TakesPayload, TakesEntry, Begins, Whole, Walks, reportWith};
 use log::EntryAt;
 use log::Limits;
 use log::Step;
@@ -28,9 +29,6 @@ pub const MAX_PITS: usize = 8192;
 
 // The receiver's numbers of refusal are below this.
 pub const REFUSALS: usize = 10;
-
-// Refusal: too many entries.
-pub const TOO_MANY: u32 = 62;
 
 // The report is given, or the number of the refusal.
 pub enum Answer {
@@ -88,7 +86,7 @@ fn many_entries(n: u64) -> Surveyed
     ensures { λ r. ⌜ r ≡ many n ⌝ }
 {
     if MAX_ENTRIES < n {
-        return Surveyed::Refused(TOO_MANY);
+        return Surveyed::Refused(62);
     }
     Surveyed::Entries(n)
 }
@@ -196,8 +194,7 @@ fn one_payload(
     sizes: Sizes,
 ) -> Ran
     requires { ⌜ totals .lists < 2 ^ 32 ⌝ }
-    ensures { λ r. ⌜ TakesPayload (now (payload .entry)) (now (numbers .entry)) (now (tiles .entry)) (now (pits .entry)) (now (sure .entry)) totals sizes r
-        (now (numbers .exit)) (now (tiles .exit)) (now (pits .exit)) (now (sure .exit)) ⌝ }
+    ensures { λ r. ⌜ TakesPayload (now (payload .entry)) (bookBefore numbers tiles pits sure) totals sizes r (bookAfter numbers tiles pits sure) ⌝ }
 {
     let looked = pit_payloads::take_payload(payload, numbers, tiles, pits, sure, sizes);
     ran_by(totals, sizes, looked)
@@ -222,12 +219,11 @@ fn one_entry(
     sizes: Sizes,
 ) -> Ran
     requires { ⌜ Few totals ⌝ }
-    ensures { λ r. ⌜ TakesEntry limits (entrySaid (now (log .entry)) entry) (now (state .entry)) (now (names .entry)) (now (store .entry)) (now (ledger .entry))
-        (now (numbers .entry)) (now (tiles .entry)) (now (pits .entry)) (now (sure .entry)) totals sizes r
-        (now (state .exit)) (now (names .exit)) (now (store .exit)) (now (ledger .exit)) (now (numbers .exit)) (now (tiles .exit)) (now (pits .exit)) (now (sure .exit)) ⌝ }
+    ensures { λ r. ⌜ TakesEntry limits (entrySaid (now (log .entry)) entry) (desk (lentBefore state names store ledger) (bookBefore numbers tiles pits sure)) totals sizes r
+        (desk (lentAfter state names store ledger) (bookAfter numbers tiles pits sure)) ⌝ }
 {
     let d = wire::part(log, entry.at, entry.len);
-    let outcome = bounded::receive_within(
+    let outcome = within_limits::receive_within(
         state,
         names,
         &mut *store,
@@ -238,7 +234,7 @@ fn one_entry(
     );
     let answer = outcome.answer;
     let after = told(totals, answer);
-    let payload = receiver_ends::payload(outcome, &*store, d);
+    let payload = open_and_payload::payload(outcome, &*store, d);
     one_payload(payload, numbers, tiles, pits, sure, after, sizes)
 }
 
@@ -277,9 +273,9 @@ fn walk(
     pits: &mut [u64],
     sure: &mut [u64],
 ) -> Ran
-    requires { ⌜ Begins (now log) (now state) (now names) (now store) (now ledger) (now numbers) (now tiles) (now pits) (now sure) ⌝ }
-    ensures { λ r. ⌜ ((es : List Entry) → entriesIn (now (log .entry)) ≡ whole es → Walks limits (now (store .entry)) (now (ledger .entry)) (now (numbers .entry)) es r
-        (now (store .exit)) (now (ledger .exit)) (now (numbers .exit)) (now (tiles .exit)) (now (pits .exit)) (now (sure .exit))) ⌝ }
+    requires { ⌜ Begins (now log) (desk (lent (now state) (now names) (now store) (now ledger)) (book (now numbers) (now tiles) (now pits) (now sure))) ⌝ }
+    ensures { λ r. ⌜ ((es : List Entry) → entriesIn (now (log .entry)) ≡ whole es →
+        Walks limits (desk (lentBefore state names store ledger) (bookBefore numbers tiles pits sure)) es r (desk (lentAfter state names store ledger) (bookAfter numbers tiles pits sure))) ⌝ }
 {
     let mut place: usize = 0;
     let mut done = nothing();
@@ -380,14 +376,14 @@ fn afresh(
     numbers: &mut [i64],
 ) -> Counted
     requires { ⌜ Whole (now log) entries ⌝ }
-    ensures { λ r. ⌜ Counts (now (log .entry)) (now (store .entry)) (now (ledger .entry)) (now (numbers .entry)) r (now (store .exit)) (now (ledger .exit)) (now (numbers .exit)) ⌝ }
+    ensures { λ r. ⌜ Counts (now (log .entry)) (loanBefore store ledger numbers) r (loanAfter store ledger numbers) ⌝ }
 {
     let mut state = [0u64; receiver::STATE_WORDS];
     let mut names = [0u8; receiver::NAME_BYTES];
     let mut tiles = [0u64; MAX_TILES];
     let mut pits = [0u64; MAX_PITS];
     let mut sure = [0u64; MAX_PITS];
-    receiver_ends::open(&mut state, &mut names, store.len());
+    open_and_payload::open(&mut state, &mut names, store.len());
     let limits = log::limits_in(log);
     let done = walk(
         log,
@@ -411,7 +407,7 @@ fn afresh(
 
 // THE COUNT of a log. The store, the ledger and the number list are lent; the receiver's state is its own.
 pub fn count_log(log: &[u8], store: &mut [u8], ledger: &mut [u32], numbers: &mut [i64]) -> Counted
-    ensures { λ r. ⌜ Counts (now (log .entry)) (now (store .entry)) (now (ledger .entry)) (now (numbers .entry)) r (now (store .exit)) (now (ledger .exit)) (now (numbers .exit)) ⌝ }
+    ensures { λ r. ⌜ Counts (now (log .entry)) (loanBefore store ledger numbers) r (loanAfter store ledger numbers) ⌝ }
 {
     let surveyed = survey(log);
     match surveyed {

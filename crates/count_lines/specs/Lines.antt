@@ -3,24 +3,25 @@ use mathlib.Core.List.{List, [], _∷_, _++_}
 use Prim.Native.Nat.{ℕ, zero, suc}
 use lib.Dec.{eqb}
 use lib.ListN.{getD}
+use Rattle.wire.specs.Text.{ascii}
 use Rattle.wire.specs.Choice.{pick}
 use Rattle.text.specs.Text.{decimal}
 
 -- "entries 5", "kept 2", "repeated 1", "delivered 1"
 abbrev pub totalLines : ℕ → ℕ → ℕ → ℕ → List ℕ
 totalLines entries kept repeated delivered =
-    ((101 ∷ 110 ∷ 116 ∷ 114 ∷ 105 ∷ 101 ∷ 115 ∷ 32 ∷ []) ++ decimal entries ++ 10 ∷ [])
-    ++ ((107 ∷ 101 ∷ 112 ∷ 116 ∷ 32 ∷ []) ++ decimal kept ++ 10 ∷ [])
-    ++ ((114 ∷ 101 ∷ 112 ∷ 101 ∷ 97 ∷ 116 ∷ 101 ∷ 100 ∷ 32 ∷ []) ++ decimal repeated ++ 10 ∷ [])
-    ++ ((100 ∷ 101 ∷ 108 ∷ 105 ∷ 118 ∷ 101 ∷ 114 ∷ 101 ∷ 100 ∷ 32 ∷ []) ++ decimal delivered ++ 10 ∷ [])
+    (ascii "entries " ++ decimal entries ++ ascii "\n")
+    ++ (ascii "kept " ++ decimal kept ++ ascii "\n")
+    ++ (ascii "repeated " ++ decimal repeated ++ ascii "\n")
+    ++ (ascii "delivered " ++ decimal delivered ++ ascii "\n")
 
 -- "refused "
 abbrev pub refusedWord : List ℕ
-refusedWord = 114 ∷ 101 ∷ 102 ∷ 117 ∷ 115 ∷ 101 ∷ 100 ∷ 32 ∷ []
+refusedWord = ascii "refused "
 
 -- "refused 7 2", where 2 were refused by 7; a number that did not occur has no line
 abbrev pub refusedLine : ℕ → ℕ → List ℕ
-refusedLine number n = pick (eqb n 0) [] ((refusedWord ++ decimal number) ++ ((32 ∷ []) ++ decimal n ++ 10 ∷ []))
+refusedLine number n = pick (eqb n 0) [] ((refusedWord ++ decimal number) ++ (ascii " " ++ decimal n ++ ascii "\n"))
 
 -- those of the numbers below n, rising
 abbrev pub refusedLines : ℕ → List ℕ → List ℕ
@@ -29,14 +30,14 @@ refusedLines (suc n) refused = refusedLines n refused ++ refusedLine n (getD ref
 
 -- "lists 3"
 abbrev pub listsLine : ℕ → List ℕ
-listsLine n = (108 ∷ 105 ∷ 115 ∷ 116 ∷ 115 ∷ 32 ∷ []) ++ decimal n ++ 10 ∷ []
+listsLine n = ascii "lists " ++ decimal n ++ ascii "\n"
 
 -- "tile 9 pits 14 sure 11"
 abbrev pub tileLine : ℕ → ℕ → ℕ → List ℕ
 tileLine tile pits sure =
-    ((116 ∷ 105 ∷ 108 ∷ 101 ∷ 32 ∷ []) ++ decimal tile)
-    ++ ((32 ∷ 112 ∷ 105 ∷ 116 ∷ 115 ∷ 32 ∷ []) ++ decimal pits)
-    ++ ((32 ∷ 115 ∷ 117 ∷ 114 ∷ 101 ∷ 32 ∷ []) ++ decimal sure ++ 10 ∷ [])
+    (ascii "tile " ++ decimal tile)
+    ++ (ascii " pits " ++ decimal pits)
+    ++ (ascii " sure " ++ decimal sure ++ ascii "\n")
 
 -- those of the first n tiles
 abbrev pub tileLines : ℕ → List ℕ → List ℕ → List ℕ → List ℕ
@@ -45,4 +46,4 @@ tileLines (suc n) tile pits sure = tileLines n tile pits sure ++ tileLine (getD 
 
 -- "refused 43", the one line of a count that is refused
 abbrev pub refusalLine : ℕ → List ℕ
-refusalLine number = refusedWord ++ decimal number ++ 10 ∷ []
+refusalLine number = refusedWord ++ decimal number ++ ascii "\n"

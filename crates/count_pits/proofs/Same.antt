@@ -3,9 +3,9 @@ use mathlib.Core.Path.{_≡_, refl, ap, _∙_}
 use mathlib.Core.List.{List, [], _∷_, _++_, map}
 use Prim.Native.Nat.{ℕ, zero, suc, _-_}
 use lib.ListN.{length, getD, replicate}
-use Rattle.counting.specs.Count.{Outcome, reported, noReport}
-use Rattle.counting.specs.Count as counting
-use Rattle.counting.specs.Report.{Line}
+use Rattle.count_rules.specs.Count.{Outcome, reported, noReport}
+use Rattle.count_rules.specs.Count as counting
+use Rattle.count_rules.specs.Report.{Line}
 use Rattle.count.specs.Counts.{zeros, padded, counted, given}
 use Rattle.count_lines.specs.Lines.{totalLines, refusedLines, listsLine, tileLine, tileLines}
 use Rattle.count_pits.specs.Lines.{outcomeLines, countLines}

@@ -2,8 +2,8 @@
 use mathlib.Core.List.{List, _++_, map}
 use Prim.Native.Nat.{ℕ}
 use lib.ListN.{length}
-use Rattle.counting.specs.Count.{Outcome, reported, noReport}
-use Rattle.counting.specs.Count as counting
+use Rattle.count_rules.specs.Count.{Outcome, reported, noReport}
+use Rattle.count_rules.specs.Count as counting
 use Rattle.count.specs.declared.Answer.{Answer}
 use Rattle.count.specs.declared.Answer.the-variants.{Given, Refused}
 use Rattle.count.specs.declared.Counted.{Counted}

@@ -4,7 +4,7 @@ ghost use Prim.Native.Nat.{_≤_};
 ghost use mathlib.Core.Path.{_≡_};
 ghost use Rattle.output.specs.Output.{Pours, lineLimit};
 ghost use lib.ListN.{length};
-ghost use Rattle.counting.specs.Count.{countLog};
+ghost use Rattle.count_rules.specs.Count.{countLog};
 ghost use Rattle.count_pits.specs.Lines.{outcomeLines, reportLines, countLines};
 use count::Answer;
 use count::Counted;

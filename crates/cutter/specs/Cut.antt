@@ -8,7 +8,7 @@ use lib.ListN.{length, take, drop}
 use Rattle.wire.specs.Bytes.{bytes}
 use Rattle.wire.specs.Overlay.{overlay}
 use Rattle.datagram.specs.Limits.{maxPayload, maxFragments, maxName}
-use Rattle.wire.specs.Choice.{pick}
+use Rattle.wire.specs.Choice.{pick, _when_else_}
 use Rattle.names.specs.Name.{goodName}
 use Rattle.datagram.specs.Read.{smallMagic, fragmentMagic}
 use Rattle.cutter.specs.Limits.{leastSize, mostSize}
@@ -81,16 +81,17 @@ says (Refused n) = refused n
 -- by the lengths alone
 unfoldable pub planOf : ℕ → ℕ → ℕ → ℕ → ℕ → Answer
 planOf c p m index room =
-    pick (ltb maxPayload p) (refused 6)
-    (pick (ltb maxFragments (countOf c p m)) (refused 11)
-    (pick (leb (countOf c p m) index) (refused 12)
-    (pick (ltb room (lengthOf c p m index)) (refused 13)
-    (gives (countOf c p m) (lengthOf c p m index)))))
+    refused 6 when ltb maxPayload p else
+    refused 11 when ltb maxFragments (countOf c p m) else
+    refused 12 when leb (countOf c p m) index else
+    refused 13 when ltb room (lengthOf c p m index) else
+    gives (countOf c p m) (lengthOf c p m index)
 
 unfoldable pub cutAnswer : List ℕ → List ℕ → ℕ → ℕ → ℕ → Answer
 cutAnswer name payload m index room =
-    pick (ltb m leastSize || ltb mostSize m) (refused 10)
-    (pick (goodName name) (planOf (length name) (length payload) m index room) (refused 4))
+    refused 10 when ltb m leastSize || ltb mostSize m else
+    planOf (length name) (length payload) m index room when goodName name else
+    refused 4
 
 -- a refusal leaves the output; else the datagram stands at its start
 abbrev pub cutOutput : Answer → List ℕ → List ℕ → List ℕ

@@ -5,7 +5,7 @@ use Prim.Native.Nat.{ℕ, _+_, _-_}
 use lib.Dec.{eqb, leb, ltb}
 use lib.ListN.{length, take, drop}
 use Rattle.wire.specs.Bytes.{be}
-use Rattle.wire.specs.Choice.{pick}
+use Rattle.wire.specs.Choice.{pick, _when_else_}
 use Rattle.forms.specs.Form.{goodFragment}
 use Rattle.datagram.specs.Limits.{maxDatagram}
 use Rattle.datagram.specs.Name.{nameLength}
@@ -102,20 +102,20 @@ zeroTo d (Long c) = formed d (place 20 c) (21 + c)
 
 unfoldable pub readFragment : ℕ → ℕ → List ℕ → Read
 readFragment maxSize maxCount d =
-    pick (eqb (countIn d) 0 || (ltb maxCount (countIn d) || leb (countIn d) (numberIn d))) (Refused 5)
-    (pick (ltb maxSize (sizeIn d)) (Refused 6)
-    (pick (eqb (numberIn d) 0) (zeroTo d (nameLength (drop 20 d))) (formed d (place 20 0) 20)))
+    Refused 5 when eqb (countIn d) 0 || (ltb maxCount (countIn d) || leb (countIn d) (numberIn d)) else
+    Refused 6 when ltb maxSize (sizeIn d) else
+    zeroTo d (nameLength (drop 20 d)) when eqb (numberIn d) 0 else
+    formed d (place 20 0) 20
 
 -- ---- any bytes
 
 unfoldable pub readDatagram : ℕ → ℕ → List ℕ → Read
 readDatagram maxSize maxCount d =
-    pick (ltb maxDatagram (length d)) (Refused 3)
-    (pick (ltb (length d) 8) (Refused 1)
-    (pick (eqb (magicIn d) smallMagic) (readSmall d)
-    (pick (eqb (magicIn d) fragmentMagic)
-    (pick (ltb (length d) 20) (Refused 1) (readFragment maxSize maxCount d))
-    (Refused 2))))
+    Refused 3 when ltb maxDatagram (length d) else
+    Refused 1 when ltb (length d) 8 else
+    readSmall d when eqb (magicIn d) smallMagic else
+    pick (ltb (length d) 20) (Refused 1) (readFragment maxSize maxCount d) when eqb (magicIn d) fragmentMagic else
+    Refused 2
 
 -- ---- a part of the datagram, by its place
 

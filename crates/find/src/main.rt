@@ -6,7 +6,7 @@ ghost use lib.ListN.{length};
 ghost use Rattle.output.specs.Output.{Pours, lineLimit};
 ghost use Rattle.find.specs.Numbers.{withDigit, numberIn, says};
 ghost use Rattle.find.specs.Said.{keyLine};
-use indexing::Indexed;
+use index_builder::Indexed;
 use stream::All;
 
 // The largest sender and the largest sequence.
@@ -63,7 +63,7 @@ fn number_in(text: &[u8], most: u64) -> Number
 fn answer(log: &[u8], index: &mut [u64], out: &mut [u8], sender: u64, sequence: u64) -> usize
     ensures { λ r. ⌜ Pours (now (out .entry)) 0 (keyLine (length (now (index .entry))) (now (log .entry)) sender sequence) (now (out .exit)) r ⌝ }
 {
-    let indexed = indexing::index_log(log, &mut *index);
+    let indexed = index_builder::index_log(log, &mut *index);
     match indexed {
         Indexed::Entries(n) => index_lines::pour_found(
             out,

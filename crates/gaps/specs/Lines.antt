@@ -2,6 +2,7 @@
 use mathlib.Core.Path.{_≡_}
 use mathlib.Core.List.{List, [], _∷_, _++_}
 use Prim.Native.Nat.{ℕ}
+use Rattle.wire.specs.Text.{ascii}
 use Rattle.datagram.specs.declared.Read.{Read}
 use Rattle.datagram.specs.declared.Read.the-variants.{Good, Refused}
 use Rattle.datagram.specs.Limits.{maxPayload, maxFragments}
@@ -27,12 +28,12 @@ pub record Judged (w : Watch) (d : List ℕ) (r : Seen) : Type 0 where
 
 -- " first", " forward 3", " same", " late 2", " restarted 7" or " refused 4", and the end of the line
 abbrev pub answerText : Noted → List ℕ
-answerText first = 32 ∷ 102 ∷ 105 ∷ 114 ∷ 115 ∷ 116 ∷ 10 ∷ []
-answerText (forward missing) = (32 ∷ 102 ∷ 111 ∷ 114 ∷ 119 ∷ 97 ∷ 114 ∷ 100 ∷ 32 ∷ []) ++ decimal missing ++ 10 ∷ []
-answerText same = 32 ∷ 115 ∷ 97 ∷ 109 ∷ 101 ∷ 10 ∷ []
-answerText (late by) = (32 ∷ 108 ∷ 97 ∷ 116 ∷ 101 ∷ 32 ∷ []) ++ decimal by ++ 10 ∷ []
-answerText (restarted number) = (32 ∷ 114 ∷ 101 ∷ 115 ∷ 116 ∷ 97 ∷ 114 ∷ 116 ∷ 101 ∷ 100 ∷ 32 ∷ []) ++ decimal number ++ 10 ∷ []
-answerText (refused number) = (32 ∷ 114 ∷ 101 ∷ 102 ∷ 117 ∷ 115 ∷ 101 ∷ 100 ∷ 32 ∷ []) ++ decimal number ++ 10 ∷ []
+answerText first = ascii " first\n"
+answerText (forward missing) = ascii " forward " ++ decimal missing ++ ascii "\n"
+answerText same = ascii " same\n"
+answerText (late by) = ascii " late " ++ decimal by ++ ascii "\n"
+answerText (restarted number) = ascii " restarted " ++ decimal number ++ ascii "\n"
+answerText (refused number) = ascii " refused " ++ decimal number ++ ascii "\n"
 
 -- line n
 abbrev pub line : ℕ → Noted → List ℕ

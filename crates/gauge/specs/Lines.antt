@@ -4,6 +4,7 @@ use mathlib.Core.List.{List, [], _∷_, _++_, map}
 use Prim.Native.Nat.{ℕ, zero, suc}
 use lib.Dec.{eqb}
 use lib.ListN.{length}
+use Rattle.wire.specs.Text.{ascii}
 use Rattle.wire.specs.Choice.{pick}
 use Rattle.watch.specs.Noted.{Noted, first, forward, same, late, restarted, refused}
 use Rattle.moss.specs.Limits.{letterU}
@@ -17,12 +18,12 @@ use Rattle.gauge.specs.declared.Step.{Step}
 
 -- " first", " forward 3", " same", " late 2", " restarted 7" or " refused 51"
 abbrev pub notedText : Noted → List ℕ
-notedText first = 32 ∷ 102 ∷ 105 ∷ 114 ∷ 115 ∷ 116 ∷ []
-notedText (forward missing) = (32 ∷ 102 ∷ 111 ∷ 114 ∷ 119 ∷ 97 ∷ 114 ∷ 100 ∷ 32 ∷ []) ++ decimal missing
-notedText same = 32 ∷ 115 ∷ 97 ∷ 109 ∷ 101 ∷ []
-notedText (late by) = (32 ∷ 108 ∷ 97 ∷ 116 ∷ 101 ∷ 32 ∷ []) ++ decimal by
-notedText (restarted number) = (32 ∷ 114 ∷ 101 ∷ 115 ∷ 116 ∷ 97 ∷ 114 ∷ 116 ∷ 101 ∷ 100 ∷ 32 ∷ []) ++ decimal number
-notedText (refused number) = (32 ∷ 114 ∷ 101 ∷ 102 ∷ 117 ∷ 115 ∷ 101 ∷ 100 ∷ 32 ∷ []) ++ decimal number
+notedText first = ascii " first"
+notedText (forward missing) = ascii " forward " ++ decimal missing
+notedText same = ascii " same"
+notedText (late by) = ascii " late " ++ decimal by
+notedText (restarted number) = ascii " restarted " ++ decimal number
+notedText (refused number) = ascii " refused " ++ decimal number
 
 -- each number after a space
 abbrev pub spaced : List ℕ → List ℕ
@@ -31,7 +32,7 @@ spaced (n ∷ l) = (32 ∷ decimal n) ++ spaced l
 
 -- " messages 5 0 12" for U, nothing for H and E
 abbrev pub messagesText : ℕ → List ℕ → List ℕ
-messagesText kind lengths = pick (eqb kind letterU) ((32 ∷ 109 ∷ 101 ∷ 115 ∷ 115 ∷ 97 ∷ 103 ∷ 101 ∷ 115 ∷ []) ++ spaced lengths) []
+messagesText kind lengths = pick (eqb kind letterU) (ascii " messages" ++ spaced lengths) []
 
 -- the lengths of the first k messages, by the n-th message
 abbrev pub firstLengths : Given Packet → ℕ → List ℕ
@@ -40,9 +41,9 @@ firstLengths g (suc k) = firstLengths g k ++ length (messageIn g k) ∷ []
 
 -- line n of a packet, of which so is noted
 abbrev pub line : ℕ → Given Packet → Noted → List ℕ
-line n (refuses number) noted = decimal n ++ notedText noted ++ 10 ∷ []
+line n (refuses number) noted = decimal n ++ notedText noted ++ ascii "\n"
 line n (gives p) noted =
-    decimal n ++ (32 ∷ p .kind ∷ []) ++ notedText noted ++ messagesText (p .kind) (map length (p .messages)) ++ 10 ∷ []
+    decimal n ++ (32 ∷ p .kind ∷ []) ++ notedText noted ++ messagesText (p .kind) (map length (p .messages)) ++ ascii "\n"
 
 -- packet b is heard, and line n goes out
 pub record Tells (g : Gauge) (b : List ℕ) (n : ℕ) (out : List ℕ) (at : ℕ) (out′ : List ℕ) (r : Step) : Type 0 where

@@ -10,7 +10,7 @@ use Rattle.wire.specs.Bytes.{be, Bytes}
 use Rattle.wire.specs.Overlay.{overlay}
 use Rattle.wire.proofs.Overlays.{overlay-eq, overlay-all}
 use Rattle.wire.proofs.Numbers.{be-lt}
-use Rattle.moss.specs.Limits.{sessionLength, maxPacket, tooShort}
+use Rattle.moss.specs.Limits.{sessionLength, maxPacket}
 use Rattle.moss.specs.Packet.{Given, gives, refuses}
 use Rattle.moss_writer.specs.Write.{writes}
 use Rattle.moss_writer.specs.Write.{packetBytes, writtenOf, outputOf, WritesPacket}
@@ -22,7 +22,7 @@ use Rattle.moss_writer.proofs.Trips.{packet-length}
 use Rattle.text.specs.Text.{decimal}
 use Rattle.gauge_bytes.specs.Lines.{recordHead, recordBytes, recordAnswer, answerText, line}
 
-pub answer-short : (b : List ℕ) → length b < recordHead → recordAnswer b ≡ refuses tooShort
+pub answer-short : (b : List ℕ) → length b < recordHead → recordAnswer b ≡ refuses 50
 unfolding recordAnswer
 answer-short b h = rw (lt-ltb (length b) recordHead h)
 

@@ -3,9 +3,10 @@ use mathlib.Core.List.{List, [], _∷_, _++_}
 use Prim.Native.Nat.{ℕ}
 use lib.Dec.{ltb}
 use lib.ListN.{length, getD, take, drop}
+use Rattle.wire.specs.Text.{ascii}
 use Rattle.wire.specs.Choice.{pick}
 use Rattle.wire.specs.Bytes.{be}
-use Rattle.moss.specs.Limits.{sessionLength, maxPacket, tooShort}
+use Rattle.moss.specs.Limits.{sessionLength, maxPacket}
 use Rattle.moss.specs.Packet.{Given, gives, refuses}
 use Rattle.moss_writer.specs.Write.{packetBytes, writtenOf}
 use Rattle.text.specs.Text.{decimal, hex}
@@ -19,12 +20,12 @@ recordBytes b = packetBytes (take sessionLength b) (be 4 (drop 10 b)) (getD b 14
 
 -- where it is whole, what the writer answers for an output of the longest packet
 unfoldable pub recordAnswer : List ℕ → Given ℕ
-recordAnswer b = pick (ltb (length b) recordHead) (refuses tooShort) (writtenOf (getD b 14 0) (drop recordHead b) maxPacket)
+recordAnswer b = pick (ltb (length b) recordHead) (refuses 50) (writtenOf (getD b 14 0) (drop recordHead b) maxPacket)
 
 -- " bytes " and the packet, or " refused 53", and the end of the line
 abbrev pub answerText : Given ℕ → List ℕ → List ℕ
-answerText (refuses number) b = (32 ∷ 114 ∷ 101 ∷ 102 ∷ 117 ∷ 115 ∷ 101 ∷ 100 ∷ 32 ∷ []) ++ decimal number ++ 10 ∷ []
-answerText (gives n) b = (32 ∷ 98 ∷ 121 ∷ 116 ∷ 101 ∷ 115 ∷ 32 ∷ []) ++ hex b ++ 10 ∷ []
+answerText (refuses number) b = ascii " refused " ++ decimal number ++ ascii "\n"
+answerText (gives n) b = ascii " bytes " ++ hex b ++ ascii "\n"
 
 -- line n
 abbrev pub line : ℕ → List ℕ → List ℕ

@@ -4,6 +4,7 @@ ghost use Prim.Native.Nat.{_≤_};
 ghost use mathlib.Core.Path.{_≡_};
 ghost use mathlib.Core.List.{[], _∷_, _++_};
 ghost use lib.ListN.{length, take, drop};
+ghost use Rattle.wire.specs.Text.{ascii};
 ghost use Rattle.wire.specs.Bytes.{be};
 ghost use Rattle.moss.specs.Limits.{maxPacket};
 ghost use Rattle.text.specs.Text.{decimal, hex};
@@ -29,14 +30,14 @@ fn word_at(b: &[u8], at: usize) -> u32
 }
 
 fn pour_refused(out: &mut [u8], at: usize, number: u32) -> usize
-    ensures { λ r. ⌜ Pours (now (out .entry)) at ((32 ∷ 114 ∷ 101 ∷ 102 ∷ 117 ∷ 115 ∷ 101 ∷ 100 ∷ 32 ∷ []) ++ decimal number ++ 10 ∷ []) (now (out .exit)) r ⌝ }
+    ensures { λ r. ⌜ Pours (now (out .entry)) at (ascii " refused " ++ decimal number ++ ascii "\n") (now (out .exit)) r ⌝ }
 {
     output::pour_counted_line(out, at, b" refused ", number as u64)
 }
 
 // The first n bytes of the packet, in hexadecimal.
 fn pour_bytes(out: &mut [u8], at: usize, packet: &[u8], n: usize) -> usize
-    ensures { λ r. ⌜ Pours (now (out .entry)) at ((32 ∷ 98 ∷ 121 ∷ 116 ∷ 101 ∷ 115 ∷ 32 ∷ []) ++ hex (take n (now (packet .entry))) ++ 10 ∷ []) (now (out .exit)) r ⌝ }
+    ensures { λ r. ⌜ Pours (now (out .entry)) at (ascii " bytes " ++ hex (take n (now (packet .entry))) ++ ascii "\n") (now (out .exit)) r ⌝ }
 {
     let a = output::pour(out, at, b" bytes ");
     let b = output::pour_hex(out, a, wire::part(packet, 0, n));
@@ -50,7 +51,7 @@ fn one_more(out: &mut [u8], at: usize, n: u64, packet: &mut [u8], b: &[u8]) -> u
 {
     let next = output::pour_decimal(out, at, n);
     if b.len() < RECORD_HEAD {
-        return pour_refused(out, next, moss::TOO_SHORT);
+        return pour_refused(out, next, 50);
     }
     let session = moss::session_at(b, 0);
     let sequence = word_at(b, SEQUENCE_AT);

@@ -12,9 +12,9 @@ use Rattle.wire.proofs.Once.{one-answer}
 use Rattle.datagram.specs.Limits.{maxDatagram, maxPayload}
 use Rattle.log.specs.Editions.{edition2, headBytes}
 use Rattle.log.specs.Entries.{Entry, entryBytes}
-use Rattle.log_writer.specs.Writes.{Answer, wrote, refused, says, fitted, beginAnswer, appendAnswer, output, Began, Appended}
-use Rattle.log_writer.specs.declared.Written.{Written}
-use Rattle.log_writer.proofs.Writing.{entry-most, seven-most}
+use Rattle.log_append.specs.Writes.{Answer, wrote, refused, says, fitted, beginAnswer, appendAnswer, output, Began, Appended}
+use Rattle.log_append.specs.declared.Written.{Written}
+use Rattle.log_append.proofs.Writing.{entry-most, seven-most}
 use Rattle.host.specs.Flight.{lengthCode, Spans, BeginTold, AppendTold, logLength}
 
 spans-fitted : (n at : ℕ) (b : List ℕ) → length b < 2 ^ 32 → Spans at (fitted n at b)

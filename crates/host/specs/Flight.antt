@@ -5,7 +5,7 @@ use Prim.Native.Nat.{ℕ, _-_, _*_, _/_, _^_, _≤_, _<_}
 use lib.ListN.{length}
 use Rattle.log.specs.Editions.{edition2, headBytes}
 use Rattle.log.specs.Entries.{Entry, entryBytes}
-use Rattle.log_writer.specs.Writes.{Answer, wrote, refused, beginAnswer, appendAnswer, output}
+use Rattle.log_append.specs.Writes.{Answer, wrote, refused, beginAnswer, appendAnswer, output}
 
 -- how many bytes were written at the place, times 2^32; or the refusal number alone
 abbrev pub lengthCode : ℕ → Answer → ℕ

@@ -1,9 +1,9 @@
 // Keeping a flight: a log in lent memory, entry by entry.
 ghost use mathlib.Core.Path.{_≡_};
 ghost use Rattle.log.specs.Entries.{entryOf};
-ghost use Rattle.log_writer.specs.Writes.{says};
+ghost use Rattle.log_append.specs.Writes.{says};
 ghost use Rattle.host.specs.Flight.{lengthCode, Spans, BeginTold, AppendTold};
-use log_writer::Written;
+use log_append::Written;
 
 // How many bytes were written at a place, times 2^32, or the number of the refusal.
 fn told(at: usize, written: Written) -> u64
@@ -21,7 +21,7 @@ fn told(at: usize, written: Written) -> u64
 pub extern "C" fn qm_log_begin(out: &mut [u8], limit: u64) -> u64
     ensures { λ r. ⌜ BeginTold (now (out .entry)) limit r (now (out .exit)) ⌝ }
 {
-    told(0, log_writer::begin(out, limit))
+    told(0, log_append::begin(out, limit))
 }
 
 // Writes one entry at a place of out: its length times 2^32, or the number of the refusal.
@@ -35,5 +35,5 @@ pub extern "C" fn qm_log_append(
 ) -> u64
     ensures { λ r. ⌜ AppendTold (now (out .entry)) at (entryOf sender tick (now (datagram .entry))) r (now (out .exit)) ⌝ }
 {
-    told(at, log_writer::append(out, at, sender, tick, datagram))
+    told(at, log_append::append(out, at, sender, tick, datagram))
 }

@@ -1,6 +1,7 @@
 // The count for a C host: its report as a run of numbers in a lent list.
 ghost use mathlib.Core.Path.{_≡_};
 ghost use Rattle.wire.specs.Overlay.{overlay};
+ghost use Rattle.count.specs.Counts.{loanBefore, loanAfter};
 ghost use Rattle.host_count.specs.Numbers.{numbersOf};
 ghost use Rattle.host_count.specs.Told.{CountTold};
 use count::Answer;
@@ -51,8 +52,7 @@ pub extern "C" fn qm_count(
     numbers: &mut [i64],
     report: &mut [u64],
 ) -> u32
-    ensures { λ r. ⌜ CountTold (now (log .entry)) (now (store .entry)) (now (ledger .entry)) (now (numbers .entry)) (now (report .entry)) r
-        (now (store .exit)) (now (ledger .exit)) (now (numbers .exit)) (now (report .exit)) ⌝ }
+    ensures { λ r. ⌜ CountTold (now (log .entry)) (loanBefore store ledger numbers) (now (report .entry)) r (loanAfter store ledger numbers) (now (report .exit)) ⌝ }
 {
     if report.len() < REPORT {
         return 13;

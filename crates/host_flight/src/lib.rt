@@ -14,16 +14,13 @@ pub const HEAD: usize = 3;
 
 pub const ENTRY: usize = 6;
 
-// A lent list is too short.
-pub const TOO_SHORT: u32 = 13;
-
 // Judges the head of a log: 0, with where the first entry begins and the log's limits at the start of a lent list, or the number of the refusal.
 #[no_mangle]
 pub extern "C" fn qm_log_first(log: &[u8], head: &mut [u64]) -> u32
     ensures { λ r. ⌜ FirstTold (now (log .entry)) (now (head .entry)) r (now (head .exit)) ⌝ }
 {
     if head.len() < HEAD {
-        return TOO_SHORT;
+        return 13;
     }
     let first = log::first_entry(log);
     match first {
@@ -65,7 +62,7 @@ pub extern "C" fn qm_log_next(log: &[u8], at: usize, entry: &mut [u64]) -> u32
     ensures { λ r. ⌜ NextTold (now (log .entry)) at (now (entry .entry)) r (now (entry .exit)) ⌝ }
 {
     if entry.len() < ENTRY {
-        return TOO_SHORT;
+        return 13;
     }
     let step = log::next_entry(log, at);
     match step {

@@ -14,11 +14,11 @@ use Rattle.wire.proofs.Once.{one-answer}
 use Rattle.log_index.specs.Index.{Gathered, gathered, stopped, rowsIn, firstEntry, holds, noRoom, answerOf}
 use Rattle.log_index.specs.Words.{foundIn, says}
 use Rattle.log_index.specs.declared.Found.{Found}
-use Rattle.indexing.specs.Adds as adds
-use Rattle.indexing.specs.declared.Indexed.{Indexed}
-use Rattle.indexing.specs.declared.Indexed.the-variants.{Entries}
-use Rattle.indexing.proofs.Answers.{room-rows, answer-full, answer-holds}
-use Rattle.indexing.proofs.Promises.{index-left, finds-first}
+use Rattle.index_builder.specs.Adds as adds
+use Rattle.index_builder.specs.declared.Indexed.{Indexed}
+use Rattle.index_builder.specs.declared.Indexed.the-variants.{Entries}
+use Rattle.index_builder.proofs.Answers.{room-rows, answer-full, answer-holds}
+use Rattle.index_builder.proofs.Promises.{index-left, finds-first}
 use Rattle.host_index.specs.Told.{indexCode, indexRows, Few, IndexTold, placeCount, placeNumbers, FindTold}
 
 -- ---- an index has at most 4,096 rows

@@ -10,7 +10,7 @@ use Rattle.wire.specs.Overlay.{overlay}
 use Rattle.log_index.specs.Limits.{maxIndex}
 use Rattle.log_index.specs.Index.{rowsIn, Answer, holds, refuses, answerOf}
 use Rattle.log_index.specs.Words.{foundIn}
-use Rattle.indexing.specs.Adds.{indexWords}
+use Rattle.index_builder.specs.Adds.{indexWords}
 
 -- ---- the index: 2^32 and how many rows it has, or the refusal number alone
 

@@ -1,16 +1,13 @@
 // The index of a log for the van's C host, and where the first entry of a key begins.
 ghost use mathlib.Core.Path.{_≡_};
-ghost use Rattle.indexing.specs.Adds as indexing;
+ghost use Rattle.index_builder.specs.Adds as indexing;
 ghost use Rattle.log_index.specs.Words.{says};
 ghost use Rattle.host_index.specs.Told.{indexCode, Few, IndexTold, placeNumbers, FindTold};
-use indexing::Indexed;
+use index_builder::Indexed;
 use log_index::Found;
 
 // How many numbers tell of a key.
 pub const PLACE: usize = 2;
-
-// A lent list is too short.
-pub const TOO_SHORT: u32 = 13;
 
 // 2^32 and how many rows there are, or the number of the refusal.
 fn told(indexed: Indexed) -> u64
@@ -28,7 +25,7 @@ fn told(indexed: Indexed) -> u64
 pub extern "C" fn qm_index(log: &[u8], index: &mut [u64]) -> u64
     ensures { λ r. ⌜ IndexTold (now (log .entry)) (now (index .entry)) r (now (index .exit)) ⌝ }
 {
-    told(indexing::index_log(log, index))
+    told(index_builder::index_log(log, index))
 }
 
 fn place_numbers(found: Found) -> [u64; PLACE]
@@ -52,7 +49,7 @@ pub extern "C" fn qm_find(
     ensures { λ r. ⌜ FindTold (now (index .entry)) rows sender sequence (now (place .entry)) r (now (place .exit)) ⌝ }
 {
     if place.len() < PLACE {
-        return TOO_SHORT;
+        return 13;
     }
     let found = log_index::find(index, rows, sender, words::as_word(sequence));
     let numbers = place_numbers(found);

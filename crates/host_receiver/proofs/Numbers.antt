@@ -10,6 +10,7 @@ use Rattle.steps.specs.declared.PayloadAt.the-variants.{InDatagram, InStore}
 use Rattle.steps.specs.declared.Answer.{Answer}
 use Rattle.steps.specs.declared.Answer.the-variants.{Refused, Kept, Repeat, Delivered}
 use Rattle.receiver.specs.declared.Outcome.{Outcome}
+use Rattle.wire.specs.Slices.{Buffer}
 use Rattle.host_receiver.specs.Outcomes.{placeNumbers, answerNumbers, outcomeNumbers, answerCode, unlessRefused, Writes, Tells}
 
 place-four : (p : PayloadAt) (len : ℕ) → length (placeNumbers p len) ≡ 4
@@ -28,10 +29,13 @@ two-runs d s t x y s′ t′ at p q e f n =
     overlay-next d s′ t′ x y at (p ∙ ap (overlay d 0) e) (sym n) (q ∙ ap (overlay x at) f)
 
 -- an answer that is no refusal: its outcome is written
-pub done-tells : (o : Outcome) (told name : List ℕ) (answer : ℕ) (told′ name′ : List ℕ) (a : Answer) → o .answer ≡ a → answerCode a ≡ 0
-    → ((l m : List ℕ) → unlessRefused a l m ≡ m) → Writes o told name answer told′ name′ → Tells o told name answer told′ name′
-done-tells o told name answer told′ name′ a e z u w = record {
+pub done-tells : (o : Outcome) (told name : Buffer) (answer : ℕ) (a : Answer) → o .answer ≡ a → answerCode a ≡ 0
+    → ((l m : List ℕ) → unlessRefused a l m ≡ m) → Writes o told name answer → Tells o told name answer
+done-tells o told name answer a e z u w = record {
   gave = w .gave ∙ sym (ap answerCode e ∙ z);
-  numbers = w .numbers ∙ sym (ap (λ (b : Answer). unlessRefused b told (overlay told 0 (outcomeNumbers o))) e ∙ u told (overlay told 0 (outcomeNumbers o)));
-  bytes = w .bytes ∙ sym (ap (λ (b : Answer). unlessRefused b name (overlay name 0 (o .name))) e ∙ u name (overlay name 0 (o .name)));
+  numbers = w .numbers ∙ stays (told .before) (outcomeNumbers o);
+  bytes = w .bytes ∙ stays (name .before) (o .name);
 }
+  where
+    stays : (x y : List ℕ) → overlay x 0 y ≡ unlessRefused (o .answer) x (overlay x 0 y)
+    stays x y = sym (ap (λ (b : Answer). unlessRefused b x (overlay x 0 y)) e ∙ u x (overlay x 0 y))

@@ -5,66 +5,56 @@ use mathlib.Core.List.{List}
 use Prim.Native.Nat.{ℕ}
 use Rattle.wire.specs.Overlay.{overlay}
 use Rattle.wire.proofs.Choices.{either}
+use Rattle.receiver.specs.Lent.{Lent}
 use Rattle.receiver.specs.Calls.{Receives}
 use Rattle.receiver.specs.declared.Outcome.{Outcome}
 use Rattle.receiver_laws.proofs.Once.{Same, receive-once}
 use Rattle.log.specs.declared.reader.Limits.{Limits}
-use Rattle.bounded.specs.Within.{ReceivesWithin}
-use Rattle.bounded.proofs.Once.{within-once}
+use Rattle.within_limits.specs.Within.{ReceivesWithin}
+use Rattle.within_limits.proofs.Once.{within-once}
+use Rattle.wire.specs.Slices.{_⇒_}
 use Rattle.host_receiver.specs.Outcomes.{outcomeNumbers, answerCode, unlessRefused}
-use Rattle.host_receiver.specs.Calls.{lacking, Untouched, Heard, ReceiveTold, WithinTold}
+use Rattle.host_receiver.specs.Calls.{lacking, Untouched, Heard, Told, ReceiveTold, WithinTold}
 
-pub record Alone (x y : ℕ) (w n store ledger told name w′ n′ store′ ledger′ told′ name′ : List ℕ) : Type 0 where
+pub record Alone (x y : ℕ) (l1 l2 : Lent) (t1 t2 m1 m2 : List ℕ) : Type 0 where
   pub answer : x ≡ y
-  pub words : w ≡ w′
-  pub names : n ≡ n′
-  pub bytes : store ≡ store′
-  pub entries : ledger ≡ ledger′
-  pub list : told ≡ told′
-  pub given : name ≡ name′
+  pub lent : l1 ≡ l2
+  pub list : t1 ≡ t2
+  pub given : m1 ≡ m2
 
-module _ (w n store ledger : List ℕ) (sender : ℕ) (d told name : List ℕ) (x y : ℕ) (w1 n1 s1 l1 t1 m1 w2 n2 s2 l2 t2 m2 : List ℕ) where
-  untouched-once : Untouched w n store ledger told name x w1 n1 s1 l1 t1 m1 → Untouched w n store ledger told name y w2 n2 s2 l2 t2 m2
-      → Alone x y w1 n1 s1 l1 t1 m1 w2 n2 s2 l2 t2 m2
+module _ (l : Lent) (told name : List ℕ) (x y : ℕ) (l1 l2 : Lent) (t1 t2 m1 m2 : List ℕ) where
+  untouched-once : Untouched l (told ⇒ t1) (name ⇒ m1) x l1 → Untouched l (told ⇒ t2) (name ⇒ m2) y l2 → Alone x y l1 l2 t1 t2 m1 m2
   untouched-once A B = record {
     answer = A .gave ∙ sym (B .gave);
-    words = A .words ∙ sym (B .words);
-    names = A .names ∙ sym (B .names);
-    bytes = A .bytes ∙ sym (B .bytes);
-    entries = A .entries ∙ sym (B .entries);
+    lent = A .stays ∙ sym (B .stays);
     list = A .list ∙ sym (B .list);
     given = A .given ∙ sym (B .given);
   }
 
-  -- a call that has one outcome is told once
-  heard-once : (call : Outcome → List ℕ → List ℕ → List ℕ → List ℕ → Type 0)
-      → ((r s : Outcome) → call r w1 n1 s1 l1 → call s w2 n2 s2 l2 → Same r s w1 n1 s1 l1 w2 n2 s2 l2)
-      → Heard call told name x w1 n1 s1 l1 t1 m1 → Heard call told name y w2 n2 s2 l2 t2 m2 → Alone x y w1 n1 s1 l1 t1 m1 w2 n2 s2 l2 t2 m2
-  heard-once call once A B =
-      let e : Same (A .outcome) (B .outcome) w1 n1 s1 l1 w2 n2 s2 l2 = once (A .outcome) (B .outcome) (A .receives) (B .receives) in
-      let p = A .tells in
-      let q = B .tells in
-      record {
-        answer = p .gave ∙ ap (λ (o : Outcome). answerCode (o .answer)) (e .outcome) ∙ sym (q .gave);
-        words = e .words;
-        names = e .names;
-        bytes = e .bytes;
-        entries = e .numbers;
-        list = p .numbers ∙ ap (λ (o : Outcome). unlessRefused (o .answer) told (overlay told 0 (outcomeNumbers o))) (e .outcome) ∙ sym (q .numbers);
-        given = p .bytes ∙ ap (λ (o : Outcome). unlessRefused (o .answer) name (overlay name 0 (o .name))) (e .outcome) ∙ sym (q .bytes);
-      }
+  module _ (call : Outcome → Lent → Type 0) (once : (r s : Outcome) → call r l1 → call s l2 → Same r s l1 l2) where
+    -- a call that has one outcome is told once
+    heard-once : Heard call (told ⇒ t1) (name ⇒ m1) x l1 → Heard call (told ⇒ t2) (name ⇒ m2) y l2 → Alone x y l1 l2 t1 t2 m1 m2
+    heard-once A B =
+        let e : Same (A .outcome) (B .outcome) l1 l2 = once (A .outcome) (B .outcome) (A .receives) (B .receives) in
+        let p = A .tells in
+        let q = B .tells in
+        record {
+          answer = p .gave ∙ ap (λ (o : Outcome). answerCode (o .answer)) (e .outcome) ∙ sym (q .gave);
+          lent = e .lent;
+          list = p .numbers ∙ ap (λ (o : Outcome). unlessRefused (o .answer) told (overlay told 0 (outcomeNumbers o))) (e .outcome) ∙ sym (q .numbers);
+          given = p .bytes ∙ ap (λ (o : Outcome). unlessRefused (o .answer) name (overlay name 0 (o .name))) (e .outcome) ∙ sym (q .bytes);
+        }
 
-  pub receive-told-once : ReceiveTold w n store ledger sender d told name x w1 n1 s1 l1 t1 m1 → ReceiveTold w n store ledger sender d told name y w2 n2 s2 l2 t2 m2
-      → Alone x y w1 n1 s1 l1 t1 m1 w2 n2 s2 l2 t2 m2
-  receive-told-once A B = elim (either (lacking told name)) [
-    | inl t ↦ untouched-once (A .short t) (B .short t)
-    | inr f ↦ heard-once (Receives w n store ledger sender d) (λ r s p q. receive-once w n store ledger sender d r s w1 n1 s1 l1 w2 n2 s2 l2 p q) (A .heard f) (B .heard f)
-  ]
+    told-once : Told call l (told ⇒ t1) (name ⇒ m1) x l1 → Told call l (told ⇒ t2) (name ⇒ m2) y l2 → Alone x y l1 l2 t1 t2 m1 m2
+    told-once A B = elim (either (lacking told name)) [
+      | inl t ↦ untouched-once (A .short t) (B .short t)
+      | inr f ↦ heard-once (A .heard f) (B .heard f)
+    ]
 
-  pub within-told-once : (l : Limits) → WithinTold l w n store ledger sender d told name x w1 n1 s1 l1 t1 m1 → WithinTold l w n store ledger sender d told name y w2 n2 s2 l2 t2 m2
-      → Alone x y w1 n1 s1 l1 t1 m1 w2 n2 s2 l2 t2 m2
-  within-told-once l A B = elim (either (lacking told name)) [
-    | inl t ↦ untouched-once (A .short t) (B .short t)
-    | inr f ↦
-        heard-once (ReceivesWithin l w n store ledger sender d) (λ r s p q. within-once l w n store ledger sender d r s w1 n1 s1 l1 w2 n2 s2 l2 p q) (A .heard f) (B .heard f)
-  ]
+  pub receive-told-once : (sender : ℕ) (d : List ℕ) → ReceiveTold l sender d (told ⇒ t1) (name ⇒ m1) x l1 → ReceiveTold l sender d (told ⇒ t2) (name ⇒ m2) y l2
+      → Alone x y l1 l2 t1 t2 m1 m2
+  receive-told-once sender d = told-once (Receives l sender d) (λ r s p q. receive-once l sender d r s l1 l2 p q)
+
+  pub within-told-once : (limits : Limits) (sender : ℕ) (d : List ℕ) → WithinTold limits l sender d (told ⇒ t1) (name ⇒ m1) x l1
+      → WithinTold limits l sender d (told ⇒ t2) (name ⇒ m2) y l2 → Alone x y l1 l2 t1 t2 m1 m2
+  within-told-once limits sender d = told-once (ReceivesWithin limits l sender d) (λ r s p q. within-once limits l sender d r s l1 l2 p q)

@@ -8,13 +8,12 @@ use lib.ListN.{length}
 use borrow.Author.Tests.{lt-ltb, le-ltb}
 use Rattle.wire.proofs.Choices.{never}
 use Rattle.datagram.specs.Limits.{maxName}
-use Rattle.receiver.specs.Calls.{Receives}
+use Rattle.receiver.specs.Lent.{Lent}
 use Rattle.receiver.specs.declared.Outcome.{Outcome}
-use Rattle.log.specs.declared.reader.Limits.{Limits}
-use Rattle.bounded.specs.Within.{ReceivesWithin}
 use Rattle.host_state.specs.Lengths.{outcomeCount}
+use Rattle.wire.specs.Slices.{Buffer, _⇒_}
 use Rattle.host_receiver.specs.Outcomes.{Tells}
-use Rattle.host_receiver.specs.Calls.{lacking, ReceiveTold, WithinTold}
+use Rattle.host_receiver.specs.Calls.{lacking, Told}
 
 -- ---- whether there is room
 
@@ -26,31 +25,16 @@ has-numbers told name h = rw (le-ltb (length told) outcomeCount h)
 
 -- ---- what is told then
 
-module _ (w n store ledger : List ℕ) (sender : ℕ) (d told name : List ℕ) where
-  pub short-told : lacking told name ≡ true → ReceiveTold w n store ledger sender d told name 13 w n store ledger told name
-  short-told t = record {
-    short = λ _. record { gave = refl; words = refl; names = refl; bytes = refl; entries = refl; list = refl; given = refl };
+module _ (call : Outcome → Lent → Type 0) (l : Lent) where
+  pub short-told : (told name : List ℕ) → lacking told name ≡ true → Told call l (told ⇒ told) (name ⇒ name) 13 l
+  short-told told name t = record {
+    short = λ _. record { gave = refl; stays = refl; list = refl; given = refl };
     heard = λ f. never t f;
   }
 
-  pub heard-told : (o : Outcome) (answer : ℕ) (w′ n′ store′ ledger′ told′ name′ : List ℕ) → lacking told name ≡ false
-      → Receives w n store ledger sender d o w′ n′ store′ ledger′ → Tells o told name answer told′ name′
-      → ReceiveTold w n store ledger sender d told name answer w′ n′ store′ ledger′ told′ name′
-  heard-told o answer w′ n′ store′ ledger′ told′ name′ f r t = record {
-    short = λ e. never e f;
-    heard = λ _. record { outcome = o; receives = r; tells = t };
-  }
-
-  pub short-within : (l : Limits) → lacking told name ≡ true → WithinTold l w n store ledger sender d told name 13 w n store ledger told name
-  short-within l t = record {
-    short = λ _. record { gave = refl; words = refl; names = refl; bytes = refl; entries = refl; list = refl; given = refl };
-    heard = λ f. never t f;
-  }
-
-  pub heard-within : (l : Limits) (o : Outcome) (answer : ℕ) (w′ n′ store′ ledger′ told′ name′ : List ℕ) → lacking told name ≡ false
-      → ReceivesWithin l w n store ledger sender d o w′ n′ store′ ledger′ → Tells o told name answer told′ name′
-      → WithinTold l w n store ledger sender d told name answer w′ n′ store′ ledger′ told′ name′
-  heard-within l o answer w′ n′ store′ ledger′ told′ name′ f r t = record {
+  pub heard-told : (told name : Buffer) (o : Outcome) (answer : ℕ) (l′ : Lent) → lacking (told .before) (name .before) ≡ false
+      → call o l′ → Tells o told name answer → Told call l told name answer l′
+  heard-told told name o answer l′ f r t = record {
     short = λ e. never e f;
     heard = λ _. record { outcome = o; receives = r; tells = t };
   }

@@ -6,11 +6,13 @@ use Prim.Native.Nat.{ℕ}
 use lib.Dec.{ltb}
 use lib.ListN.{length}
 use Rattle.datagram.specs.Limits.{maxName}
+use Rattle.receiver.specs.Lent.{Lent}
 use Rattle.receiver.specs.Calls.{Receives}
 use Rattle.receiver.specs.declared.Outcome.{Outcome}
 use Rattle.log.specs.declared.reader.Limits.{Limits}
-use Rattle.bounded.specs.Within.{ReceivesWithin}
+use Rattle.within_limits.specs.Within.{ReceivesWithin}
 use Rattle.host_state.specs.Lengths.{outcomeCount}
+use Rattle.wire.specs.Slices.{Buffer}
 use Rattle.host_receiver.specs.Outcomes.{Tells}
 
 -- what is lent for the outcome has no room for it
@@ -18,26 +20,26 @@ abbrev pub lacking : List ℕ → List ℕ → Bool
 lacking told name = ltb (length told) outcomeCount || ltb (length name) maxName
 
 -- 13, and all that was lent stays
-pub record Untouched (w n store ledger told name : List ℕ) (answer : ℕ) (w′ n′ store′ ledger′ told′ name′ : List ℕ) : Type 0 where
+pub record Untouched (l : Lent) (told name : Buffer) (answer : ℕ) (l′ : Lent) : Type 0 where
   pub gave : answer ≡ 13
-  pub words : w′ ≡ w
-  pub names : n′ ≡ n
-  pub bytes : store′ ≡ store
-  pub entries : ledger′ ≡ ledger
-  pub list : told′ ≡ told
-  pub given : name′ ≡ name
+  pub stays : l′ ≡ l
+  pub list : told .after ≡ told .before
+  pub given : name .after ≡ name .before
 
--- the receiver's own call, and its outcome told. A call is what holds of its outcome and of words, names, store and ledger afterwards
-pub record Heard (call : Outcome → List ℕ → List ℕ → List ℕ → List ℕ → Type 0) (told name : List ℕ) (answer : ℕ) (w′ n′ store′ ledger′ told′ name′ : List ℕ) : Type 0 where
+-- the receiver's own call, and its outcome told. A call is what holds of its outcome and of what is lent afterwards
+pub record Heard (call : Outcome → Lent → Type 0) (told name : Buffer) (answer : ℕ) (l′ : Lent) : Type 0 where
   pub outcome : Outcome
-  pub receives : call outcome w′ n′ store′ ledger′
-  pub tells : Tells outcome told name answer told′ name′
+  pub receives : call outcome l′
+  pub tells : Tells outcome told name answer
 
-pub record ReceiveTold (w n store ledger : List ℕ) (sender : ℕ) (d told name : List ℕ) (answer : ℕ) (w′ n′ store′ ledger′ told′ name′ : List ℕ) : Type 0 where
-  pub short : lacking told name ≡ true → Untouched w n store ledger told name answer w′ n′ store′ ledger′ told′ name′
-  pub heard : lacking told name ≡ false → Heard (Receives w n store ledger sender d) told name answer w′ n′ store′ ledger′ told′ name′
+-- either way: the room for an outcome is asked first
+pub record Told (call : Outcome → Lent → Type 0) (l : Lent) (told name : Buffer) (answer : ℕ) (l′ : Lent) : Type 0 where
+  pub short : lacking (told .before) (name .before) ≡ true → Untouched l told name answer l′
+  pub heard : lacking (told .before) (name .before) ≡ false → Heard call told name answer l′
+
+abbrev pub ReceiveTold : Lent → ℕ → List ℕ → Buffer → Buffer → ℕ → Lent → Type 0
+ReceiveTold l sender d told name answer l′ = Told (Receives l sender d) l told name answer l′
 
 -- out of a log with those limits
-pub record WithinTold (l : Limits) (w n store ledger : List ℕ) (sender : ℕ) (d told name : List ℕ) (answer : ℕ) (w′ n′ store′ ledger′ told′ name′ : List ℕ) : Type 0 where
-  pub short : lacking told name ≡ true → Untouched w n store ledger told name answer w′ n′ store′ ledger′ told′ name′
-  pub heard : lacking told name ≡ false → Heard (ReceivesWithin l w n store ledger sender d) told name answer w′ n′ store′ ledger′ told′ name′
+abbrev pub WithinTold : Limits → Lent → ℕ → List ℕ → Buffer → Buffer → ℕ → Lent → Type 0
+WithinTold limits l sender d told name answer l′ = Told (ReceivesWithin limits l sender d) l told name answer l′

@@ -11,6 +11,7 @@ use Rattle.steps.specs.declared.Answer.the-variants.{Refused, Kept, Repeat, Del
 use Rattle.steps.specs.declared.Emptied.{Emptied}
 use Rattle.steps.specs.declared.Emptied.the-variants.{Nobody, Was}
 use Rattle.receiver.specs.declared.Outcome.{Outcome}
+use Rattle.wire.specs.Slices.{Buffer}
 
 -- 3 delivered; 1 in the datagram, 2 in the store; the payload's place and length
 abbrev pub placeNumbers : PayloadAt → ℕ → List ℕ
@@ -47,13 +48,13 @@ unlessRefused Repeat lent new = new
 unlessRefused (Delivered place len) lent new = new
 
 -- the numbers and the name at the start of what was lent, whatever the answer
-pub record Writes (o : Outcome) (told name : List ℕ) (answer : ℕ) (told′ name′ : List ℕ) : Type 0 where
+pub record Writes (o : Outcome) (told name : Buffer) (answer : ℕ) : Type 0 where
   pub gave : answer ≡ 0
-  pub numbers : told′ ≡ overlay told 0 (outcomeNumbers o)
-  pub bytes : name′ ≡ overlay name 0 (o .name)
+  pub numbers : told .after ≡ overlay (told .before) 0 (outcomeNumbers o)
+  pub bytes : name .after ≡ overlay (name .before) 0 (o .name)
 
 -- as the answer has it
-pub record Tells (o : Outcome) (told name : List ℕ) (answer : ℕ) (told′ name′ : List ℕ) : Type 0 where
+pub record Tells (o : Outcome) (told name : Buffer) (answer : ℕ) : Type 0 where
   pub gave : answer ≡ answerCode (o .answer)
-  pub numbers : told′ ≡ unlessRefused (o .answer) told (overlay told 0 (outcomeNumbers o))
-  pub bytes : name′ ≡ unlessRefused (o .answer) name (overlay name 0 (o .name))
+  pub numbers : told .after ≡ unlessRefused (o .answer) (told .before) (overlay (told .before) 0 (outcomeNumbers o))
+  pub bytes : name .after ≡ unlessRefused (o .answer) (name .before) (overlay (name .before) 0 (o .name))

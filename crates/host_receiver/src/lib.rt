@@ -5,6 +5,8 @@ use steps::Answer;
 use steps::Emptied;
 use steps::PayloadAt;
 ghost use mathlib.Core.Path.{_≡_};
+ghost use Rattle.receiver.specs.Lent.{lentBefore, lentAfter};
+ghost use Rattle.wire.specs.Slices.{buffer};
 ghost use Rattle.host_receiver.specs.Outcomes.{placeNumbers, answerNumbers, emptiedNumbers, Writes, Tells};
 ghost use Rattle.host_receiver.specs.Calls.{lacking, ReceiveTold, WithinTold};
 
@@ -40,7 +42,7 @@ fn emptied_numbers(emptied: Emptied) -> [u64; 3]
 
 // The outcome's numbers and name.
 fn put_outcome(told: &mut [u64], name: &mut [u8], outcome: Outcome) -> u32
-    ensures { λ r. ⌜ Writes outcome (now (told .entry)) (now (name .entry)) r (now (told .exit)) (now (name .exit)) ⌝ }
+    ensures { λ r. ⌜ Writes outcome (buffer told) (buffer name) r ⌝ }
 {
     let answer = outcome.answer;
     let emptied = outcome.emptied;
@@ -55,7 +57,7 @@ fn put_outcome(told: &mut [u64], name: &mut [u8], outcome: Outcome) -> u32
 
 // Of a refusal its number is told, and nothing written.
 fn tell(told: &mut [u64], name: &mut [u8], outcome: Outcome) -> u32
-    ensures { λ r. ⌜ Tells outcome (now (told .entry)) (now (name .entry)) r (now (told .exit)) (now (name .exit)) ⌝ }
+    ensures { λ r. ⌜ Tells outcome (buffer told) (buffer name) r ⌝ }
 {
     let answer = outcome.answer;
     match answer {
@@ -88,11 +90,10 @@ pub extern "C" fn qm_receive(
     told: &mut [u64],
     name: &mut [u8],
 ) -> u32
-    ensures { λ r. ⌜ ReceiveTold (now (state .entry)) (now (names .entry)) (now (store .entry)) (now (ledger .entry)) sender (now (datagram .entry)) (now (told .entry))
-        (now (name .entry)) r (now (state .exit)) (now (names .exit)) (now (store .exit)) (now (ledger .exit)) (now (told .exit)) (now (name .exit)) ⌝ }
+    ensures { λ r. ⌜ ReceiveTold (lentBefore state names store ledger) sender (now (datagram .entry)) (buffer told) (buffer name) r (lentAfter state names store ledger) ⌝ }
 {
     if no_room(&*told, &*name) {
-        return host_state::TOO_SHORT;
+        return 13;
     }
     let outcome = receiver::receive(state, names, store, ledger, sender, datagram);
     tell(told, name, outcome)
@@ -112,14 +113,21 @@ pub extern "C" fn qm_receive_within(
     told: &mut [u64],
     name: &mut [u8],
 ) -> u32
-    ensures { λ r. ⌜ WithinTold (record { payload = payload; fragments = fragments }) (now (state .entry)) (now (names .entry)) (now (store .entry)) (now (ledger .entry)) sender
-        (now (datagram .entry)) (now (told .entry)) (now (name .entry)) r (now (state .exit)) (now (names .exit)) (now (store .exit)) (now (ledger .exit)) (now (told .exit))
-        (now (name .exit)) ⌝ }
+    ensures { λ r. ⌜ WithinTold (record { payload = payload; fragments = fragments }) (lentBefore state names store ledger) sender (now (datagram .entry))
+        (buffer told) (buffer name) r (lentAfter state names store ledger) ⌝ }
 {
     if no_room(&*told, &*name) {
-        return host_state::TOO_SHORT;
+        return 13;
     }
     let limits = Limits { payload, fragments };
-    let outcome = bounded::receive_within(state, names, store, ledger, limits, sender, datagram);
+    let outcome = within_limits::receive_within(
+        state,
+        names,
+        store,
+        ledger,
+        limits,
+        sender,
+        datagram,
+    );
     tell(told, name, outcome)
 }

@@ -5,7 +5,7 @@ use mathlib.Core.List.{List}
 use Prim.Native.Nat.{ℕ}
 use Rattle.receiver.specs.Calls.{refusalOf, Forgets}
 use Rattle.receiver.specs.declared.Call.{Call}
-use Rattle.receiver_ends.specs.Ends.{Opens}
+use Rattle.open_and_payload.specs.Ends.{Opens}
 
 -- 0, or the number of the refusal
 abbrev pub callCode : Option ℕ → ℕ

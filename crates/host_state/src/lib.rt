@@ -13,9 +13,6 @@ pub const OUTCOME: usize = ANSWERED + 3;
 // How many lengths there are.
 pub const LENGTHS: usize = 10;
 
-// What is lent is too short for what is to be told.
-pub const TOO_SHORT: u32 = 13;
-
 // ---- opening and forgetting
 
 fn call_code(call: Call) -> u32
@@ -32,7 +29,7 @@ fn call_code(call: Call) -> u32
 pub extern "C" fn qm_open(state: &mut [u64], names: &mut [u8], store_length: usize) -> u32
     ensures { λ r. ⌜ OpenTold (now (state .entry)) (now (names .entry)) «store_length» r (now (state .exit)) (now (names .exit)) ⌝ }
 {
-    call_code(receiver_ends::open(state, names, store_length))
+    call_code(open_and_payload::open(state, names, store_length))
 }
 
 // The sender's slots are freed and its remembered keys dropped: 0, or the number of the refusal.
@@ -51,7 +48,7 @@ pub extern "C" fn qm_lengths(lengths: &mut [u64]) -> u32
     ensures { λ r. ⌜ LengthsTold (now (lengths .entry)) r (now (lengths .exit)) ⌝ }
 {
     if lengths.len() < LENGTHS {
-        return TOO_SHORT;
+        return 13;
     }
     let all = [
         slots::SLOTS as u64,

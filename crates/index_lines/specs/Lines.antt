@@ -2,6 +2,7 @@
 use mathlib.Core.Option.{Option, none, some}
 use mathlib.Core.List.{List, [], _∷_, _++_}
 use Prim.Native.Nat.{ℕ}
+use Rattle.wire.specs.Text.{ascii}
 use Rattle.text.specs.Text.{decimal}
 use Rattle.log_index.specs.Rows.{Row}
 use Rattle.log_index.specs.Index.{Answer, holds, refuses}
@@ -9,18 +10,18 @@ use Rattle.log_index.specs.Index.{Answer, holds, refuses}
 -- "sender 7 sequence 12 place 1"
 abbrev pub rowLine : Row → List ℕ
 rowLine r =
-    ((115 ∷ 101 ∷ 110 ∷ 100 ∷ 101 ∷ 114 ∷ 32 ∷ []) ++ decimal (r .sender))
-    ++ ((32 ∷ 115 ∷ 101 ∷ 113 ∷ 117 ∷ 101 ∷ 110 ∷ 99 ∷ 101 ∷ 32 ∷ []) ++ decimal (r .sequence))
-    ++ ((32 ∷ 112 ∷ 108 ∷ 97 ∷ 99 ∷ 101 ∷ 32 ∷ []) ++ decimal (r .place) ++ 10 ∷ [])
+    (ascii "sender " ++ decimal (r .sender))
+    ++ (ascii " sequence " ++ decimal (r .sequence))
+    ++ (ascii " place " ++ decimal (r .place) ++ ascii "\n")
 
 -- "refused 44"
 abbrev pub refusedLine : ℕ → List ℕ
-refusedLine number = (114 ∷ 101 ∷ 102 ∷ 117 ∷ 115 ∷ 101 ∷ 100 ∷ 32 ∷ []) ++ decimal number ++ 10 ∷ []
+refusedLine number = ascii "refused " ++ decimal number ++ ascii "\n"
 
 -- "place 1", or "none"
 abbrev pub placeLine : Option ℕ → List ℕ
-placeLine (some place) = (112 ∷ 108 ∷ 97 ∷ 99 ∷ 101 ∷ 32 ∷ []) ++ decimal place ++ 10 ∷ []
-placeLine none = 110 ∷ 111 ∷ 110 ∷ 101 ∷ 10 ∷ []
+placeLine (some place) = ascii "place " ++ decimal place ++ ascii "\n"
+placeLine none = ascii "none\n"
 
 -- what is said of a key: the log's or the index's refusal, or the place of its first entry
 abbrev pub answerLine : Answer → Option ℕ → List ℕ

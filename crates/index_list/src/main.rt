@@ -4,7 +4,7 @@ ghost use lib.ListN.{length};
 ghost use Rattle.output.specs.Output.{Pours, lineLimit};
 ghost use Rattle.log_index.specs.Words.{rowAt};
 ghost use Rattle.index_lines.specs.Lines.{rowLine};
-use indexing::Indexed;
+use index_builder::Indexed;
 use stream::All;
 
 // The line of row i.
@@ -37,7 +37,7 @@ fn listed(index: &[u64], n: usize, out: &mut [u8])
 
 // Indexes a log, or says why not.
 fn indexed(log: &[u8], index: &mut [u64], out: &mut [u8]) {
-    let answer = indexing::index_log(log, &mut *index);
+    let answer = index_builder::index_log(log, &mut *index);
     match answer {
         Indexed::Entries(n) => listed(index, n, out),
         Indexed::Refused(number) => {

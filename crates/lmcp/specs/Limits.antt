@@ -1,6 +1,7 @@
 -- The limits and the fixed bytes of LMCP messages. Definitions only.
-use mathlib.Core.List.{List, [], _∷_}
+use mathlib.Core.List.{List, [], _∷_, _++_}
 use Prim.Native.Nat.{ℕ, _*_, _^_, _<_}
+use Rattle.wire.specs.Text.{ascii}
 use Rattle.wire.specs.Bytes.{be}
 
 -- the longest whole message, in bytes
@@ -17,8 +18,8 @@ deepest = 16
 
 -- "LMCP"
 abbrev pub magic : List ℕ
-magic = 76 ∷ 77 ∷ 67 ∷ 80 ∷ []
+magic = ascii "LMCP"
 
 -- "PITSURV" and a zero byte
 abbrev pub series : ℕ
-series = be 8 (80 ∷ 73 ∷ 84 ∷ 83 ∷ 85 ∷ 82 ∷ 86 ∷ 0 ∷ [])
+series = be 8 (ascii "PITSURV" ++ 0 ∷ [])

@@ -7,7 +7,7 @@ use lib.Dec.{ltb, leb, eqb}
 use lib.IntN.{ℤ}
 use lib.ListN.{length, take, drop}
 use lib.Seq.{sets}
-use Rattle.wire.specs.Choice.{pick}
+use Rattle.wire.specs.Choice.{pick, _when_else_}
 use Rattle.wire.specs.Bytes.{be, bytes}
 use Rattle.wire.specs.Sum.{sum}
 use Rattle.wire.specs.Same.{same}
@@ -42,10 +42,10 @@ stored m = be 4 (drop (length m - 4) m)
 -- what is wrong with a message before its root: 0 for nothing, else the number of the refusal
 unfoldable pub frame : List ℕ → ℕ
 frame m =
-    pick (ltb (length m) 12 || not (same (take 4 m) magic)) 20
-    (pick (ltb maxMessage (length m) || not (eqb (length m) (12 + be 4 (drop 4 m)))) 21
-    (pick (eqb (stored m) 0 || eqb (stored m) (checksumOf (before m))) 0
-    22))
+    20 when ltb (length m) 12 || not (same (take 4 m) magic) else
+    21 when ltb maxMessage (length m) || not (eqb (length m) (12 + be 4 (drop 4 m))) else
+    0 when eqb (stored m) 0 || eqb (stored m) (checksumOf (before m)) else
+    22
 
 unfoldable pub readMessage : Table → List ℕ → Read
 readMessage T m = pick (eqb (frame m) 0) (whole (root (reading T) T (rootOf m))) (refused (frame m))

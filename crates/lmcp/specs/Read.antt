@@ -5,7 +5,7 @@ use Prim.Native.Nat.{ℕ}
 use lib.Dec.{ltb, eqb}
 use lib.IntN.{ℤ, pos}
 use lib.ListN.{length, drop}
-use Rattle.wire.specs.Choice.{pick}
+use Rattle.wire.specs.Choice.{pick, _when_else_}
 use Rattle.wire.specs.Bytes.{be}
 use Rattle.lmcp.specs.Limits.{series}
 use Rattle.lmcp.specs.Run.{Run, got, refused, Tag, tag, bad}
@@ -35,18 +35,18 @@ known T t b = eqb (be 8 b) series && (eqb (be 2 (drop 12 b)) (T .version) && typ
 
 unfoldable pub readHeader : Table → ℕ → List ℕ → Tag ℕ ℤ
 readHeader T t b =
-    pick (ltb (length b) 14) (bad 25)
-    (pick (known T t b) (tag (be 4 (drop 8 b)) (pos (be 4 (drop 8 b)) ∷ []) (drop 14 b))
-    (bad 24))
+    bad 25 when ltb (length b) 14 else
+    tag (be 4 (drop 8 b)) (pos (be 4 (drop 8 b)) ∷ []) (drop 14 b) when known T t b else
+    bad 24
 
 -- the existence byte, which ends a null object; the depth; the header
 unfoldable pub readHead : Table → ℕ → ℕ → List ℕ → Tag ℕ ℤ
 readHead T d t b =
-    pick (ltb (length b) 1) (bad 25)
-    (pick (ltb 1 (be 1 b)) (bad 23)
-    (pick (eqb (be 1 b) 0) (tag 0 (pos 0 ∷ []) (drop 1 b))
-    (pick (eqb d 0) (bad 26)
-    (readHeader T t (drop 1 b)))))
+    bad 25 when ltb (length b) 1 else
+    bad 23 when ltb 1 (be 1 b) else
+    tag 0 (pos 0 ∷ []) (drop 1 b) when eqb (be 1 b) 0 else
+    bad 26 when eqb d 0 else
+    readHeader T t (drop 1 b)
 
 abbrev pub reading : Table → Way ℕ ℤ
 reading T = record { value = readValue; count = readCount; head = readHead T }

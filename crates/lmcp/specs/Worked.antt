@@ -3,12 +3,13 @@
 use mathlib.Core.List.{List, [], _∷_, _++_}
 use Prim.Native.Nat.{ℕ, zero, suc}
 use lib.IntN.{ℤ, pos, negsuc}
+use Rattle.wire.specs.Text.{ascii}
 use Rattle.lmcp.specs.Run.{got, refused}
 use Rattle.lmcp.specs.Read.{Read}
 
 -- an object's existence byte and header: "PITSURV", its type, a version
 abbrev pub headOf : ℕ → ℕ → List ℕ
-headOf v t = 1 ∷ 80 ∷ 73 ∷ 84 ∷ 83 ∷ 85 ∷ 82 ∷ 86 ∷ 0 ∷ 0 ∷ 0 ∷ 0 ∷ t ∷ 0 ∷ v ∷ []
+headOf v t = 1 ∷ ascii "PITSURV" ++ 0 ∷ 0 ∷ 0 ∷ 0 ∷ t ∷ 0 ∷ v ∷ []
 
 abbrev pub head : ℕ → List ℕ
 head = headOf 1

@@ -5,7 +5,7 @@ use Prim.Native.Nat.{ℕ, _*_, _^_}
 use lib.Dec.{eqb}
 use lib.IntN.{ℤ, pos, negsuc}
 use lib.Signed.{mag}
-use Rattle.wire.specs.Choice.{pick}
+use Rattle.wire.specs.Choice.{pick, _when_else_}
 use Rattle.wire.specs.Bytes.{bytes}
 use Rattle.wire.specs.Signed.{unsigned}
 use Rattle.lmcp.specs.Limits.{series}
@@ -39,10 +39,10 @@ typedBy T t (negsuc n) = false
 unfoldable pub writeHead : Table → ℕ → ℕ → List ℤ → Tag ℤ ℕ
 writeHead T d t [] = bad 25
 writeHead T d t (z ∷ r) =
-    pick (below 1 z) (tag 0 (0 ∷ []) r)
-    (pick (eqb d 0) (bad 26)
-    (pick (typedBy T t z) (tag (mag z) (header T (mag z)) r)
-    (bad 24)))
+    tag 0 (0 ∷ []) r when below 1 z else
+    bad 26 when eqb d 0 else
+    tag (mag z) (header T (mag z)) r when typedBy T t z else
+    bad 24
 
 abbrev pub writing : Table → Way ℤ ℕ
 writing T = record { value = writeValue; count = writeCount; head = writeHead T }

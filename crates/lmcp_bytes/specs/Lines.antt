@@ -7,6 +7,7 @@ use lib.IntN.{ℤ}
 use lib.ListN.{length, take, drop}
 use lib.Seq.{sets}
 use lib.Dec.{ltb, eqb}
+use Rattle.wire.specs.Text.{ascii}
 use Rattle.wire.specs.Bytes.{be}
 use Rattle.wire.specs.Signed.{signed}
 use Rattle.lmcp.specs.declared.Made.{Made}
@@ -28,13 +29,13 @@ calculated head = not (eqb (be 1 head) 0)
 -- " longer than 262144 numbers"
 abbrev pub longerText : ℕ → List ℕ
 longerText n =
-    (32 ∷ 108 ∷ 111 ∷ 110 ∷ 103 ∷ 101 ∷ 114 ∷ 32 ∷ 116 ∷ 104 ∷ 97 ∷ 110 ∷ 32 ∷ []) ++ decimal n
-    ++ 32 ∷ 110 ∷ 117 ∷ 109 ∷ 98 ∷ 101 ∷ 114 ∷ 115 ∷ 10 ∷ []
+    ascii " longer than " ++ decimal n
+    ++ ascii " numbers\n"
 
 -- " bytes 4c4d4350" or " refused 29"
 abbrev pub madeText : List ℕ → Made → List ℕ
-madeText bytes (Bytes n) = (32 ∷ 98 ∷ 121 ∷ 116 ∷ 101 ∷ 115 ∷ 32 ∷ []) ++ hex (take n bytes) ++ 10 ∷ []
-madeText bytes (Refused e) = (32 ∷ 114 ∷ 101 ∷ 102 ∷ 117 ∷ 115 ∷ 101 ∷ 100 ∷ 32 ∷ []) ++ decimal e ++ 10 ∷ []
+madeText bytes (Bytes n) = ascii " bytes " ++ hex (take n bytes) ++ ascii "\n"
+madeText bytes (Refused e) = ascii " refused " ++ decimal e ++ ascii "\n"
 
 -- The list that a body holds was written as a message, and line n gives its bytes or its refusal.
 pub record Made′ (calculate : Bool) (body : List ℕ) (n : ℕ) (list : List ℤ) (bytes out : List ℕ) (at : ℕ) (list′ : List ℤ) (bytes′ out′ : List ℕ) (r : ℕ) : Type 0 where

@@ -3,6 +3,7 @@ use mathlib.Core.List.{List, [], _∷_, _++_}
 use Prim.Native.Nat.{ℕ}
 use lib.IntN.{ℤ}
 use lib.ListN.{take}
+use Rattle.wire.specs.Text.{ascii}
 use Rattle.lmcp.specs.declared.Found.{Found}
 use Rattle.lmcp.specs.declared.Found.the-variants.{Numbers, Refused}
 use Rattle.lmcp.specs.Message.{ReadTo}
@@ -17,12 +18,12 @@ spaced (z ∷ l) = (32 ∷ signedDecimal z) ++ spaced l
 
 -- " list 1 2 3" or " refused 22"
 abbrev pub foundText : List ℤ → Found → List ℕ
-foundText list (Numbers n) = (32 ∷ 108 ∷ 105 ∷ 115 ∷ 116 ∷ []) ++ spaced (take n list)
-foundText list (Refused e) = (32 ∷ 114 ∷ 101 ∷ 102 ∷ 117 ∷ 115 ∷ 101 ∷ 100 ∷ 32 ∷ []) ++ decimal e
+foundText list (Numbers n) = ascii " list" ++ spaced (take n list)
+foundText list (Refused e) = ascii " refused " ++ decimal e
 
 -- line n
 abbrev pub line : ℕ → List ℤ → Found → List ℕ
-line n list found = decimal n ++ foundText list found ++ 10 ∷ []
+line n list found = decimal n ++ foundText list found ++ ascii "\n"
 
 -- The message was read into the list, and line n gives its numbers or its refusal.
 pub record Listed (message : List ℕ) (n : ℕ) (list : List ℤ) (out : List ℕ) (at : ℕ) (list′ : List ℤ) (out′ : List ℕ) (r : ℕ) : Type 0 where

@@ -12,8 +12,8 @@ use borrow.Author.Tests.{le-ltb, ltb-false, eqb-true}
 use Rattle.wire.specs.Bytes.{Bytes}
 use Rattle.wire.specs.Choice.{pick}
 use Rattle.wire.specs.Taken.{Taken, taken, refused, follow}
-use Rattle.seven.specs.Seven.{seven, sevenIn}
-use Rattle.seven.proofs.Sevens.{seven-back, back-seven, groups-some}
+use Rattle.varint.specs.Seven.{seven, sevenIn}
+use Rattle.varint.proofs.Sevens.{seven-back, back-seven, groups-some}
 use Rattle.datagram.specs.Limits.{maxDatagram, maxPayload}
 use Rattle.log.specs.Editions.{Edition, edition1, edition2, firstByte, secondByte, Lawful, headBytes, limited, limitIn, headIn, headIn1, editionIn}
 use Rattle.log.specs.Entries.{Entry, entryOf, Keeps, AllKeep, entryBytes, bodyOf, logOf}

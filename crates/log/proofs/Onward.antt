@@ -10,8 +10,8 @@ use Rattle.wire.specs.Bytes.{Bytes}
 use Rattle.wire.specs.Choice.{pick}
 use Rattle.wire.specs.Taken.{Taken, taken, refused}
 use Rattle.wire.proofs.Numbers.{drop-bytes}
-use Rattle.seven.specs.Seven.{seven}
-use Rattle.seven.proofs.Sevens.{groups-some}
+use Rattle.varint.specs.Seven.{seven}
+use Rattle.varint.proofs.Sevens.{groups-some}
 use Rattle.log.specs.Editions.{Edition, edition1, edition2, headBytes, headIn, limitsOf}
 use Rattle.log.specs.Entries.{Entry, entryOf, entryBytes}
 use Rattle.log.specs.Listed.{entryIn, Listed, whole, broken, after, more, oneMore, listBy, entriesAfter, entriesIn}

@@ -12,7 +12,7 @@ use borrow.Author.Tests.{lt-ltb, le-ltb, eq-eqb, ne-eqb}
 use Rattle.wire.specs.Bytes.{Bytes}
 use Rattle.wire.specs.Choice.{pick}
 use Rattle.wire.specs.Taken.{Taken, taken, refused, follow}
-use Rattle.seven.specs.Seven.{sevenIn}
+use Rattle.varint.specs.Seven.{sevenIn}
 use Rattle.datagram.specs.Limits.{maxDatagram, maxPayload, maxFragments}
 use Rattle.log.specs.Editions.{Edition, edition1, edition2, firstByte, secondByte, limited, limitIn, headIn, limitsTo, limitsOf, limitsIn}
 use Rattle.log.specs.Entries.{Entry, entryOf}

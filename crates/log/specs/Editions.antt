@@ -6,7 +6,7 @@ use Prim.Native.Nat.{ℕ, _≤_}
 use lib.Dec.{eqb, ltb}
 use Rattle.wire.specs.Choice.{pick}
 use Rattle.wire.specs.Taken.{Taken, taken, refused, follow}
-use Rattle.seven.specs.Seven.{seven, sevenIn}
+use Rattle.varint.specs.Seven.{seven, sevenIn}
 use Rattle.datagram.specs.Limits.{maxPayload, maxFragments}
 use Rattle.log.specs.declared.reader.Limits.{Limits}
 

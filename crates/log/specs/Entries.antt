@@ -3,7 +3,7 @@
 use mathlib.Core.List.{List, [], _∷_, _++_}
 use Prim.Native.Nat.{ℕ, _^_, _≤_, _<_}
 use lib.ListN.{length}
-use Rattle.seven.specs.Seven.{seven}
+use Rattle.varint.specs.Seven.{seven}
 use Rattle.datagram.specs.Limits.{maxDatagram}
 use Rattle.log.specs.Editions.{Edition, headBytes}
 

@@ -5,9 +5,9 @@ use mathlib.Core.List.{List, [], _∷_}
 use Prim.Native.Nat.{ℕ, zero, suc}
 use lib.Dec.{ltb}
 use lib.ListN.{length, take, drop}
-use Rattle.wire.specs.Choice.{pick}
+use Rattle.wire.specs.Choice.{_when_else_}
 use Rattle.wire.specs.Taken.{Taken, taken, refused, follow}
-use Rattle.seven.specs.Seven.{sevenIn}
+use Rattle.varint.specs.Seven.{sevenIn}
 use Rattle.datagram.specs.Limits.{maxDatagram}
 use Rattle.log.specs.Editions.{Edition, headIn}
 use Rattle.log.specs.Entries.{Entry, entryOf}
@@ -16,9 +16,9 @@ use Rattle.log.specs.Entries.{Entry, entryOf}
 
 unfoldable pub datagramIn : ℕ → ℕ → ℕ → List ℕ → Taken Entry
 datagramIn s t n b =
-    pick (ltb maxDatagram n) (refused 42)
-    (pick (ltb (length b) n) (refused 43)
-    (taken (entryOf s t (take n b)) (drop n b)))
+    refused 42 when ltb maxDatagram n else
+    refused 43 when ltb (length b) n else
+    taken (entryOf s t (take n b)) (drop n b)
 
 unfoldable pub lengthIn : ℕ → ℕ → List ℕ → Taken Entry
 lengthIn s t b = follow (sevenIn b) (λ n. datagramIn s t n)

@@ -5,7 +5,7 @@ ghost use lib.ListN.{length, drop};
 ghost use Rattle.log.specs.Editions.{limited, limitIn, limitsIn};
 ghost use Rattle.log.specs.Listed.{datagramIn, lengthIn, tickIn, entryIn};
 ghost use Rattle.log.specs.Told.{firstOf, firstIn, stepOf, nextAt, readAt, placeAfter};
-use seven::Seven;
+use varint::Seven;
 
 // The limits of a log's fragments: the largest payload, and the most fragments of a message.
 pub struct Limits {
@@ -55,7 +55,7 @@ fn within(log: &[u8], limit: u64, at: usize) -> First
 fn limit_at(log: &[u8], at: usize) -> First
     ensures { λ r. ⌜ r ≡ firstOf (now (log .entry)) (limitIn (drop at (now (log .entry)))) ⌝ }
 {
-    let read = seven::read_seven(log, at);
+    let read = varint::read_seven(log, at);
     match read {
         Seven::Number(limit, next) => within(log, limit, next),
         Seven::Refused(form) => First::Refused(form),
@@ -122,7 +122,7 @@ fn datagram_at(log: &[u8], at: usize, sender: u64, tick: u64, n: u64) -> Step
 fn length_at(log: &[u8], at: usize, sender: u64, tick: u64) -> Step
     ensures { λ r. ⌜ r ≡ stepOf (now (log .entry)) (lengthIn sender tick (drop at (now (log .entry)))) ⌝ }
 {
-    let read = seven::read_seven(log, at);
+    let read = varint::read_seven(log, at);
     match read {
         Seven::Number(n, next) => datagram_at(log, next, sender, tick, n),
         Seven::Refused(form) => Step::Refused(form),
@@ -132,7 +132,7 @@ fn length_at(log: &[u8], at: usize, sender: u64, tick: u64) -> Step
 fn tick_at(log: &[u8], at: usize, sender: u64) -> Step
     ensures { λ r. ⌜ r ≡ stepOf (now (log .entry)) (tickIn sender (drop at (now (log .entry)))) ⌝ }
 {
-    let read = seven::read_seven(log, at);
+    let read = varint::read_seven(log, at);
     match read {
         Seven::Number(tick, next) => length_at(log, next, sender, tick),
         Seven::Refused(e) => Step::Refused(e),
@@ -146,7 +146,7 @@ pub fn next_entry(log: &[u8], at: usize) -> Step
     if log.len() <= at {
         return Step::End;
     }
-    let read = seven::read_seven(log, at);
+    let read = varint::read_seven(log, at);
     match read {
         Seven::Number(sender, next) => tick_at(log, next, sender),
         Seven::Refused(e) => Step::Refused(e),

@@ -15,7 +15,7 @@ use Rattle.log.specs.Editions.{Edition, headIn, limitsOf}
 use Rattle.log.specs.Entries.{Entry, entryBytes}
 use Rattle.log.specs.Listed.{Listed, whole, broken, listBy}
 use Rattle.log.specs.declared.reader.Limits.{Limits}
-use Rattle.log_index.specs.Limits.{maxIndex, full}
+use Rattle.log_index.specs.Limits.{maxIndex}
 use Rattle.log_index.specs.Rows.{Row, rowOf, firstOf}
 
 -- ---- rows in the log's order
@@ -86,4 +86,4 @@ noRoom words n = ltb maxIndex n || ltb words (3 * n)
 -- after the log's own; with n rows in the index before
 unfoldable pub answerOf : ℕ → ℕ → Gathered → Answer
 answerOf words n (stopped k) = refuses k
-answerOf words n (gathered rs) = pick (noRoom words (n + length rs)) (refuses full) (holds (n + length rs))
+answerOf words n (gathered rs) = pick (noRoom words (n + length rs)) (refuses 44) (holds (n + length rs))

@@ -5,10 +5,6 @@ use Prim.Native.Nat.{ℕ}
 abbrev pub maxIndex : ℕ
 maxIndex = 4_096
 
--- index full
-abbrev pub full : ℕ
-full = 44
-
 -- how many rows are sorted among themselves before they are merged
 abbrev pub batchRows : ℕ
 batchRows = 64

@@ -5,7 +5,7 @@ use mathlib.Core.Option.{Option, none, some}
 use mathlib.Core.List.{List, [], _∷_}
 use Prim.Native.Nat.{ℕ}
 use lib.Dec.{eqb, ltb}
-use Rattle.wire.specs.Choice.{pick}
+use Rattle.wire.specs.Choice.{pick, _when_else_}
 
 pub record Row : Type 0 where
   pub sender : ℕ
@@ -15,12 +15,16 @@ pub record Row : Type 0 where
 abbrev pub rowOf : ℕ → ℕ → ℕ → Row
 rowOf s q p = record { sender = s; sequence = q; place = p }
 
+abbrev pub earlierOfSender : Row → Row → Bool
+earlierOfSender a b =
+    ltb (a .place) (b .place) when eqb (a .sequence) (b .sequence) else
+    ltb (a .sequence) (b .sequence)
+
 -- by sender, then sequence, then place
 unfoldable pub earlier : Row → Row → Bool
 earlier a b =
-    pick (eqb (a .sender) (b .sender))
-    (pick (eqb (a .sequence) (b .sequence)) (ltb (a .place) (b .place)) (ltb (a .sequence) (b .sequence)))
-    (ltb (a .sender) (b .sender))
+    earlierOfSender a b when eqb (a .sender) (b .sender) else
+    ltb (a .sender) (b .sender)
 
 -- a row among sorted ones
 unfoldable pub put : Row → List Row → List Row

@@ -15,9 +15,6 @@ pub const MAX_INDEX: usize = 4096;
 // How many rows are sorted among themselves before they are merged.
 pub const BATCH: usize = 64;
 
-// Index full.
-pub const FULL: u32 = 44;
-
 // Where the first entry of a key begins in the log.
 pub enum Found {
     At(u64),

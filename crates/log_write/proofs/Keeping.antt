@@ -10,10 +10,10 @@ use Rattle.text.specs.Put.{Put}
 use Rattle.output.specs.Output.{drained, Sends}
 use Rattle.output.proofs.Sending.{sends-line, drained-fits}
 use Rattle.log.specs.Entries.{Entry, entryOf, entryBytes}
-use Rattle.log_writer.specs.Writes.{Answer, wrote, refused, says, appendAnswer, output, Appended}
-use Rattle.log_writer.specs.declared.Written.{Written}
-use Rattle.log_writer.specs.declared.Written.the-variants.{Next, Refused}
-use Rattle.log_writer.proofs.Writing.{entry-most}
+use Rattle.log_append.specs.Writes.{Answer, wrote, refused, says, appendAnswer, output, Appended}
+use Rattle.log_append.specs.declared.Written.{Written}
+use Rattle.log_append.specs.declared.Written.the-variants.{Next, Refused}
+use Rattle.log_append.proofs.Writing.{entry-most}
 use Rattle.log_write.specs.Kept.{entryLimit, Keeps}
 
 module _ (out : List ℕ) (at : ℕ) (e : Entry) (short : length (e .datagram) ≤ maxDatagram) (room : entryLimit ≤ length out) (within : at ≤ length out) where

@@ -5,7 +5,7 @@ ghost use lib.ListN.{drop};
 ghost use Rattle.wire.specs.Bytes.{be};
 ghost use Rattle.log.specs.Entries.{entryOf};
 ghost use Rattle.log_write.specs.Kept.{Keeps};
-use log_writer::Written;
+use log_append::Written;
 use stream::Input;
 use stream::Kind;
 use stream::Next;
@@ -20,7 +20,7 @@ fn keep(out: &mut [u8], at: usize, head: &[u8], d: &[u8]) -> usize
     let sender = wire::number(head, 0, 8);
     let tick = wire::number(head, 8, 8);
     let from = output::drain(out, at, ENTRY);
-    match log_writer::append(out, from, sender, tick, d) {
+    match log_append::append(out, from, sender, tick, d) {
         Written::Next(next) => next,
         Written::Refused(_) => from,
     }
@@ -52,7 +52,7 @@ fn kept(buf: &mut [u8], out: &mut [u8], first: usize) {
 fn main() {
     let mut buf = [0u8; 262144];
     let mut out = [0u8; 262144];
-    if let Written::Next(first) = log_writer::begin(&mut out, datagram::MAX_PAYLOAD as u64) {
+    if let Written::Next(first) = log_append::begin(&mut out, datagram::MAX_PAYLOAD as u64) {
         kept(&mut buf, &mut out, first);
     }
 }

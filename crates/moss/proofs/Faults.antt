@@ -5,13 +5,12 @@ use mathlib.Core.Option.{Option, none, some}
 use mathlib.Core.List.{List}
 use Prim.Native.Nat.{ℕ}
 use native.Mathlib.Omega.{arith}
-use Rattle.moss.specs.Limits.{wrongType, notFilled}
 use Rattle.moss.specs.Packet.{knownKind, carried, fillFault, blockFault}
 use Rattle.moss.specs.Walk.{start, walked}
 use Rattle.moss.specs.declared.Trail.{Trail}
 use Rattle.moss.specs.declared.Walked.the-variants.{Filled, Broken}
 
-fill-broken : (o : Option (List (List ℕ))) → walked start 0 0 o ≡ Broken → fillFault o ≡ notFilled
+fill-broken : (o : Option (List (List ℕ))) → walked start 0 0 o ≡ Broken → fillFault o ≡ 53
 fill-broken none e = refl
 fill-broken (some ms) e = absurd (let z : _≡_ {A = ℕ} 0 1 = cc in omega arith)
 
@@ -20,12 +19,12 @@ fill-filled none t e = absurd (let z : _≡_ {A = ℕ} 0 1 = cc in omega arith)
 fill-filled (some ms) t e = refl
 
 module _ (kind : ℕ) (b : List ℕ) where
-  pub fault-type : knownKind kind ≡ false → blockFault kind b ≡ wrongType
+  pub fault-type : knownKind kind ≡ false → blockFault kind b ≡ 52
   unfolding blockFault
   fault-type h = rw h
 
   module _ (known : knownKind kind ≡ true) where
-    pub fault-broken : walked start 0 0 (carried kind b) ≡ Broken → blockFault kind b ≡ notFilled
+    pub fault-broken : walked start 0 0 (carried kind b) ≡ Broken → blockFault kind b ≡ 53
     unfolding blockFault
     fault-broken e = rw known (fill-broken (carried kind b) e)
 

@@ -5,7 +5,7 @@ use mathlib.Core.List.{List}
 use Prim.Native.Nat.{ℕ}
 use native.Mathlib.Omega.{arith}
 use lib.ListN.{length}
-use Rattle.moss.specs.Limits.{headLength, notFilled}
+use Rattle.moss.specs.Limits.{headLength}
 use Rattle.moss.specs.Packet.{Given, gives, refuses, Packet, sessionPlace, sequenceIn, kindIn, held}
 use Rattle.moss.specs.Message.{placeIn}
 use Rattle.moss.specs.Answers.{headersOf}
@@ -16,7 +16,7 @@ use Rattle.moss.specs.declared.Walked.the-variants.{Filled, Broken}
 use Rattle.moss.specs.declared.Looked.the-variants as look
 use Rattle.moss.proofs.Trails.{all-count, walk-points}
 
-pub look-broken : (n : ℕ) (b : List ℕ) (o : Option (List (List ℕ))) → walked start n headLength o ≡ Broken → look.Refused notFilled ≡ looked n (held b o)
+pub look-broken : (n : ℕ) (b : List ℕ) (o : Option (List (List ℕ))) → walked start n headLength o ≡ Broken → look.Refused 53 ≡ looked n (held b o)
 look-broken n b none e = refl
 look-broken n b (some ms) e = absurd (let z : _≡_ {A = ℕ} 0 1 = cc in omega arith)
 

@@ -10,26 +10,26 @@ use lib.ListN.{length, drop}
 use borrow.Author.Tests.{eq-eqb, ne-eqb, lt-ltb, le-ltb, eqb-true, ltb-false, not-false}
 use Rattle.wire.specs.Choice.{pick}
 use Rattle.wire.proofs.Choices.{or-l, or-r}
-use Rattle.moss.specs.Limits.{headLength, maxPacket, tooShort, wrongLength, wrongType}
+use Rattle.moss.specs.Limits.{headLength, maxPacket}
 use Rattle.moss.specs.Packet.{gives, refuses, Packet, lengthIn, sessionIn, sequenceIn, kindIn, knownKind, carried, held, packetOf}
 
 module _ (b : List ℕ) where
-  pub packet-short : length b < headLength → packetOf b ≡ refuses tooShort
+  pub packet-short : length b < headLength → packetOf b ≡ refuses 50
   unfolding packetOf
   packet-short h = rw (lt-ltb (length b) headLength h)
 
   module _ (whole : headLength ≤ length b) where
-    pub packet-wrong : (lengthIn b ≡ length b → ⊥) → packetOf b ≡ refuses wrongLength
+    pub packet-wrong : (lengthIn b ≡ length b → ⊥) → packetOf b ≡ refuses 51
     unfolding packetOf
     packet-wrong h = rw (le-ltb (length b) headLength whole, ne-eqb (lengthIn b) (length b) h)
 
     module _ (true-length : lengthIn b ≡ length b) where
-      pub packet-long : maxPacket < length b → packetOf b ≡ refuses wrongLength
+      pub packet-long : maxPacket < length b → packetOf b ≡ refuses 51
       unfolding packetOf
       packet-long h = rw (le-ltb (length b) headLength whole, eq-eqb (lengthIn b) (length b) true-length, lt-ltb maxPacket (length b) h)
 
       module _ (fits : length b ≤ maxPacket) where
-        pub packet-type : knownKind (kindIn b) ≡ false → packetOf b ≡ refuses wrongType
+        pub packet-type : knownKind (kindIn b) ≡ false → packetOf b ≡ refuses 52
         unfolding packetOf
         packet-type h =
             rw (le-ltb (length b) headLength whole, eq-eqb (lengthIn b) (length b) true-length, le-ltb maxPacket (length b) fits, h)
@@ -68,12 +68,12 @@ module _ (b : List ℕ) (p : Packet) where
       }
 
   from-type : (t : Bool) → headLength ≤ length b → lengthIn b ≡ length b → length b ≤ maxPacket → knownKind (kindIn b) ≡ t
-      → pick t (held b (carried (kindIn b) (drop headLength b))) (refuses wrongType) ≡ gives p → Good b p
+      → pick t (held b (carried (kindIn b) (drop headLength b))) (refuses 52) ≡ gives p → Good b p
   from-type true w l f k e = from-held (carried (kindIn b) (drop headLength b)) w l f k refl e
   from-type false w l f k e = absurd (let z : _≡_ {A = ℕ} 0 1 = cc in omega arith)
 
   from-length : (t : Bool) → headLength ≤ length b → (not (eqb (lengthIn b) (length b)) || ltb maxPacket (length b)) ≡ t
-      → pick t (refuses wrongLength) (pick (knownKind (kindIn b)) (held b (carried (kindIn b) (drop headLength b))) (refuses wrongType)) ≡ gives p → Good b p
+      → pick t (refuses 51) (pick (knownKind (kindIn b)) (held b (carried (kindIn b) (drop headLength b))) (refuses 52)) ≡ gives p → Good b p
   from-length true w h e = absurd (let z : _≡_ {A = ℕ} 0 1 = cc in omega arith)
   from-length false w h e =
       let l = eqb-true (lengthIn b) (length b) (not-false (eqb (lengthIn b) (length b)) (or-l (not (eqb (lengthIn b) (length b))) (ltb maxPacket (length b)) h)) in
@@ -81,9 +81,9 @@ module _ (b : List ℕ) (p : Packet) where
       from-type (knownKind (kindIn b)) w l f refl e
 
   from-short : (t : Bool) → ltb (length b) headLength ≡ t
-      → pick t (refuses tooShort)
-      (pick (not (eqb (lengthIn b) (length b)) || ltb maxPacket (length b)) (refuses wrongLength)
-      (pick (knownKind (kindIn b)) (held b (carried (kindIn b) (drop headLength b))) (refuses wrongType)))
+      → pick t (refuses 50)
+      (pick (not (eqb (lengthIn b) (length b)) || ltb maxPacket (length b)) (refuses 51)
+      (pick (knownKind (kindIn b)) (held b (carried (kindIn b) (drop headLength b))) (refuses 52)))
       ≡ gives p
       → Good b p
   from-short true h e = absurd (let z : _≡_ {A = ℕ} 0 1 = cc in omega arith)

@@ -6,7 +6,6 @@ use native.Mathlib.Omega.{arith}
 use native.Mathlib.Decide.{decLt}
 use lib.ListN.{length}
 use borrow.Author.Tests.{eq-eqb, ne-eqb, lt-ltb, le-ltb}
-use Rattle.moss.specs.Limits.{noMessage}
 use Rattle.moss.specs.Packet.{gives, refuses}
 use Rattle.moss.specs.Message.{Part, located}
 use Rattle.moss.specs.Walk.{start, past, pastAll, pointed}
@@ -45,7 +44,7 @@ all-found t n zero at (m ∷ ms) e h =
 all-found t n (suc j) at (m ∷ ms) e h =
     all-found (past t n at (length m)) n j (at + (2 + length m)) ms (omega (arith, past-count t n at (length m))) (omega arith)
 
-all-missed : (j at : ℕ) (ms : List (List ℕ)) → length ms ≤ j → located j at ms ≡ refuses noMessage
+all-missed : (j at : ℕ) (ms : List (List ℕ)) → length ms ≤ j → located j at ms ≡ refuses 54
 all-missed j at [] h = refl
 all-missed zero at (m ∷ ms) h = absurd (let z : ⊥ = omega arith in z)
 all-missed (suc j) at (m ∷ ms) h = all-missed j (at + (2 + length m)) ms (omega arith)

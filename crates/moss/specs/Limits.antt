@@ -26,27 +26,3 @@ letterH = 0x48
 
 abbrev pub letterE : ℕ
 letterE = 0x45
-
--- shorter than 19
-abbrev pub tooShort : ℕ
-tooShort = 50
-
--- length field wrong or over 65,535
-abbrev pub wrongLength : ℕ
-wrongLength = 51
-
--- type
-abbrev pub wrongType : ℕ
-wrongType = 52
-
--- blocks do not fill, or H or E over 19 bytes
-abbrev pub notFilled : ℕ
-notFilled = 53
-
--- no such message
-abbrev pub noMessage : ℕ
-noMessage = 54
-
--- output short
-abbrev pub outputShort : ℕ
-outputShort = 55

@@ -2,7 +2,7 @@
 use mathlib.Core.List.{List, [], _∷_}
 use Prim.Native.Nat.{ℕ, zero, suc, _+_}
 use lib.ListN.{length}
-use Rattle.moss.specs.Limits.{headLength, noMessage}
+use Rattle.moss.specs.Limits.{headLength}
 use Rattle.moss.specs.Packet.{Given, gives, refuses, Packet}
 
 pub record Part : Type 0 where
@@ -11,7 +11,7 @@ pub record Part : Type 0 where
 
 -- message n of those whose blocks lie from a place on
 abbrev pub located : ℕ → ℕ → List (List ℕ) → Given Part
-located n at [] = refuses noMessage
+located n at [] = refuses 54
 located zero at (m ∷ ms) = gives (record { at = at + 2; len = length m })
 located (suc n) at (m ∷ ms) = located n (at + (2 + length m)) ms
 

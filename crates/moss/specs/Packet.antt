@@ -5,9 +5,9 @@ use mathlib.Core.List.{List}
 use Prim.Native.Nat.{ℕ}
 use lib.Dec.{eqb, ltb}
 use lib.ListN.{length, getD, take, drop}
-use Rattle.wire.specs.Choice.{pick}
+use Rattle.wire.specs.Choice.{pick, _when_else_}
 use Rattle.wire.specs.Bytes.{be}
-use Rattle.moss.specs.Limits.{sessionLength, headLength, maxPacket, letterU, letterH, letterE, tooShort, wrongLength, wrongType, notFilled}
+use Rattle.moss.specs.Limits.{sessionLength, headLength, maxPacket, letterU, letterH, letterE}
 use Rattle.moss.specs.Blocks.{nothingIn, messagesIn}
 
 -- what is answered: something, or a number of refusal
@@ -49,20 +49,21 @@ carried k b = pick (eqb k letterU) (messagesIn b) (nothingIn b)
 
 -- what is wrong with the bytes that a packet of a type is to carry: 0 where nothing is
 abbrev pub fillFault : Option (List (List ℕ)) → ℕ
-fillFault none = notFilled
+fillFault none = 53
 fillFault (some ms) = 0
 
 unfoldable pub blockFault : ℕ → List ℕ → ℕ
-blockFault k b = pick (knownKind k) (fillFault (carried k b)) wrongType
+blockFault k b = pick (knownKind k) (fillFault (carried k b)) 52
 
 -- ---- the packet
 
 abbrev pub held : List ℕ → Option (List (List ℕ)) → Given Packet
-held b none = refuses notFilled
+held b none = refuses 53
 held b (some ms) = gives (record { session = sessionIn b; sequence = sequenceIn b; kind = kindIn b; messages = ms })
 
 unfoldable pub packetOf : List ℕ → Given Packet
 packetOf b =
-    pick (ltb (length b) headLength) (refuses tooShort)
-    (pick (not (eqb (lengthIn b) (length b)) || ltb maxPacket (length b)) (refuses wrongLength)
-    (pick (knownKind (kindIn b)) (held b (carried (kindIn b) (drop headLength b))) (refuses wrongType)))
+    refuses 50 when ltb (length b) headLength else
+    refuses 51 when not (eqb (lengthIn b) (length b)) || ltb maxPacket (length b) else
+    held b (carried (kindIn b) (drop headLength b)) when knownKind (kindIn b) else
+    refuses 52

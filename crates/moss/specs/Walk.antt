@@ -5,7 +5,7 @@ use Prim.Native.Nat.{ℕ, _+_}
 use lib.Dec.{eqb, ltb}
 use lib.ListN.{length}
 use Rattle.wire.specs.Choice.{pick}
-use Rattle.moss.specs.Limits.{headLength, noMessage}
+use Rattle.moss.specs.Limits.{headLength}
 use Rattle.moss.specs.Packet.{Given, gives, refuses, Packet}
 use Rattle.moss.specs.Message.{Part}
 use Rattle.moss.specs.Answers.{headerOf}
@@ -37,4 +37,4 @@ looked n (gives p) = Good (headerOf p) (pastAll start n headLength (p .messages)
 
 -- the message that was looked out for, if it was passed
 abbrev pub pointed : Trail → ℕ → Given Part
-pointed t n = pick (ltb n (t .count)) (gives (record { at = t .at; len = t .len })) (refuses noMessage)
+pointed t n = pick (ltb n (t .count)) (gives (record { at = t .at; len = t .len })) (refuses 54)

@@ -33,19 +33,6 @@ pub const H: u8 = b'H';
 
 pub const E: u8 = b'E';
 
-// Refusals: shorter than a header; length field wrong or too large; type; blocks do not fill; no such message; output short.
-pub const TOO_SHORT: u32 = 50;
-
-pub const WRONG_LENGTH: u32 = 51;
-
-pub const WRONG_TYPE: u32 = 52;
-
-pub const NOT_FILLED: u32 = 53;
-
-pub const NO_MESSAGE: u32 = 54;
-
-pub const OUTPUT_SHORT: u32 = 55;
-
 // A packet's numbers: where its session stands, its sequence, its type, its count of messages.
 pub struct Header {
     pub session: usize,
@@ -165,12 +152,12 @@ pub fn block_fault(kind: u8, blocks: &[u8]) -> u32
     ensures { λ r. ⌜ r ≡ blockFault kind (now (blocks .entry)) ⌝ }
 {
     if !is_known(kind) {
-        return WRONG_TYPE;
+        return 52;
     }
     let w = walk_kind(kind, blocks, 0, 0);
     match w {
         Walked::Filled(_) => 0,
-        Walked::Broken => NOT_FILLED,
+        Walked::Broken => 53,
     }
 }
 
@@ -188,7 +175,7 @@ fn look_inside(p: &[u8], kind: u8, n: usize) -> Looked
 {
     let r = walk_kind(kind, p, HEAD, n);
     let Walked::Filled(t) = r else {
-        return Looked::Refused(NOT_FILLED);
+        return Looked::Refused(53);
     };
     let header = Header {
         session: SESSION_AT,
@@ -204,17 +191,17 @@ fn look(p: &[u8], n: usize) -> Looked
     ensures { λ r. ⌜ r ≡ looked n (packetOf (now (p .entry))) ⌝ }
 {
     if p.len() < HEAD {
-        return Looked::Refused(TOO_SHORT);
+        return Looked::Refused(50);
     }
     if wire::number(p, 0, 4) != p.len() as u64 {
-        return Looked::Refused(WRONG_LENGTH);
+        return Looked::Refused(51);
     }
     if MAX_PACKET < p.len() {
-        return Looked::Refused(WRONG_LENGTH);
+        return Looked::Refused(51);
     }
     let kind = p[KIND_AT];
     if !is_known(kind) {
-        return Looked::Refused(WRONG_TYPE);
+        return Looked::Refused(52);
     }
     look_inside(p, kind, n)
 }
@@ -248,7 +235,7 @@ fn place_of(t: Trail, n: usize) -> Located
     if n < t.count {
         return Located::At(t.at, t.len);
     }
-    Located::Refused(NO_MESSAGE)
+    Located::Refused(54)
 }
 
 // The n-th message as a part of the packet; for a refusal it is empty.

@@ -5,10 +5,10 @@ use mathlib.Core.List.{List, _++_}
 use Prim.Native.Nat.{ℕ, _+_}
 use lib.Dec.{ltb}
 use lib.ListN.{length}
-use Rattle.wire.specs.Choice.{pick}
+use Rattle.wire.specs.Choice.{pick, _when_else_}
 use Rattle.wire.specs.Bytes.{bytes}
 use Rattle.wire.specs.Overlay.{overlay}
-use Rattle.moss.specs.Limits.{headLength, maxPacket, maxMessage, wrongLength, wrongType, notFilled, outputShort}
+use Rattle.moss.specs.Limits.{headLength, maxPacket, maxMessage}
 use Rattle.moss.specs.Blocks.{block}
 use Rattle.moss.specs.Packet.{Given, gives, refuses, knownKind, carried}
 use Rattle.moss_writer.specs.declared.Written.{Written}
@@ -19,22 +19,24 @@ packetBytes session sequence kind blocks = bytes 4 (headLength + length blocks) 
 
 -- so many bytes, where the output has room
 abbrev pub roomFor : ℕ → ℕ → Given ℕ
-roomFor n room = pick (ltb room n) (refuses outputShort) (gives n)
+roomFor n room = pick (ltb room n) (refuses 55) (gives n)
 
 abbrev pub filledBy : Option (List (List ℕ)) → ℕ → ℕ → Given ℕ
-filledBy none n room = refuses notFilled
+filledBy none n room = refuses 53
 filledBy (some ms) n room = roomFor n room
 
 unfoldable pub writtenOf : ℕ → List ℕ → ℕ → Given ℕ
 writtenOf kind blocks room =
-    pick (ltb maxPacket (headLength + length blocks)) (refuses wrongLength)
-    (pick (knownKind kind) (filledBy (carried kind blocks) (headLength + length blocks) room) (refuses wrongType))
+    refuses 51 when ltb maxPacket (headLength + length blocks) else
+    filledBy (carried kind blocks) (headLength + length blocks) room when knownKind kind else
+    refuses 52
 
 -- one block at a place
 unfoldable pub laidOf : List ℕ → ℕ → ℕ → Given ℕ
 laidOf message at room =
-    pick (ltb maxMessage (length message)) (refuses wrongLength)
-    (pick (ltb room (at + (2 + length message))) (refuses outputShort) (gives (2 + length message)))
+    refuses 51 when ltb maxMessage (length message) else
+    refuses 55 when ltb room (at + (2 + length message)) else
+    gives (2 + length message)
 
 -- the code's answer, in the paper's values
 abbrev pub writes : Written → Given ℕ

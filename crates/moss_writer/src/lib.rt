@@ -21,10 +21,10 @@ pub fn lay_block(out: &mut [u8], at: usize, message: &[u8]) -> Written
 {
     let n = message.len();
     if MAX_MESSAGE < n {
-        return Written::Refused(moss::WRONG_LENGTH);
+        return Written::Refused(51);
     }
     if wire::room(out.len(), at) < 2 + n {
-        return Written::Refused(moss::OUTPUT_SHORT);
+        return Written::Refused(55);
     }
     wire::put_number(&mut *out, at, 2, n as u64);
     wire::put_bytes(&mut *out, at + 2, message);
@@ -36,7 +36,7 @@ fn plan(kind: u8, blocks: &[u8], room: usize) -> Written
     ensures { λ r. ⌜ writes r ≡ writtenOf kind (now (blocks .entry)) room ⌝ }
 {
     if moss::MAX_PACKET - moss::HEAD < blocks.len() {
-        return Written::Refused(moss::WRONG_LENGTH);
+        return Written::Refused(51);
     }
     let fault = moss::block_fault(kind, blocks);
     if fault != 0 {
@@ -44,7 +44,7 @@ fn plan(kind: u8, blocks: &[u8], room: usize) -> Written
     }
     let n = moss::HEAD + blocks.len();
     if room < n {
-        return Written::Refused(moss::OUTPUT_SHORT);
+        return Written::Refused(55);
     }
     Written::Bytes(n)
 }

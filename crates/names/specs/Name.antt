@@ -6,7 +6,7 @@ use mathlib.Core.List.{List, [], _∷_, _++_}
 use Prim.Native.Nat.{ℕ, _+_, _/_, _%_, _≤_}
 use lib.Dec.{eqb, leb, ltb}
 use lib.ListN.{length}
-use Rattle.wire.specs.Choice.{pick}
+use Rattle.wire.specs.Choice.{_when_else_}
 use Rattle.names.specs.Limits.{maxName}
 use Rattle.names.specs.Scan.{start, scan}
 
@@ -22,10 +22,10 @@ tailByte x = 0x80 + x % 0x40
 -- above         11110xxx 10xxxxxx 10xxxxxx 10xxxxxx
 unfoldable pub encode : ℕ → List ℕ
 encode c =
-    pick (leb c 0x7f) (c ∷ [])
-    (pick (leb c 0x7ff) ((0xc0 + c / 0x40) ∷ tailByte c ∷ [])
-    (pick (leb c 0xffff) ((0xe0 + c / 0x1000) ∷ tailByte (c / 0x40) ∷ tailByte c ∷ [])
-    ((0xf0 + c / 0x40000) ∷ tailByte (c / 0x1000) ∷ tailByte (c / 0x40) ∷ tailByte c ∷ [])))
+    c ∷ [] when leb c 0x7f else
+    (0xc0 + c / 0x40) ∷ tailByte c ∷ [] when leb c 0x7ff else
+    (0xe0 + c / 0x1000) ∷ tailByte (c / 0x40) ∷ tailByte c ∷ [] when leb c 0xffff else
+    (0xf0 + c / 0x40000) ∷ tailByte (c / 0x1000) ∷ tailByte (c / 0x40) ∷ tailByte c ∷ []
 
 unfoldable pub encodeAll : List ℕ → List ℕ
 encodeAll [] = []

@@ -4,7 +4,7 @@ use mathlib.Core.Bool.{Bool, _&&_}
 use mathlib.Core.List.{List, [], _∷_}
 use Prim.Native.Nat.{ℕ, _-_}
 use lib.Dec.{eqb, leb}
-use Rattle.wire.specs.Choice.{pick}
+use Rattle.wire.specs.Choice.{pick, _when_else_}
 use Rattle.names.specs.declared.Scan.{Scan}
 
 abbrev pub within : ℕ → ℕ → ℕ → Bool
@@ -34,10 +34,11 @@ after n x = record { left = n; low = lowAfter x; high = highAfter x }
 -- what the first byte of a code point leads to; of one byte, those from 32 to 126
 abbrev pub first : ℕ → Scan
 first x =
-    pick (within 32 126 x) start
-    (pick (within 0xc2 0xdf x) (after 1 x)
-    (pick (within 0xe0 0xef x) (after 2 x)
-    (pick (within 0xf0 0xf4 x) (after 3 x) bad)))
+    start when within 32 126 x else
+    after 1 x when within 0xc2 0xdf x else
+    after 2 x when within 0xe0 0xef x else
+    after 3 x when within 0xf0 0xf4 x else
+    bad
 
 abbrev pub next : Scan → ℕ → Scan
 next s x = pick (eqb (s .left) 0) (first x) (pick (within (s .low) (s .high) x) (tails (s .left - 1)) bad)

@@ -4,6 +4,7 @@ use mathlib.Core.List.{List, [], _∷_, _++_}
 use Prim.Native.Nat.{ℕ, _-_, _≤_}
 use lib.ListN.{length, take}
 use lib.Dec.{leb}
+use Rattle.wire.specs.Text.{ascii}
 use Rattle.wire.specs.Choice.{pick}
 use Rattle.text.specs.Text.{decimal}
 use Rattle.stream.specs.declared.Next.{Next}
@@ -31,10 +32,10 @@ Pours before at text after r = lineLimit ≤ length before → at ≤ length bef
 
 -- "end " where the input ended after its last record; "cut " where it ended inside one
 abbrev pub lastWord : Next → List ℕ
-lastWord End = 101 ∷ 110 ∷ 100 ∷ 32 ∷ []
-lastWord Cut = 99 ∷ 117 ∷ 116 ∷ 32 ∷ []
-lastWord (Record at len left) = 99 ∷ 117 ∷ 116 ∷ 32 ∷ []
+lastWord End = ascii "end "
+lastWord Cut = ascii "cut "
+lastWord (Record at len left) = ascii "cut "
 
 -- the last line, with how many records were whole
 abbrev pub lastLine : Next → ℕ → List ℕ
-lastLine next n = lastWord next ++ decimal n ++ 10 ∷ []
+lastLine next n = lastWord next ++ decimal n ++ ascii "\n"

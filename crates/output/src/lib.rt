@@ -3,6 +3,7 @@
 ghost use mathlib.Core.Path.{_≡_};
 ghost use mathlib.Core.List.{[], _∷_, _++_};
 ghost use lib.ListN.{length};
+ghost use Rattle.wire.specs.Text.{ascii};
 ghost use Rattle.wire.specs.Overlay.{overlay};
 ghost use Rattle.text.specs.Put.{Put};
 ghost use Rattle.text.specs.Text.{decimal, signedDecimal, hex};
@@ -72,7 +73,7 @@ pub fn pour_counted(out: &mut [u8], at: usize, word: &[u8], n: u64) -> usize
 
 // A word, a number and the end of the line.
 pub fn pour_counted_line(out: &mut [u8], at: usize, word: &[u8], n: u64) -> usize
-    ensures { λ r. ⌜ Pours (now (out .entry)) at (now (word .entry) ++ decimal n ++ 10 ∷ []) (now (out .exit)) r ⌝ }
+    ensures { λ r. ⌜ Pours (now (out .entry)) at (now (word .entry) ++ decimal n ++ ascii "\n") (now (out .exit)) r ⌝ }
 {
     let next = pour_counted(out, at, word, n);
     pour(out, next, b"\n")

@@ -9,14 +9,14 @@ use lib.ListN.{length, drop}
 use borrow.Author.Tests.{eq-eqb, ne-eqb}
 use Rattle.wire.specs.Choice.{pick}
 use Rattle.lmcp.specs.Table.{second}
-use Rattle.tally.specs.declared.Entered.{Entered}
-use Rattle.tally.specs.declared.Entered.the-variants.{Now, Full}
-use Rattle.tally.specs.Halving.{entered, wordsWith, Enters}
-use Rattle.counting.specs.Marks.{Mark, at, markAt, marksIn}
+use Rattle.sorted_set.specs.declared.Entered.{Entered}
+use Rattle.sorted_set.specs.declared.Entered.the-variants.{Now, Full}
+use Rattle.sorted_set.specs.Halving.{entered, wordsWith, Enters}
+use Rattle.count_rules.specs.Marks.{Mark, at, markAt, marksIn}
 use Rattle.pit_marks.specs.declared.Sizes.{Sizes}
 use Rattle.pit_marks.specs.declared.Taken.{Taken}
 use Rattle.pit_marks.specs.declared.Taken.the-variants as taken
-use Rattle.pit_marks.specs.Enters.{keyIn, Pitted, pitted, noRoom, sureEntered, ifSure, pitEntered, EntersSure, enterPit, onward, followed, enterMarks, Leaves, Listed, noTile, tileEntered, elementsOf, enterList, LeavesAll}
+use Rattle.pit_marks.specs.Enters.{keyIn, Pitted, pitted, sureEntered, ifSure, pitEntered, EntersSure, enterPit, onward, followed, enterMarks, Leaves, Listed, tileEntered, elementsOf, enterList, LeavesAll}
 
 abbrev pub withTiles : ℕ → Sizes → Sizes
 withTiles n had = record { tiles = n; pits = had .pits; sure = had .sure }
@@ -36,7 +36,7 @@ module _ (sure : List ℕ) (had : Sizes) (x : ℕ) (e : Entered) (sure′ : List
   pub sure-now : (n : ℕ) → e ≡ Now n → EntersSure sure had x (taken.Now (withSure n had)) sure′
   sure-now n q = by-sure (Now n) q
 
-  pub sure-full : e ≡ Full → EntersSure sure had x (taken.Refused noRoom) sure′
+  pub sure-full : e ≡ Full → EntersSure sure had x (taken.Refused 61) sure′
   sure-full q = by-sure Full q
 
 same-answer : (e : Entered) (a b : List ℕ) (had : Sizes) → sureEntered e a b had .answer ≡ sureEntered e [] [] had .answer
@@ -61,7 +61,7 @@ module _ (s : Bool) (x : ℕ) (pits sure : List ℕ) (had : Sizes) (e : Entered)
   unfolding enterPit
   by-pit f q t u = λ i. pitEntered ((sym (E .gave) ∙ q) i) (u i) x (sym (E .left) i) sure had
 
-  pub pit-full : e ≡ Full → Leaves (enterPit s x pits sure had) (taken.Refused noRoom) pits′ sure
+  pub pit-full : e ≡ Full → Leaves (enterPit s x pits sure had) (taken.Refused 61) pits′ sure
   pit-full q = as-said (by-pit Full q s refl) (record { gave = refl; pits-left = refl; sure-left = refl })
 
   pub pit-unsure : (n : ℕ) → e ≡ Now n → s ≡ false → Leaves (enterPit s x pits sure had) (taken.Now (withPits n had)) pits′ sure
@@ -143,9 +143,9 @@ module _ (l : List ℤ) (tiles pits sure : List ℕ) (had : Sizes) (x : ℕ) (ex
       (λ i. tileEntered (entered tiles (had .tiles) (sym ex i)) (wordsWith tiles (had .tiles) (sym ex i)) (enterMarks (at l 2) (elementsOf l)) pits sure had)
       ∙ (λ i. tileEntered ((sym (E .gave) ∙ q) i) (sym (E .left) i) (enterMarks (at l 2) (elementsOf l)) pits sure had)
 
-  pub tile-full : e ≡ Full → LeavesAll (enterList l tiles pits sure had) (taken.Refused noTile) tiles′ pits sure
+  pub tile-full : e ≡ Full → LeavesAll (enterList l tiles pits sure had) (taken.Refused 60) tiles′ pits sure
   tile-full q =
-      subst (λ (z : Listed). LeavesAll z (taken.Refused noTile) tiles′ pits sure) (sym (by-tile Full q))
+      subst (λ (z : Listed). LeavesAll z (taken.Refused 60) tiles′ pits sure) (sym (by-tile Full q))
       (record { tiles-left = refl; rest = record { gave = refl; pits-left = refl; sure-left = refl } })
 
   pub tile-now : (n : ℕ) → e ≡ Now n → (v : ℕ) → v ≡ at l 0 → (r : Taken) (a b : List ℕ)

@@ -17,13 +17,13 @@ use Rattle.lmcp.specs.Lists.{readList}
 use Rattle.lmcp.specs.Spelled.{Element, null, marked, spellElement, spellAll, Spelled}
 use Rattle.lmcp.proofs.Spells.{pit-list-spelled}
 use Rattle.lmcp.proofs.Answers.{Plain, root-type}
-use Rattle.tally.specs.Lists.{In, gather}
-use Rattle.counting.specs.Marks.{Mark, PitList, at, markLength, markAt, marksIn, pitListOf, listRead, listIn}
-use Rattle.counting.specs.Keys.{Within}
-use Rattle.counting.specs.Spelled.{markOf, listWith}
-use Rattle.counting.proofs.Bounds.{payload-within}
-use Rattle.counting.proofs.Spells.{mark-is, past-is, list-is}
-use Rattle.counting.proofs.Steps.{listOf, marks-none}
+use Rattle.sorted_set.specs.Lists.{In, gather}
+use Rattle.count_rules.specs.Marks.{Mark, PitList, at, markLength, markAt, marksIn, pitListOf, listRead, listIn}
+use Rattle.count_rules.specs.Keys.{Within}
+use Rattle.count_rules.specs.Spelled.{markOf, listWith}
+use Rattle.count_rules.proofs.Bounds.{payload-within}
+use Rattle.count_rules.proofs.Spells.{mark-is, past-is, list-is}
+use Rattle.count_rules.proofs.Steps.{listOf, marks-none}
 use Rattle.pit_marks.specs.Enters.{elementsOf}
 
 element-some : (two : Bool) (e : Element) → 1 ≤ length (spellElement two e)

@@ -11,24 +11,24 @@ use lib.ListN.{length}
 use borrow.Author.Tests.{ltb-true, ltb-false, lt-ltb, le-ltb}
 use Rattle.wire.specs.Choice.{pick}
 use Rattle.wire.proofs.Choices.{either}
-use Rattle.tally.specs.declared.Entered.{Entered}
-use Rattle.tally.specs.declared.Entered.the-variants.{Now, Full}
-use Rattle.tally.specs.Lists.{In, gather, enter, rising}
-use Rattle.tally.specs.Halving.{entered, wordsWith, Holds}
-use Rattle.tally.proofs.Members.{gather-in, gather-from, Source, map-in, map-from, Origin, in-left, in-right}
-use Rattle.tally.proofs.Rises.{distinct-fewer}
-use Rattle.tally.proofs.Sets.{as-many, words-long, entered-is, entered-holds}
-use Rattle.counting.specs.Marks.{Mark, PitList, at}
-use Rattle.counting.specs.Report.{tiles, pitOf, pitIfSure}
-use Rattle.counting.specs.Count.{maxTiles, maxPits, pitsInAll}
-use Rattle.counting.specs.Keys.{span, pitKey, keysBy, pitKeys, sureKeys, Within, AllWithin}
-use Rattle.counting.proofs.Means.{sure-is}
-use Rattle.counting.proofs.Steps.{listOf, pits-more, sure-more, unsure-stay, keys-fewer}
-use Rattle.counting.proofs.Keys.{pits-in-all}
+use Rattle.sorted_set.specs.declared.Entered.{Entered}
+use Rattle.sorted_set.specs.declared.Entered.the-variants.{Now, Full}
+use Rattle.sorted_set.specs.Lists.{In, gather, enter, rising}
+use Rattle.sorted_set.specs.Halving.{entered, wordsWith, Holds}
+use Rattle.sorted_set.proofs.Members.{gather-in, gather-from, Source, map-in, map-from, Origin, in-left, in-right}
+use Rattle.sorted_set.proofs.Rises.{distinct-fewer}
+use Rattle.sorted_set.proofs.Sets.{as-many, words-long, entered-is, entered-holds}
+use Rattle.count_rules.specs.Marks.{Mark, PitList, at}
+use Rattle.count_rules.specs.Report.{tiles, pitOf, pitIfSure}
+use Rattle.count_rules.specs.Count.{maxTiles, maxPits, pitsInAll}
+use Rattle.count_rules.specs.Keys.{span, pitKey, keysBy, pitKeys, sureKeys, Within, AllWithin}
+use Rattle.count_rules.proofs.Means.{sure-is}
+use Rattle.count_rules.proofs.Steps.{listOf, pits-more, sure-more, unsure-stay, keys-fewer}
+use Rattle.count_rules.proofs.Keys.{pits-in-all}
 use Rattle.pit_marks.specs.declared.Sizes.{Sizes}
 use Rattle.pit_marks.specs.declared.Taken.{Taken}
 use Rattle.pit_marks.specs.declared.Taken.the-variants as taken
-use Rattle.pit_marks.specs.Enters.{keyIn, Pitted, pitted, noRoom, sureEntered, ifSure, pitEntered, enterPit, onward, followed, enterMarks, Listed, noTile, tileEntered, elementsOf, enterList}
+use Rattle.pit_marks.specs.Enters.{keyIn, Pitted, pitted, sureEntered, ifSure, pitEntered, enterPit, onward, followed, enterMarks, Listed, tileEntered, elementsOf, enterList}
 use Rattle.pit_marks.specs.Sets.{Has, over}
 use Rattle.pit_marks.proofs.Cases.{withTiles, withPits, withSure}
 
@@ -96,7 +96,7 @@ module _ (t : ℕ) (small : t < span) (seen : List PitList) where
     more : P (ds ++ m ∷ []) ≡ enter k (P ds)
     more = pits-more t seen ds m
 
-    mark-full : maxPits < length (P (ds ++ m ∷ [])) → enterPit (m .sure) (keyIn t (m .pit)) p s had .answer ≡ taken.Refused noRoom
+    mark-full : maxPits < length (P (ds ++ m ∷ [])) → enterPit (m .sure) (keyIn t (m .pit)) p s had .answer ≡ taken.Refused 61
     unfolding enterPit
     mark-full o =
         let e : entered p (had .pits) k ≡ Full = is-full p (had .pits) (P ds) k maxPits (q .the-pits) (q .pits-room) (subst (λ (l : List ℕ). maxPits < length l) more o) in
@@ -174,13 +174,13 @@ module _ (t : ℕ) (small : t < span) (seen : List PitList) where
       ap (λ (r : Taken). onward (enterMarks t ms) r (z .pits) (z .sure) .answer) e
 
   marks-full : (ms ds : List Mark) (p s : List ℕ) (had : Sizes) → Fit ms → Part ds p s had → maxPits < length (P (ds ++ ms))
-      → enterMarks t ms p s had .answer ≡ taken.Refused noRoom
+      → enterMarks t ms p s had .answer ≡ taken.Refused 61
   marks-full [] ds p s had f q o =
       absurd (let a = within-room ds p s had q in let b : maxPits < length (P ds) = subst (λ (l : List Mark). maxPits < length (P l)) (append-nil ds) o in let z : ⊥ = omega arith in z)
   marks-full (m ∷ ms) ds p s had f q o =
       let fm : m .pit < span = f m (inl refl) in
       elim (either (ltb maxPits (length (P (ds ++ m ∷ []))))) [
-        | inl e ↦ stops m ms p s had noRoom (mark-full ds m fm p s had q (ltb-true _ _ e))
+        | inl e ↦ stops m ms p s had 61 (mark-full ds m fm p s had q (ltb-true _ _ e))
         | inr e ↦
             let g : Grown (had .tiles) (ds ++ m ∷ []) (enterPit (m .sure) (keyIn t (m .pit)) p s had) = mark-now ds m fm p s had q (ltb-false _ _ e) in
             ap (λ (z : Pitted). z .answer) (goes-on m ms p s had (g .now) (g .p) (g .s) (g .is))
@@ -243,7 +243,7 @@ module _ (l : List ℤ) (t p s : List ℕ) (had : Sizes) (seen : List PitList) (
   unfolding enterList rising
   no-tile o =
       let e : entered t (had .tiles) tile ≡ Full = is-full t (had .tiles) (tiles seen) tile maxTiles (h .the-tiles) (h .tiles-room) o in
-      refused-so _ all noTile (rw e) (rw (lt-ltb _ _ o)) (omega arith)
+      refused-so _ all 60 (rw e) (rw (lt-ltb _ _ o)) (omega arith)
 
   module _ (o : length (tiles all) ≤ maxTiles) where
     abbrev then : Sizes
@@ -265,8 +265,8 @@ module _ (l : List ℤ) (t p s : List ℕ) (had : Sizes) (seen : List PitList) (
 
     no-pit : maxPits < pitsInAll all → Judged (enterList l t p s had) all
     no-pit g =
-        let e : enterMarks tile ms p s then .answer ≡ taken.Refused noRoom = marks-full tile (w .tile) seen ms [] p s then fit at-first (omega (arith, in-all)) in
-        refused-so _ all noRoom (ap (λ (E : Listed). E .then .answer) list-is ∙ e) (rw (le-ltb _ _ o, lt-ltb _ _ g)) (omega arith)
+        let e : enterMarks tile ms p s then .answer ≡ taken.Refused 61 = marks-full tile (w .tile) seen ms [] p s then fit at-first (omega (arith, in-all)) in
+        refused-so _ all 61 (ap (λ (E : Listed). E .then .answer) list-is ∙ e) (rw (le-ltb _ _ o, lt-ltb _ _ g)) (omega arith)
 
     all-in : pitsInAll all ≤ maxPits → Judged (enterList l t p s had) all
     unfolding rising

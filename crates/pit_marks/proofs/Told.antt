@@ -10,17 +10,17 @@ use borrow.Author.Tests.{ltb-true, ltb-false}
 use Rattle.wire.proofs.Choices.{either}
 use Rattle.words.specs.Builds.{build}
 use Rattle.words.proofs.Builds.{build-is}
-use Rattle.tally.specs.Lists.{In, rising, below}
-use Rattle.tally.specs.Halving.{held, rankIn, Holds}
-use Rattle.tally.proofs.Members.{in-at}
-use Rattle.tally.proofs.Sets.{all-held, as-many, word-at, rank-below}
-use Rattle.counting.specs.Marks.{PitList}
-use Rattle.counting.specs.Report.{tiles, pits, surePits}
-use Rattle.counting.specs.Count.{maxTiles, maxPits}
-use Rattle.counting.specs.Keys.{span, pitKey, pitKeys, sureKeys}
-use Rattle.counting.specs.Meaning.{Names}
-use Rattle.counting.proofs.Keys.{pits-part, sure-part, pits-end, sure-end}
-use Rattle.counting.proofs.Under.{named}
+use Rattle.sorted_set.specs.Lists.{In, rising, below}
+use Rattle.sorted_set.specs.Halving.{held, rankIn, Holds}
+use Rattle.sorted_set.proofs.Members.{in-at}
+use Rattle.sorted_set.proofs.Sets.{all-held, as-many, word-at, rank-below}
+use Rattle.count_rules.specs.Marks.{PitList}
+use Rattle.count_rules.specs.Report.{tiles, pits, surePits}
+use Rattle.count_rules.specs.Count.{maxTiles, maxPits}
+use Rattle.count_rules.specs.Keys.{span, pitKey, pitKeys, sureKeys}
+use Rattle.count_rules.specs.Meaning.{Names}
+use Rattle.count_rules.proofs.Keys.{pits-part, sure-part, pits-end, sure-end}
+use Rattle.count_rules.proofs.Under.{named}
 use Rattle.pit_marks.specs.declared.Sizes.{Sizes}
 use Rattle.pit_marks.specs.Lines.{endOf, pitsIn}
 use Rattle.pit_marks.specs.Sets.{Has}

@@ -12,8 +12,8 @@ use lib.Seq.{drop-drop}
 use borrow.Author.Tests.{ltb-true, ltb-false, eq-eqb, ne-eqb}
 use Rattle.wire.specs.Choice.{pick}
 use Rattle.wire.proofs.Choices.{pick-all, either}
-use Rattle.counting.specs.Marks.{Mark, at, markLength, markAt, marksIn}
-use Rattle.counting.proofs.Steps.{marks-none}
+use Rattle.count_rules.specs.Marks.{Mark, at, markLength, markAt, marksIn}
+use Rattle.count_rules.proofs.Steps.{marks-none}
 
 -- ---- how many numbers an element takes
 

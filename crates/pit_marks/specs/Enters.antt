@@ -6,11 +6,11 @@ use Prim.Native.Nat.{ℕ, _%_}
 use lib.IntN.{ℤ}
 use lib.ListN.{length, drop}
 use Rattle.lmcp.specs.Table.{second}
-use Rattle.tally.specs.declared.Entered.{Entered}
-use Rattle.tally.specs.declared.Entered.the-variants.{Now, Full}
-use Rattle.tally.specs.Halving.{entered, wordsWith}
-use Rattle.counting.specs.Marks.{Mark, at, marksIn}
-use Rattle.counting.specs.Keys.{span, pitKey}
+use Rattle.sorted_set.specs.declared.Entered.{Entered}
+use Rattle.sorted_set.specs.declared.Entered.the-variants.{Now, Full}
+use Rattle.sorted_set.specs.Halving.{entered, wordsWith}
+use Rattle.count_rules.specs.Marks.{Mark, at, marksIn}
+use Rattle.count_rules.specs.Keys.{span, pitKey}
 use Rattle.pit_marks.specs.declared.Sizes.{Sizes}
 use Rattle.pit_marks.specs.declared.Taken.{Taken}
 use Rattle.pit_marks.specs.declared.Taken.the-variants as taken
@@ -30,12 +30,9 @@ pub record Pitted : Type 0 where
 abbrev pub pitted : Taken → List ℕ → List ℕ → Pitted
 pitted r pits sure = record { answer = r; pits = pits; sure = sure }
 
-abbrev pub noRoom : ℕ
-noRoom = 61
-
 abbrev pub sureEntered : Entered → List ℕ → List ℕ → Sizes → Pitted
 sureEntered (Now n) pits sure had = pitted (taken.Now (record { tiles = had .tiles; pits = had .pits; sure = n })) pits sure
-sureEntered Full pits sure had = pitted (taken.Refused noRoom) pits sure
+sureEntered Full pits sure had = pitted (taken.Refused 61) pits sure
 
 -- a sure one is entered there too
 abbrev pub ifSure : Bool → ℕ → List ℕ → List ℕ → Sizes → Pitted
@@ -44,7 +41,7 @@ ifSure false x pits sure had = pitted (taken.Now had) pits sure
 
 abbrev pub pitEntered : Entered → Bool → ℕ → List ℕ → List ℕ → Sizes → Pitted
 pitEntered (Now n) s x pits sure had = ifSure s x pits sure (record { tiles = had .tiles; pits = n; sure = had .sure })
-pitEntered Full s x pits sure had = pitted (taken.Refused noRoom) pits sure
+pitEntered Full s x pits sure had = pitted (taken.Refused 61) pits sure
 
 unfoldable pub enterPit : Bool → ℕ → List ℕ → List ℕ → Sizes → Pitted
 enterPit s x pits sure had = pitEntered (entered pits (had .pits) x) s x (wordsWith pits (had .pits) x) sure had
@@ -78,12 +75,9 @@ pub record Listed : Type 0 where
   pub tiles : List ℕ
   pub then : Pitted
 
-abbrev pub noTile : ℕ
-noTile = 60
-
 abbrev pub tileEntered : Entered → List ℕ → (List ℕ → List ℕ → Sizes → Pitted) → List ℕ → List ℕ → Sizes → Listed
 tileEntered (Now n) tiles k pits sure had = record { tiles = tiles; then = k pits sure (record { tiles = n; pits = had .pits; sure = had .sure }) }
-tileEntered Full tiles k pits sure had = record { tiles = tiles; then = pitted (taken.Refused noTile) pits sure }
+tileEntered Full tiles k pits sure had = record { tiles = tiles; then = pitted (taken.Refused 60) pits sure }
 
 -- the elements of a list begin behind its version, type, tile and count, and go to the end of the numbers: each takes one at least
 abbrev pub elementsOf : List ℤ → List Mark

@@ -7,8 +7,8 @@ use lib.ListN.{getD}
 use Rattle.wire.specs.Choice.{pick}
 use Rattle.wire.specs.Overlay.{overlay}
 use Rattle.words.specs.Builds.{build}
-use Rattle.tally.specs.Halving.{held, rankIn}
-use Rattle.counting.specs.Keys.{span, pitKey}
+use Rattle.sorted_set.specs.Halving.{held, rankIn}
+use Rattle.count_rules.specs.Keys.{span, pitKey}
 use Rattle.pit_marks.specs.declared.Sizes.{Sizes}
 
 -- where tile t's pits end among the first n: where the next tile's begin, or at the end

@@ -5,12 +5,12 @@ use Prim.Native.Nat.{ℕ}
 use lib.Dec.{ltb}
 use lib.ListN.{length}
 use Rattle.wire.specs.Choice.{pick}
-use Rattle.tally.specs.Lists.{rising}
-use Rattle.tally.specs.Halving.{Holds}
-use Rattle.counting.specs.Marks.{PitList}
-use Rattle.counting.specs.Report.{tiles}
-use Rattle.counting.specs.Count.{maxTiles, maxPits, pitsInAll}
-use Rattle.counting.specs.Keys.{pitKeys, sureKeys, AllWithin}
+use Rattle.sorted_set.specs.Lists.{rising}
+use Rattle.sorted_set.specs.Halving.{Holds}
+use Rattle.count_rules.specs.Marks.{PitList}
+use Rattle.count_rules.specs.Report.{tiles}
+use Rattle.count_rules.specs.Count.{maxTiles, maxPits, pitsInAll}
+use Rattle.count_rules.specs.Keys.{pitKeys, sureKeys, AllWithin}
 use Rattle.pit_marks.specs.declared.Sizes.{Sizes}
 
 -- their tiles, their pits and their sure pits, in as many words as the limits allow

@@ -5,16 +5,11 @@ ghost use Prim.Native.Nat.{_+_, _<_, min};
 ghost use lib.Dec.{eqb};
 ghost use lib.ListN.{length, drop};
 ghost use Rattle.wire.specs.Choice.{pick};
-ghost use Rattle.counting.specs.Marks.{at, markLength, markAt, marksIn};
-ghost use Rattle.counting.specs.Keys.{span};
+ghost use Rattle.count_rules.specs.Marks.{at, markLength, markAt, marksIn};
+ghost use Rattle.count_rules.specs.Keys.{span};
 ghost use Rattle.pit_marks.specs.Enters.{keyIn, EntersSure, enterPit, enterMarks, enterList, Leaves, LeavesAll};
 ghost use Rattle.pit_marks.specs.Lines.{endOf, pitsIn, Lays};
-use tally::Entered;
-
-// Refusals: one tile too many, one pit too many.
-pub const TILES_FULL: u32 = 60;
-
-pub const PITS_FULL: u32 = 61;
+use sorted_set::Entered;
 
 // How many numbers there are for tiles, and for pits.
 const SPAN: u64 = 4294967296;
@@ -92,14 +87,14 @@ fn next_place(place: usize, length: usize, n: usize) -> usize
 fn enter_sure(sure: &mut [u64], had: Sizes, x: u64) -> Taken
     ensures { λ r. ⌜ EntersSure (now (sure .entry)) had x r (now (sure .exit)) ⌝ }
 {
-    let entered = tally::enter(sure, had.sure, x);
+    let entered = sorted_set::enter(sure, had.sure, x);
     match entered {
         Entered::Now(n) => Taken::Now(Sizes {
             tiles: had.tiles,
             pits: had.pits,
             sure: n,
         }),
-        Entered::Full => Taken::Refused(PITS_FULL),
+        Entered::Full => Taken::Refused(61),
     }
 }
 
@@ -107,9 +102,9 @@ fn enter_sure(sure: &mut [u64], had: Sizes, x: u64) -> Taken
 fn enter_pit(pits: &mut [u64], sure: &mut [u64], had: Sizes, x: u64, is_sure: bool) -> Taken
     ensures { λ r. ⌜ Leaves (enterPit «is_sure» x (now (pits .entry)) (now (sure .entry)) had) r (now (pits .exit)) (now (sure .exit)) ⌝ }
 {
-    let entered = tally::enter(pits, had.pits, x);
+    let entered = sorted_set::enter(pits, had.pits, x);
     let Entered::Now(n) = entered else {
-        return Taken::Refused(PITS_FULL);
+        return Taken::Refused(61);
     };
     let now = Sizes {
         tiles: had.tiles,
@@ -177,9 +172,9 @@ pub fn enter_list(
     ensures { λ r. ⌜ LeavesAll (enterList (now (list .entry)) (now (tiles .entry)) (now (pits .entry)) (now (sure .entry)) had) r (now (tiles .exit)) (now (pits .exit)) (now (sure .exit)) ⌝ }
 {
     let tile = number_at(list, 0, 2);
-    let entered = tally::enter(tiles, had.tiles, tile);
+    let entered = sorted_set::enter(tiles, had.tiles, tile);
     let Entered::Now(n) = entered else {
-        return Taken::Refused(TILES_FULL);
+        return Taken::Refused(60);
     };
     let now = Sizes {
         tiles: n,
@@ -198,7 +193,7 @@ fn end_of(pits: &[u64], n: usize, t: u64) -> usize
     ensures { λ r. ⌜ r ≡ endOf (now (pits .entry)) n t ⌝ }
 {
     if t + 1 < SPAN {
-        return tally::rank(pits, n, (t + 1) * SPAN);
+        return sorted_set::rank(pits, n, (t + 1) * SPAN);
     }
     wire::least(n, pits.len())
 }
@@ -208,7 +203,7 @@ fn pits_of(pits: &[u64], n: usize, tile: u64) -> u64
     ensures { λ r. ⌜ r ≡ pitsIn (now (pits .entry)) n tile ⌝ }
 {
     let t = tile % SPAN;
-    let first = tally::rank(pits, n, t * SPAN);
+    let first = sorted_set::rank(pits, n, t * SPAN);
     wire::room(end_of(pits, n, t), first) as u64
 }
 

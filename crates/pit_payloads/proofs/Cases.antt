@@ -17,9 +17,9 @@ use Rattle.lmcp.specs.Message.{found, ReadTo}
 use Rattle.lmcp.specs.Lists.{readList}
 use Rattle.lmcp.proofs.Answers.{read-refuses}
 use Rattle.lmcp.proofs.Lent.{Listed, read}
-use Rattle.counting.specs.Marks.{at}
-use Rattle.counting.specs.Count.{tooLong}
-use Rattle.counting.proofs.Answered.{payload-read}
+use Rattle.count_rules.specs.Marks.{at}
+use Rattle.count_rules.specs.Count.{tooLong}
+use Rattle.count_rules.proofs.Answered.{payload-read}
 use Rattle.pit_marks.specs.declared.Sizes.{Sizes}
 use Rattle.pit_marks.specs.declared.Taken.{Taken}
 use Rattle.pit_marks.specs.Enters.{enterList, LeavesAll}

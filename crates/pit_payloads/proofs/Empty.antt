@@ -7,8 +7,8 @@ use Rattle.lmcp.specs.Run.{refused, prepend}
 use Rattle.lmcp.specs.Read.{Read}
 use Rattle.lmcp.specs.Message.{frame, readMessage, listed}
 use Rattle.lmcp.specs.Lists.{readAs, readList}
-use Rattle.counting.specs.Marks.{PitList, listRead, listIn}
-use Rattle.counting.specs.Count.{tooLong, fault}
+use Rattle.count_rules.specs.Marks.{PitList, listRead, listIn}
+use Rattle.count_rules.specs.Count.{tooLong, fault}
 use Rattle.pit_marks.specs.declared.Sizes.{Sizes}
 use Rattle.pit_marks.specs.Sets.{Has}
 use Rattle.pit_payloads.proofs.Takes.{has-over, fault-over}

@@ -13,14 +13,14 @@ use Rattle.wire.specs.Bytes.{Bytes}
 use Rattle.lmcp.specs.Run.{got, refused}
 use Rattle.lmcp.specs.Read.{Read}
 use Rattle.lmcp.specs.Lists.{readList}
-use Rattle.tally.specs.Lists.{rising}
-use Rattle.tally.proofs.Sets.{as-many}
-use Rattle.counting.specs.Marks.{PitList, at, listRead, listIn}
-use Rattle.counting.specs.Report.{tiles}
-use Rattle.counting.specs.Count.{maxTiles, maxPits, pitsInAll, tooLong, fault}
-use Rattle.counting.specs.Keys.{pitKeys}
-use Rattle.counting.proofs.Keys.{pits-in-all}
-use Rattle.counting.proofs.Steps.{listOf}
+use Rattle.sorted_set.specs.Lists.{rising}
+use Rattle.sorted_set.proofs.Sets.{as-many}
+use Rattle.count_rules.specs.Marks.{PitList, at, listRead, listIn}
+use Rattle.count_rules.specs.Report.{tiles}
+use Rattle.count_rules.specs.Count.{maxTiles, maxPits, pitsInAll, tooLong, fault}
+use Rattle.count_rules.specs.Keys.{pitKeys}
+use Rattle.count_rules.proofs.Keys.{pits-in-all}
+use Rattle.count_rules.proofs.Steps.{listOf}
 use Rattle.pit_marks.specs.declared.Sizes.{Sizes}
 use Rattle.pit_marks.specs.declared.Taken.{Taken}
 use Rattle.pit_marks.specs.declared.Taken.the-variants as taken

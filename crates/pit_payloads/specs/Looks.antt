@@ -10,7 +10,7 @@ use Rattle.lmcp.specs.Run.{got, refused}
 use Rattle.lmcp.specs.Read.{Read}
 use Rattle.lmcp.specs.Message.{listed}
 use Rattle.lmcp.specs.Lists.{readList}
-use Rattle.counting.specs.Marks.{at}
+use Rattle.count_rules.specs.Marks.{at}
 use Rattle.pit_marks.specs.declared.Sizes.{Sizes}
 use Rattle.pit_marks.specs.declared.Taken.{Taken}
 use Rattle.pit_marks.specs.declared.Taken.the-variants as taken

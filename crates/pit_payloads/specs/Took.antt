@@ -6,8 +6,8 @@ use Prim.Native.Nat.{ℕ}
 use lib.Dec.{eqb}
 use lib.ListN.{length}
 use Rattle.wire.specs.Choice.{pick}
-use Rattle.counting.specs.Marks.{PitList, listIn}
-use Rattle.counting.specs.Count.{fault}
+use Rattle.count_rules.specs.Marks.{PitList, listIn}
+use Rattle.count_rules.specs.Count.{fault}
 use Rattle.pit_marks.specs.declared.Sizes.{Sizes}
 use Rattle.pit_marks.specs.Sets.{Has}
 use Rattle.pit_payloads.specs.declared.Looked.{Looked}

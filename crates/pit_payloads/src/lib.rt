@@ -6,9 +6,6 @@ use lmcp::Found;
 use pit_marks::Sizes;
 use pit_marks::Taken;
 
-// Refusal: the number list is too short for the message.
-pub const LIST_SHORT: u32 = 13;
-
 // What a payload is: no PitList, or one, with how many numbers the sets then have, or refused.
 pub enum Looked {
     Other,
@@ -41,8 +38,8 @@ fn enter_numbers(
 fn unread(e: u32) -> Looked
     ensures { λ r. ⌜ r ≡ unreadBy e ⌝ }
 {
-    if e == LIST_SHORT {
-        return Looked::Refused(LIST_SHORT);
+    if e == 13 {
+        return Looked::Refused(13);
     }
     Looked::Other
 }

@@ -31,6 +31,7 @@ use Rattle.receiver_state.proofs.Windows.{window-length, overlay-whole}
 use Rattle.receiver_state.proofs.Firsts.{optionOf, first-within}
 use Rattle.receiver_state.proofs.Bridge.{slots-length, free-slot, oldest-slot}
 use Rattle.receiver_state.proofs.Cases.{row-is, key-is, size-is, name-is}
+use Rattle.receiver.specs.Lent.{lent}
 use Rattle.receiver.specs.Calls.{Leaves}
 use Rattle.receiver.specs.Inside.{Slots, Releases, Occupies, Delivers, Seats, Begins}
 use Rattle.receiver.specs.declared.Outcome.{Outcome}
@@ -70,14 +71,14 @@ module _ (w n : List ℕ) (s : ℕ) (h : s < slotCount) (gone : Emptied) (f : Fr
   its = ap (λ (m : Machine). slotAt (m .slots) s) (K .machine) ∙ set-there (slotsOf w n) s x (slots-length w n) h
 
   pub put-kept : (nm : List ℕ) → allHeld x ≡ false → nm ≡ noName
-      → Leaves (step5 (view w n) (slotsOf w n) store ledger gone s f) (record { answer = Kept; emptied = gone; name = nm }) w1 n1 store1 (ledgerWith ledger s f)
-  put-kept nm e en = subst (λ (a : After). Leaves a (record { answer = Kept; emptied = gone; name = nm }) w1 n1 store1 (ledgerWith ledger s f))
+      → Leaves (step5 (view w n) (slotsOf w n) store ledger gone s f) (record { answer = Kept; emptied = gone; name = nm }) (lent w1 n1 store1 (ledgerWith ledger s f))
+  put-kept nm e en = subst (λ (a : After). Leaves a (record { answer = Kept; emptied = gone; name = nm }) (lent w1 n1 store1 (ledgerWith ledger s f)))
       (sym (step5-kept (view w n) (slotsOf w n) store ledger s f e gone))
       (record { answer = refl; emptied = refl; name = en; machine = K .machine; store = refl; ledger = refl })
 
   pub put-delivered : (r : Outcome) (w2 n2 : List ℕ) → allHeld x ≡ true → Delivers w1 n1 s gone r w2 n2
-      → Leaves (step5 (view w n) (slotsOf w n) store ledger gone s f) r w2 n2 store1 (ledgerWith ledger s f)
-  put-delivered r w2 n2 e D = subst (λ (a : After). Leaves a r w2 n2 store1 (ledgerWith ledger s f))
+      → Leaves (step5 (view w n) (slotsOf w n) store ledger gone s f) r (lent w2 n2 store1 (ledgerWith ledger s f))
+  put-delivered r w2 n2 e D = subst (λ (a : After). Leaves a r (lent w2 n2 store1 (ledgerWith ledger s f)))
       (sym (step5-delivered (view w n) (slotsOf w n) store ledger s f e gone))
       (record {
         answer = ap (λ (o : Outcome). o .answer) (D .outcome) ∙ (λ i. Delivered (InStore (s * K .machine i .slotSize)) (its i .size));

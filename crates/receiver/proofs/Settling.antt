@@ -28,12 +28,13 @@ use Rattle.steps.specs.Receive.{Machine, After, withSlots, stay, Verdict, refus
 use Rattle.steps.proofs.Branches.{step-unsound, step-sound, receive-refused, step5-delivered, step5-kept}
 use Rattle.receiver_state.specs.View.{roomWord, slotsOf, view, shaped, ready}
 use Rattle.receiver_state.proofs.Cases.{ready-after}
-use Rattle.deciding.specs.Decided.{withHeader, verdictOf, decided}
-use Rattle.deciding.specs.Inside.{Possible}
-use Rattle.deciding.specs.declared.Verdict as code
-use Rattle.deciding.specs.declared.Verdict.the-variants.{Refuse, Again, Deliver, Join, Begin}
-use Rattle.deciding.proofs.Gates.{ready-shaped, ready-sound}
-use Rattle.deciding.proofs.Decides.{said-back, possible, unready, decided-refused, decided-good}
+use Rattle.verdict.specs.Decided.{withHeader, verdictOf, decided}
+use Rattle.verdict.specs.Inside.{Possible}
+use Rattle.verdict.specs.declared.Verdict as code
+use Rattle.verdict.specs.declared.Verdict.the-variants.{Refuse, Again, Deliver, Join, Begin}
+use Rattle.verdict.proofs.Gates.{ready-shaped, ready-sound}
+use Rattle.verdict.proofs.Decides.{said-back, possible, unready, decided-refused, decided-good}
+use Rattle.receiver.specs.Lent.{Lent, lent}
 use Rattle.receiver.specs.Calls.{received, Leaves, told, Receives}
 use Rattle.receiver.specs.Inside.{stayed, SmallDone, Puts, Begins, enacted, settled, storeAfter, ledgerAfter, Storable, Able, Still, Plans, Settles}
 use Rattle.receiver.specs.declared.Outcome.{Outcome}
@@ -144,8 +145,8 @@ able-storable w n d (plan.Hold t h) a = (a .2, a .0 .room, a .1)
 -- ---- the whole call
 
 -- what is answered and left, in the values of document 01
-pub told-is : (sender : ℕ) (d : List ℕ) (a : After) (r : Outcome) (w n store ledger : List ℕ) → Leaves a r w n store ledger → told d store r ≡ heard (from sender d) a
-told-is sender d a r w n store ledger L = λ i. record { answer = reply d (L .store i) (L .answer i); emptied = emptiedKey (L .emptied i) }
+pub told-is : (sender : ℕ) (d : List ℕ) (a : After) (r : Outcome) (l : Lent) → Leaves a r l → told d (l .store) r ≡ heard (from sender d) a
+told-is sender d a r l L = λ i. record { answer = reply d (L .store i) (L .answer i); emptied = emptiedKey (L .emptied i) }
 
 enact-is : (m : Machine) (store ledger : List ℕ) (sender : ℕ) (d : List ℕ) (h : Header) (v : Verdict)
     → act m store ledger (keyOf sender (h .sequence)) (verdictOf d (withHeader h v)) ≡ enacted m store ledger sender d (withHeader h v)
@@ -164,7 +165,7 @@ its-sequence d h = go (h .small)
     go false = refl
 
 module _ (w n store ledger : List ℕ) (sender : ℕ) (d : List ℕ) where
-  not-ready : ready w n (length store) (length ledger) ≡ false → received w n store ledger sender d ≡ stay (view w n) store ledger (Refused 9)
+  not-ready : ready w n (length store) (length ledger) ≡ false → received (lent w n store ledger) sender d ≡ stay (view w n) store ledger (Refused 9)
   unfolding received
   not-ready e = go (shaped w n) refl
     where
@@ -173,7 +174,7 @@ module _ (w n store ledger : List ℕ) (sender : ℕ) (d : List ℕ) where
       go false s = refl
 
   is-ready : ready w n (length store) (length ledger) ≡ true
-      → received w n store ledger sender d ≡ receive (view w n) store ledger sender (says d (readDatagram (getD w roomWord 0) maxFragments d))
+      → received (lent w n store ledger) sender d ≡ receive (view w n) store ledger sender (says d (readDatagram (getD w roomWord 0) maxFragments d))
   unfolding received said
   is-ready e = rw (ready-shaped w n (length store) (length ledger) e) (step-sound (view w n) store ledger sender d (ready-sound w n (length store) (length ledger) e))
 
@@ -184,7 +185,7 @@ module _ (w n store ledger : List ℕ) (sender : ℕ) (d : List ℕ) where
       (λ i. act (view w n) store ledger (keyOf sender (its-sequence d h i)) (sym (said-back (view w n) store ledger sender d h) i))
       ∙ enact-is (view w n) store ledger sender d h (decide (view w n) store ledger sender (says d (read.Good h)))
 
-  pub received-is : received w n store ledger sender d ≡ enacted (view w n) store ledger sender d (decided w n store ledger sender d)
+  pub received-is : received (lent w n store ledger) sender d ≡ enacted (view w n) store ledger sender d (decided w n store ledger sender d)
   received-is = elim (either (ready w n (length store) (length ledger))) [
     | inr e ↦ not-ready e ∙ ap (enacted (view w n) store ledger sender d) (sym (unready w n store ledger sender d e))
     | inl e ↦ is-ready e ∙ by-read e (readDatagram (getD w roomWord 0) maxFragments d) refl
@@ -213,26 +214,26 @@ module _ (w n store ledger : List ℕ) (sender : ℕ) (d : List ℕ) where
   -- a refusal leaves everything as it is
   quiet : (p : Plan) (m : Machine) (C k : ℕ) (w1 n1 w2 n2 store1 ledger1 : List ℕ) → Still p w n w1 n1 → Still p w1 n1 w2 n2
       → store1 ≡ storeAfter C d store p → ledger1 ≡ ledgerAfter d ledger p → settled m store ledger sender d p .answer ≡ Refused k
-      → (w2 ≡ w) × (n2 ≡ n) × (store1 ≡ store) × (ledger1 ≡ ledger)
-  quiet (plan.Refuse j) m C k w1 n1 w2 n2 store1 ledger1 s t es el q = (t .0 ∙ s .0, t .1 ∙ s .1, es, el)
-  quiet plan.Again m C k w1 n1 w2 n2 store1 ledger1 s t es el q = (t .0 ∙ s .0, t .1 ∙ s .1, es, el)
+      → lent w2 n2 store1 ledger1 ≡ lent w n store ledger
+  quiet (plan.Refuse j) m C k w1 n1 w2 n2 store1 ledger1 s t es el q = λ i. lent ((t .0 ∙ s .0) i) ((t .1 ∙ s .1) i) (es i) (el i)
+  quiet plan.Again m C k w1 n1 w2 n2 store1 ledger1 s t es el q = λ i. lent ((t .0 ∙ s .0) i) ((t .1 ∙ s .1) i) (es i) (el i)
   quiet (plan.Deliver h) m C k w1 n1 w2 n2 store1 ledger1 s t es el q = clash _ k _ q (inr (_, (_, refl)))
   quiet (plan.Hold t h) m C k w1 n1 w2 n2 store1 ledger1 s u es el q = step5-never _ m (m .slots) store ledger (t .emptied) (t .at) (fragmentIn d h) k q
 
   pub receives : (room : ℕ) (v : code.Verdict) (p : Plan) (o : Outcome) (w1 n1 w2 n2 store1 ledger1 : List ℕ) → room ≡ getD w roomWord 0
       → v ≡ decided w n store ledger sender d → Plans w n sender v p w1 n1 → Settles w1 n1 sender p d o w2 n2
       → store1 ≡ storeAfter room d store p → ledger1 ≡ ledgerAfter d ledger p
-      → length w2 ≡ length w → length n2 ≡ length n → Receives w n store ledger sender d o w2 n2 store1 ledger1
+      → length w2 ≡ length w → length n2 ≡ length n → Receives (lent w n store ledger) sender d o (lent w2 n2 store1 ledger1)
   receives room v p o w1 n1 w2 n2 store1 ledger1 ec ev P S es el lw ln =
       let L = S .leaves store ledger in
-      let a : settled (view w1 n1) store ledger sender d p ≡ received w n store ledger sender d =
+      let a : settled (view w1 n1) store ledger sender d p ≡ received (lent w n store ledger) sender d =
       P .does store ledger d ∙ ap (enacted (view w n) store ledger sender d) ev ∙ sym received-is in
       let st : store1 ≡ storeAfter (getD w1 roomWord 0) d store p = es ∙ ap (λ (C : ℕ). storeAfter C d store p) (ec ∙ sym (P .room)) in
-      let all : Leaves (received w n store ledger sender d) o w2 n2 store1 ledger1 = subst (λ (x : After). Leaves x o w2 n2 store1 ledger1) a
+      let all : Leaves (received (lent w n store ledger) sender d) o (lent w2 n2 store1 ledger1) = subst (λ (x : After). Leaves x o (lent w2 n2 store1 ledger1)) a
       (record { answer = L .answer; emptied = L .emptied; name = L .name; machine = L .machine; store = st ∙ L .store; ledger = el ∙ L .ledger }) in
       record {
         leaves = all;
-        tells = told-is sender d _ o w2 n2 store1 ledger1 all;
+        tells = told-is sender d _ o (lent w2 n2 store1 ledger1) all;
         words = lw;
         bytes = ln;
         still = λ k q. quiet p (view w1 n1) room k w1 n1 w2 n2 store1 ledger1 (P .still) (S .still) es el (sym (L .answer) ∙ q);

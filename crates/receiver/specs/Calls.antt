@@ -10,6 +10,7 @@ use Rattle.steps.specs.Answers.{reply, emptiedKey}
 use Rattle.steps.specs.Receive.{Machine, After, stay, step, forget, Forgot}
 use Rattle.steps.specs.Runs.{Heard, heard, from}
 use Rattle.receiver_state.specs.View.{view, shaped}
+use Rattle.receiver.specs.Lent.{Lent}
 use Rattle.receiver.specs.declared.Outcome.{Outcome}
 use Rattle.receiver.specs.declared.Call.{Call}
 use Rattle.receiver.specs.declared.Call.the-variants as call
@@ -20,32 +21,36 @@ refusalOf call.Done = none
 refusalOf (call.Refused n) = some n
 
 -- a call of receive: the step list's; a state or names of another length is refused by 9
-unfoldable pub received : List ℕ → List ℕ → List ℕ → List ℕ → ℕ → List ℕ → After
-received w n store ledger sender d =
-    pick (shaped w n) (step (view w n) store ledger sender d) (stay (view w n) store ledger (Refused 9))
+unfoldable pub received : Lent → ℕ → List ℕ → After
+received l sender d =
+    let m = view (l .state) (l .names) in
+    pick (shaped (l .state) (l .names)) (step m (l .store) (l .ledger) sender d) (stay m (l .store) (l .ledger) (Refused 9))
 
 -- the answer is that of a, and the lent memory shows what a leaves
-pub record Leaves (a : After) (r : Outcome) (w n sto led : List ℕ) : Type 0 where
+pub record Leaves (a : After) (r : Outcome) (l : Lent) : Type 0 where
   pub answer : r .answer ≡ a .answer
   pub emptied : r .emptied ≡ a .emptied
   pub name : r .name ≡ a .name
-  pub machine : view w n ≡ a .machine
-  pub store : sto ≡ a .store
-  pub ledger : led ≡ a .ledger
+  pub machine : view (l .state) (l .names) ≡ a .machine
+  pub store : l .store ≡ a .store
+  pub ledger : l .ledger ≡ a .ledger
 
 -- what an outcome tells in the values of document 01, with the store as the call left it
 abbrev pub told : List ℕ → List ℕ → Outcome → Heard
 told d store r = record { answer = reply d store (r .answer); emptied = emptiedKey (r .emptied) }
 
--- w, n, store and ledger are lent; w′, n′, store′ and ledger′ are what they hold afterwards
-pub record Receives (w n store ledger : List ℕ) (sender : ℕ) (d : List ℕ) (r : Outcome) (w′ n′ store′ ledger′ : List ℕ) : Type 0 where
-  pub leaves : Leaves (received w n store ledger sender d) r w′ n′ store′ ledger′
+-- a call with l lent was the step a: r is its outcome, and l′ is what is lent afterwards
+pub record Follows (a : After) (l : Lent) (sender : ℕ) (d : List ℕ) (r : Outcome) (l′ : Lent) : Type 0 where
+  pub leaves : Leaves a r l′
   -- the reply, its payload included, and the emptied key
-  pub tells : told d store′ r ≡ heard (from sender d) (received w n store ledger sender d)
-  pub words : length w′ ≡ length w
-  pub bytes : length n′ ≡ length n
+  pub tells : told d (l′ .store) r ≡ heard (from sender d) a
+  pub words : length (l′ .state) ≡ length (l .state)
+  pub bytes : length (l′ .names) ≡ length (l .names)
   -- a refusal writes nothing
-  pub still : (k : ℕ) → r .answer ≡ Refused k → (w′ ≡ w) × (n′ ≡ n) × (store′ ≡ store) × (ledger′ ≡ ledger)
+  pub still : (k : ℕ) → r .answer ≡ Refused k → l′ ≡ l
+
+abbrev pub Receives : Lent → ℕ → List ℕ → Outcome → Lent → Type 0
+Receives l sender d r l′ = Follows (received l sender d) l sender d r l′
 
 -- the other calls: what machine is shown then, and whether it is refused
 pub record Changes (m : Machine) (refusal : Option ℕ) (w n : List ℕ) (r : Call) (w′ n′ : List ℕ) : Type 0 where

@@ -20,9 +20,10 @@ use Rattle.steps.specs.Slots as step
 use Rattle.steps.specs.Receive.{Machine, After, withSlots, stay, storeWith, ledgerWith, step5, deliveredSmall, beginAt}
 use Rattle.receiver_state.specs.View.{roomWord, slotsOf, memoryOf, view}
 use Rattle.receiver_state.specs.Inside.{Ready, Told, Shows, Remembers}
-use Rattle.deciding.specs.Inside.{Possible}
-use Rattle.deciding.specs.declared.Verdict.{Verdict}
-use Rattle.deciding.specs.declared.Verdict.the-variants.{Refuse, Again, Deliver, Join, Begin}
+use Rattle.verdict.specs.Inside.{Possible}
+use Rattle.verdict.specs.declared.Verdict.{Verdict}
+use Rattle.verdict.specs.declared.Verdict.the-variants.{Refuse, Again, Deliver, Join, Begin}
+use Rattle.receiver.specs.Lent.{lent}
 use Rattle.receiver.specs.Calls.{Leaves}
 use Rattle.receiver.specs.declared.Outcome.{Outcome}
 use Rattle.receiver.specs.declared.Seat.{Seat}
@@ -149,9 +150,9 @@ pub record Plans (w n : List ℕ) (sender : ℕ) (v : Verdict) (p : Plan) (w′ 
 -- step 5, whatever the store and the ledger
 abbrev pub Puts : List ℕ → List ℕ → ℕ → Emptied → Header → List ℕ → Outcome → List ℕ → List ℕ → Type 0
 Puts w n s gone h d r w′ n′ =
-    (store ledger : List ℕ) → Leaves (step5 (view w n) (slotsOf w n) store ledger gone s (fragmentIn d h)) r w′ n′
-    (storeWith (getD w roomWord 0) store s (fragmentIn d h)) (ledgerWith ledger s (fragmentIn d h))
+    (store ledger : List ℕ) → Leaves (step5 (view w n) (slotsOf w n) store ledger gone s (fragmentIn d h)) r
+    (lent w′ n′ (storeWith (getD w roomWord 0) store s (fragmentIn d h)) (ledgerWith ledger s (fragmentIn d h)))
 
 pub record Settles (w n : List ℕ) (sender : ℕ) (p : Plan) (d : List ℕ) (r : Outcome) (w′ n′ : List ℕ) : Type 0 where
-  pub leaves : (store ledger : List ℕ) → Leaves (settled (view w n) store ledger sender d p) r w′ n′ (storeAfter (getD w roomWord 0) d store p) (ledgerAfter d ledger p)
+  pub leaves : (store ledger : List ℕ) → Leaves (settled (view w n) store ledger sender d p) r (lent w′ n′ (storeAfter (getD w roomWord 0) d store p) (ledgerAfter d ledger p))
   pub still : Still p w n w′ n′

@@ -1,12 +1,12 @@
-// The receiver: fragments of messages joined in a lent store, by the step list of the crate `steps`. The crate `deciding` says what is to be done
+// The receiver: fragments of messages joined in a lent store, by the step list of the crate `steps`. The crate `verdict` says what is to be done
 // with a datagram; here it is done. The state is lent too: words for the slots and the memory of keys, and bytes for each slot's name.
 use datagram::Header;
-use deciding::Verdict;
 use slots::Found;
 use steps::Answer;
 use steps::Emptied;
 use steps::Key;
 use steps::PayloadAt;
+use verdict::Verdict;
 ghost use mathlib.Core.Path.{_≡_};
 ghost use mathlib.Core.Bool.{true};
 ghost use mathlib.Core.List.{List};
@@ -19,7 +19,8 @@ ghost use Rattle.steps.specs.Memory.{keyOf};
 ghost use Rattle.steps.specs.Slots.{noName};
 ghost use Rattle.receiver_state.specs.View.{stateWords};
 ghost use Rattle.receiver_state.specs.Inside.{Shaped, Ready, Told, namedIn, Remembers};
-ghost use Rattle.deciding.specs.Inside.{Possible};
+ghost use Rattle.verdict.specs.Inside.{Possible};
+ghost use Rattle.receiver.specs.Lent.{lentBefore, lentAfter};
 ghost use Rattle.receiver.specs.Calls.{Receives, Forgets};
 ghost use Rattle.receiver.specs.Inside.{stayed, Releases, ReleasesOne, ReleasesAll, Occupies, Keeps, Delivers, SmallDone, Puts, Seats};
 ghost use Rattle.receiver.specs.Inside.{Begins, Plans, Able, Settles, Storable, StoredIn, StoredBy};
@@ -111,7 +112,7 @@ fn keep(state: &mut [u64], names: &mut [u8], s: usize, h: Header, d: &[u8])
 {
     let a = slots::HEAD + slots::BLOCK * s + slots::HELD;
     let e = a + slots::HELD_WORDS;
-    held::hold_fragment(&mut state[a..e], words::as_size(h.number));
+    held_bits::hold_fragment(&mut state[a..e], words::as_size(h.number));
     put_name(names, s, h, d);
 }
 
@@ -175,7 +176,7 @@ fn put(state: &mut [u64], names: &mut [u8], s: usize, h: Header, d: &[u8], gone:
     let a = b + slots::HELD;
     let e = a + slots::HELD_WORDS;
     let n = words::word(&*state, b + slots::COUNT);
-    if held::all_held(&state[a..e], n as usize) {
+    if held_bits::all_held(&state[a..e], n as usize) {
         return deliver(state, names, s, gone);
     }
     Outcome {
@@ -312,11 +313,10 @@ pub fn receive(
     sender: u64,
     d: &[u8],
 ) -> Outcome
-    ensures { λ r. ⌜ Receives (now (state .entry)) (now (names .entry)) (now (store .entry)) (now (ledger .entry)) sender (now (d .entry)) r
-        (now (state .exit)) (now (names .exit)) (now (store .exit)) (now (ledger .exit)) ⌝ }
+    ensures { λ r. ⌜ Receives (lentBefore state names store ledger) sender (now (d .entry)) r (lentAfter state names store ledger) ⌝ }
 {
     let room = words::word(&*state, receiver_state::SLOT_SIZE);
-    let verdict = deciding::decide(&*state, &*names, &*store, &*ledger, sender, d);
+    let verdict = verdict::decide(&*state, &*names, &*store, &*ledger, sender, d);
     let plan = plan_for(&mut *state, &mut *names, sender, verdict);
     store_in(store, ledger, room, plan, d);
     settle(state, names, sender, plan, d)

@@ -12,12 +12,13 @@ use lib.ListN.{length}
 use borrow.Author.Tests.{eqb-true}
 use Rattle.wire.proofs.Choices.{either, and-l, and-r}
 use Rattle.steps.specs.declared.Answer.the-variants.{Refused}
-use Rattle.steps.specs.Receive.{Machine, stay, step}
+use Rattle.steps.specs.Receive.{Machine, After, stay, step}
 use Rattle.steps.specs.Reach.{Reached, opens, receives, forgets}
 use Rattle.receiver_state.specs.View.{stateWords, nameBytes, view, shaped}
 use Rattle.receiver_state.specs.Inside.{Shaped}
-use Rattle.receiver.specs.Calls.{refusalOf, received, Receives, Changes, Forgets, forgotten}
-use Rattle.receiver_ends.specs.Ends.{Opens}
+use Rattle.receiver.specs.Lent.{Lent, lent}
+use Rattle.receiver.specs.Calls.{refusalOf, received, Follows, Receives, Changes, Forgets, forgotten}
+use Rattle.open_and_payload.specs.Ends.{Opens}
 use Rattle.receiver.specs.declared.Outcome.{Outcome}
 use Rattle.receiver.specs.declared.Call.{Call}
 use Rattle.receiver.specs.declared.Call.the-variants as call
@@ -32,19 +33,22 @@ shape-of w n v m s a b = record {
 
 -- ---- receive
 
-pub record Same (r s : Outcome) (w n store ledger w′ n′ store′ ledger′ : List ℕ) : Type 0 where
+pub record Same (r s : Outcome) (l m : Lent) : Type 0 where
   pub outcome : r ≡ s
-  pub words : w ≡ w′
-  pub names : n ≡ n′
-  pub bytes : store ≡ store′
-  pub numbers : ledger ≡ ledger′
+  pub lent : l ≡ m
 
-unshaped-nine : (w n store ledger : List ℕ) (sender : ℕ) (d : List ℕ) → shaped w n ≡ false → received w n store ledger sender d .answer ≡ Refused 9
+unshaped-nine : (l : Lent) (sender : ℕ) (d : List ℕ) → shaped (l .state) (l .names) ≡ false → received l sender d .answer ≡ Refused 9
 unfolding received stay
-unshaped-nine w n store ledger sender d e = rw e
+unshaped-nine l sender d e = rw e
 
-module _ (w n store ledger : List ℕ) (sender : ℕ) (d : List ℕ) (r s : Outcome) (w1 n1 s1 l1 w2 n2 s2 l2 : List ℕ) (A : Receives w n store ledger sender d r w1 n1 s1 l1)
-    (B : Receives w n store ledger sender d s w2 n2 s2 l2) where
+-- words and names that show one machine, of their lengths, with one store and one ledger
+pub lent-same : (l m : Lent) → Shaped (l .state) (l .names) → Shaped (m .state) (m .names) → view (l .state) (l .names) ≡ view (m .state) (m .names)
+    → l .store ≡ m .store → l .ledger ≡ m .ledger → l ≡ m
+lent-same l m p q e a b = λ i. lent (words-same (l .state) (l .names) (m .state) (m .names) p q e i) (names-same (l .state) (l .names) (m .state) (m .names) p q e i) (a i) (b i)
+
+-- two outcomes of one step, that refuses a state or names of another length by 9
+module _ (a : After) (l : Lent) (nine : shaped (l .state) (l .names) ≡ false → a .answer ≡ Refused 9) (sender : ℕ) (d : List ℕ) (r s : Outcome) (l1 l2 : Lent)
+    (A : Follows a l sender d r l1) (B : Follows a l sender d s l2) where
   one : r ≡ s
   one = λ i. record {
     answer = (A .leaves .answer ∙ sym (B .leaves .answer)) i;
@@ -52,25 +56,20 @@ module _ (w n store ledger : List ℕ) (sender : ℕ) (d : List ℕ) (r s : Outc
     name = (A .leaves .name ∙ sym (B .leaves .name)) i;
   }
 
-  pub receive-once : Same r s w1 n1 s1 l1 w2 n2 s2 l2
-  receive-once = elim (either (shaped w n)) [
+  pub follows-once : Same r s l1 l2
+  follows-once = elim (either (shaped (l .state) (l .names))) [
     | inl t ↦
-        let p : Shaped w1 n1 = shape-of w n w1 n1 t (A .words) (A .bytes) in
-        let q : Shaped w2 n2 = shape-of w n w2 n2 t (B .words) (B .bytes) in
-        let e : view w1 n1 ≡ view w2 n2 = A .leaves .machine ∙ sym (B .leaves .machine) in
+        let p : Shaped (l1 .state) (l1 .names) = shape-of (l .state) (l .names) _ _ t (A .words) (A .bytes) in
+        let q : Shaped (l2 .state) (l2 .names) = shape-of (l .state) (l .names) _ _ t (B .words) (B .bytes) in
         record {
           outcome = one;
-          words = words-same w1 n1 w2 n2 p q e;
-          names = names-same w1 n1 w2 n2 p q e;
-          bytes = A .leaves .store ∙ sym (B .leaves .store);
-          numbers = A .leaves .ledger ∙ sym (B .leaves .ledger);
+          lent = lent-same l1 l2 p q (A .leaves .machine ∙ sym (B .leaves .machine)) (A .leaves .store ∙ sym (B .leaves .store)) (A .leaves .ledger ∙ sym (B .leaves .ledger));
         }
-    | inr f ↦
-        let nine = unshaped-nine w n store ledger sender d f in
-        let a = A .still 9 (A .leaves .answer ∙ nine) in
-        let b = B .still 9 (B .leaves .answer ∙ nine) in
-        record { outcome = one; words = a .0 ∙ sym (b .0); names = a .1 ∙ sym (b .1); bytes = a .2 ∙ sym (b .2); numbers = a .3 ∙ sym (b .3) }
+    | inr f ↦ record { outcome = one; lent = A .still 9 (A .leaves .answer ∙ nine f) ∙ sym (B .still 9 (B .leaves .answer ∙ nine f)) }
   ]
+
+pub receive-once : (l : Lent) (sender : ℕ) (d : List ℕ) (r s : Outcome) (l1 l2 : Lent) → Receives l sender d r l1 → Receives l sender d s l2 → Same r s l1 l2
+receive-once l sender d = follows-once (received l sender d) l (unshaped-nine l sender d) sender d
 
 -- ---- open and forget
 
@@ -112,11 +111,11 @@ module _ (w n : List ℕ) (t : shaped w n ≡ true) where
   pub open-reaches : (k : ℕ) (r : Call) (w1 n1 : List ℕ) → Opens w n k r w1 n1 → Reached k (view w1 n1)
   open-reaches k r w1 n1 A = subst (Reached k) (sym (A .machine ∙ rw t)) opens
 
-  pub receive-reaches : (k : ℕ) → Reached k (view w n) → (store ledger : List ℕ) (sender : ℕ) (d : List ℕ) (r : Outcome) (w1 n1 s1 l1 : List ℕ)
-      → Receives w n store ledger sender d r w1 n1 s1 l1 → Reached k (view w1 n1)
+  pub receive-reaches : (k : ℕ) → Reached k (view w n) → (store ledger : List ℕ) (sender : ℕ) (d : List ℕ) (r : Outcome) (l′ : Lent)
+      → Receives (lent w n store ledger) sender d r l′ → Reached k (view (l′ .state) (l′ .names))
   unfolding received
-  receive-reaches k R store ledger sender d r w1 n1 s1 l1 A =
-      let e : received w n store ledger sender d .machine ≡ step (view w n) store ledger sender d .machine = rw t in
+  receive-reaches k R store ledger sender d r l′ A =
+      let e : received (lent w n store ledger) sender d .machine ≡ step (view w n) store ledger sender d .machine = rw t in
       subst (Reached k) (sym (A .leaves .machine ∙ e)) (receives R store ledger sender d)
 
   pub forget-reaches : (k : ℕ) → Reached k (view w n) → (sender : ℕ) (r : Call) (w1 n1 : List ℕ) → Forgets w n sender r w1 n1 → Reached k (view w1 n1)

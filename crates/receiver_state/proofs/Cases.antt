@@ -27,7 +27,7 @@ use Rattle.steps.specs.Receive.{Machine, withSlots, row, offsetOf, lengthOf, pl
 use Rattle.steps.proofs.Tables.{all-cong}
 use Rattle.steps.proofs.Seats.{set-there}
 use Rattle.slots.specs.Words.{blockWords, blockAt, at, senderWord, sequenceWord, sizeWord, countWord, heldWord}
-use Rattle.fitting.specs.Fits.{fitsIn}
+use Rattle.fragment_fit.specs.Fits.{fitsIn}
 use Rattle.receiver_state.specs.View.{stateWords, block, nameIn, slotIn, slotOf, slotsOf, memoryOf, view}
 use Rattle.receiver_state.specs.Inside.{Shows, Ready}
 use Rattle.receiver_state.proofs.Windows.{window-get, window-inner}

@@ -5,6 +5,7 @@ ghost use Prim.Native.Nat.{_≤_};
 ghost use lib.ListN.{length};
 ghost use Rattle.output.specs.Output.{lineLimit};
 ghost use Rattle.log.specs.Told.{entrySaid};
+ghost use Rattle.receiver.specs.Lent.{lentBefore, lentAfter};
 ghost use Rattle.replay_log.specs.Lines.{Replayed};
 use log::EntryAt;
 use log::Limits;
@@ -28,12 +29,19 @@ fn one_more(
     log: &[u8],
     entry: EntryAt,
 ) -> usize
-    ensures { λ r. ⌜ Replayed limits (now (state .entry)) (now (names .entry)) (now (store .entry)) (now (ledger .entry))
-        (entry .sender) (entrySaid (now (log .entry)) entry .datagram) n (now (out .entry)) at
-        (now (state .exit)) (now (names .exit)) (now (store .exit)) (now (ledger .exit)) (now (out .exit)) r ⌝ }
+    ensures { λ r. ⌜ Replayed limits (lentBefore state names store ledger) (entry .sender) (entrySaid (now (log .entry)) entry .datagram) n (now (out .entry)) at
+        (lentAfter state names store ledger) (now (out .exit)) r ⌝ }
 {
     let d = wire::part(log, entry.at, entry.len);
-    let outcome = bounded::receive_within(state, names, store, ledger, limits, entry.sender, d);
+    let outcome = within_limits::receive_within(
+        state,
+        names,
+        store,
+        ledger,
+        limits,
+        entry.sender,
+        d,
+    );
     let answer = outcome.answer;
     let emptied = outcome.emptied;
     replay_run::pour_line(out, at, n, answer, emptied)
@@ -72,7 +80,7 @@ fn afresh(log: &[u8], out: &mut [u8]) {
     let mut names = [0u8; receiver::NAME_BYTES];
     let mut store = [0u8; STORE];
     let mut ledger = [0u32; receiver::LEDGER];
-    let opened = receiver_ends::open(&mut state, &mut names, STORE);
+    let opened = open_and_payload::open(&mut state, &mut names, STORE);
     if let Call::Done = opened {
         replayed(log, out, &mut state, &mut names, &mut store, &mut ledger);
     }

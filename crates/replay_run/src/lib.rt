@@ -4,6 +4,7 @@ ghost use Prim.Native.Nat.{_≤_};
 ghost use mathlib.Core.Path.{_≡_};
 ghost use mathlib.Core.List.{[], _∷_, _++_};
 ghost use lib.ListN.{length};
+ghost use Rattle.receiver.specs.Lent.{lentBefore, lentAfter};
 ghost use Rattle.output.specs.Output.{Pours, lineLimit};
 ghost use Rattle.replay_run.specs.Lines.{answerText, emptiedText, line, Replayed};
 use receiver::Call;
@@ -64,8 +65,7 @@ fn one_more(
     ledger: &mut [u32],
     d: &[u8],
 ) -> usize
-    ensures { λ r. ⌜ Replayed (now (state .entry)) (now (names .entry)) (now (store .entry)) (now (ledger .entry)) (now (d .entry)) n (now (out .entry)) at
-        (now (state .exit)) (now (names .exit)) (now (store .exit)) (now (ledger .exit)) (now (out .exit)) r ⌝ }
+    ensures { λ r. ⌜ Replayed (lentBefore state names store ledger) (now (d .entry)) n (now (out .entry)) at (lentAfter state names store ledger) (now (out .exit)) r ⌝ }
 {
     let outcome = receiver::receive(state, names, store, ledger, 0, d);
     let answer = outcome.answer;
@@ -118,7 +118,7 @@ pub fn run(buf: &mut [u8])
     let mut names = [0u8; receiver::NAME_BYTES];
     let mut store = [0u8; STORE];
     let mut ledger = [0u32; receiver::LEDGER];
-    let opened = receiver_ends::open(&mut state, &mut names, STORE);
+    let opened = open_and_payload::open(&mut state, &mut names, STORE);
     if let Call::Done = opened {
         replayed(
             buf,

@@ -27,7 +27,7 @@ pub const TURN: usize = 4;
 
 pub const HELD: usize = 5;
 
-pub const HELD_WORDS: usize = held::WORDS;
+pub const HELD_WORDS: usize = held_bits::WORDS;
 // The words of a slot.
 pub const BLOCK: usize = HELD + HELD_WORDS;
 

@@ -5,7 +5,7 @@ use mathlib.Core.List.{List, [], _∷_}
 use Prim.Native.Nat.{ℕ, suc, _+_, _*_}
 use lib.Dec.{eqb, leb, ltb}
 use lib.ListN.{length, getD, set, take, drop, replicate}
-use Rattle.wire.specs.Choice.{pick}
+use Rattle.wire.specs.Choice.{pick, _when_else_}
 use Rattle.wire.specs.Same.{same}
 use Rattle.wire.specs.Overlay.{overlay}
 use Rattle.datagram.specs.Limits.{maxFragments}
@@ -121,15 +121,15 @@ agrees ledger s f j =
 abbrev pub agreesWithAll : List ℕ → ℕ → Slot → Fragment → Bool
 agreesWithAll ledger s slot f = allBelow (slot .count) (λ j. not (isHeld (slot .held) j) || agrees ledger s f j)
 
--- 3. Key open: P and n must be the slot's, else 8. If number k is held: Repeat when it is the same fragment; else 8.
--- Otherwise compare with every held fragment; else 8.
+-- If number k is held: Repeat when it is the same fragment; else 8. Otherwise compare with every held fragment; else 8.
+abbrev pub ofThatMessage : ℕ → List ℕ → List ℕ → ℕ → Slot → Fragment → Verdict
+ofThatMessage C store ledger s slot f =
+    pick (sameFragment C store ledger s slot f) again (refuse 8) when isHeld (slot .held) (f .number) else
+    pick (agreesWithAll ledger s slot f) (join s f) (refuse 8)
+
+-- 3. Key open: P and n must be the slot's, else 8.
 unfoldable pub step3 : ℕ → List ℕ → List ℕ → ℕ → Slot → Fragment → Verdict
-step3 C store ledger s slot f =
-    pick (sameMessage slot f)
-    (pick (isHeld (slot .held) (f .number))
-    (pick (sameFragment C store ledger s slot f) again (refuse 8))
-    (pick (agreesWithAll ledger s slot f) (join s f) (refuse 8)))
-    (refuse 8)
+step3 C store ledger s slot f = pick (sameMessage slot f) (ofThatMessage C store ledger s slot f) (refuse 8)
 
 -- 4. Key not open: a slot is taken.
 abbrev pub step3or4 : Machine → List ℕ → List ℕ → Fragment → Option ℕ → Verdict

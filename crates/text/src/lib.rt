@@ -6,6 +6,7 @@ ghost use mathlib.Core.Path.{_≡_};
 ghost use Prim.Native.Nat.{_+_, _<_, min};
 ghost use lib.IntN.{pos, natAbs};
 ghost use lib.Signed.{ltZ};
+ghost use Rattle.wire.specs.Text.{ascii};
 ghost use Rattle.text.specs.Text.{digit, decimal, signedDecimal, hex};
 ghost use Rattle.text.specs.Put.{Put};
 
@@ -116,7 +117,7 @@ pub fn put_counted(out: &mut [u8], at: usize, word: &[u8], n: u64) -> usize
 
 // A word, a number and the end of the line.
 pub fn put_counted_line(out: &mut [u8], at: usize, word: &[u8], n: u64) -> usize
-    ensures { λ r. ⌜ Put (now (out .entry)) at (now (word .entry) ++ decimal n ++ 10 ∷ []) (now (out .exit)) r ⌝ }
+    ensures { λ r. ⌜ Put (now (out .entry)) at (now (word .entry) ++ decimal n ++ ascii "\n") (now (out .exit)) r ⌝ }
 {
     let next = put_counted(out, at, word, n);
     put_text(out, next, b"\n")

@@ -5,7 +5,7 @@ use Prim.Native.Nat.{ℕ, _+_, _≤_, _<_}
 use lib.ListN.{set, getD}
 use borrow.Author.Tests.{lt-ltb, le-ltb, le-leb, lt-leb}
 use Rattle.watch.specs.declared.Watch.{Watch}
-use Rattle.watch.specs.Limits.{maxSenders, noRoom}
+use Rattle.watch.specs.Limits.{maxSenders}
 use Rattle.watch.specs.Noted.{Noted, first, same, late, restarted, refused}
 use Rattle.watch.specs.Difference.{difference, told}
 use Rattle.watch.specs.Senders.{senderPlace, setLast, moved}
@@ -13,7 +13,7 @@ use Rattle.watch.specs.Watching.{asked, askedAt, moves, after}
 
 module _ (w : Watch) (sender number : ℕ) where
   -- it claims more than 16
-  pub asked-claims : maxSenders < w .count → asked w sender number ≡ refused noRoom
+  pub asked-claims : maxSenders < w .count → asked w sender number ≡ refused 14
   unfolding asked
   asked-claims h = rw (lt-leb (w .count) maxSenders h)
 
@@ -30,7 +30,7 @@ module _ (w : Watch) (sender number : ℕ) where
     unfolding asked askedAt
     asked-new h k = rw (← here, le-leb (w .count) maxSenders sound, le-ltb at (w .count) h, lt-ltb at maxSenders k)
 
-    pub asked-full : w .count ≤ at → maxSenders ≤ at → asked w sender number ≡ refused noRoom
+    pub asked-full : w .count ≤ at → maxSenders ≤ at → asked w sender number ≡ refused 14
     unfolding asked askedAt
     asked-full h k = rw (← here, le-leb (w .count) maxSenders sound, le-ltb at (w .count) h, le-ltb at maxSenders k)
 

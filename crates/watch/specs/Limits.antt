@@ -7,7 +7,3 @@ maxSenders = 16
 -- Late by 1 to 1,024 stays; by more it is a restart
 abbrev pub mostLate : ℕ
 mostLate = 1_024
-
--- 17th sender at the watch, or a watch that claims more than 16
-abbrev pub noRoom : ℕ
-noRoom = 14

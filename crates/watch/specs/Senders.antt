@@ -29,9 +29,9 @@ setLast w sender number at =
       count = pick (ltb at (w .count)) (w .count) (at + 1);
     }
 
+abbrev pub movedAt : Watch → ℕ → ℕ → ℕ → Watch
+movedAt w sender number at = pick (ltb at maxSenders) (setLast w sender number at) w
+
 -- the watch moves; where there is no room, or it claims more than 16, it stays
 unfoldable pub moved : Watch → ℕ → ℕ → Watch
-moved w sender number =
-    pick (leb (w .count) maxSenders)
-    (pick (ltb (senderPlace w sender) maxSenders) (setLast w sender number (senderPlace w sender)) w)
-    w
+moved w sender number = pick (leb (w .count) maxSenders) (movedAt w sender number (senderPlace w sender)) w

@@ -4,10 +4,10 @@ use mathlib.Core.Bool.{Bool, true, false}
 use Prim.Native.Nat.{ℕ}
 use lib.ListN.{getD}
 use lib.Dec.{ltb, leb}
-use Rattle.wire.specs.Choice.{pick}
+use Rattle.wire.specs.Choice.{pick, _when_else_}
 use Rattle.watch.specs.declared.Watch.{Watch}
 use Rattle.watch.specs.declared.Seen.{Seen}
-use Rattle.watch.specs.Limits.{maxSenders, noRoom}
+use Rattle.watch.specs.Limits.{maxSenders}
 use Rattle.watch.specs.Noted.{Noted, first, forward, same, late, restarted, refused, notes}
 use Rattle.watch.specs.Difference.{difference, told}
 use Rattle.watch.specs.Senders.{senderPlace, moved}
@@ -15,12 +15,12 @@ use Rattle.watch.specs.Senders.{senderPlace, moved}
 -- at a sender's place: First for a new sender while there is room, else what the difference to its last number says
 unfoldable pub askedAt : Watch → ℕ → ℕ → Noted
 askedAt w number at =
-    pick (ltb at (w .count))
-    (told number (difference number (getD (w .lasts) at 0)))
-    (pick (ltb at maxSenders) first (refused noRoom))
+    told number (difference number (getD (w .lasts) at 0)) when ltb at (w .count) else
+    first when ltb at maxSenders else
+    refused 14
 
 unfoldable pub asked : Watch → ℕ → ℕ → Noted
-asked w sender number = pick (leb (w .count) maxSenders) (askedAt w number (senderPlace w sender)) (refused noRoom)
+asked w sender number = pick (leb (w .count) maxSenders) (askedAt w number (senderPlace w sender)) (refused 14)
 
 -- Same, Late and a refusal do not move the watch
 abbrev pub moves : Noted → Bool

@@ -17,9 +17,6 @@ pub const SENDERS: usize = 16;
 // Late by as much stays Late; by more it is a restart.
 pub const MOST_LATE: u32 = 1024;
 
-// Refusal 14: a 17th sender, or a watch that claims more than 16.
-pub const NO_ROOM: u32 = 14;
-
 // The first `count` places are in use: a sender, and the last number that moved its watch.
 pub struct Watch {
     pub senders: [u64; SENDERS],
@@ -116,7 +113,7 @@ pub fn ask(w: Watch, sender: u64, number: u32) -> Answer
 {
     let count = w.count;
     if SENDERS < count {
-        return Answer::Refused(NO_ROOM);
+        return Answer::Refused(14);
     }
     let at = find(&w.senders, count, sender);
     if at < count {
@@ -125,7 +122,7 @@ pub fn ask(w: Watch, sender: u64, number: u32) -> Answer
     if at < SENDERS {
         return Answer::First;
     }
-    Answer::Refused(NO_ROOM)
+    Answer::Refused(14)
 }
 
 // Moves a sender's watch to a number. It asks nothing.

@@ -3,5 +3,7 @@ pub mod Choice
 pub mod Overlay
 pub mod Same
 pub mod Signed
+pub mod Slices
 pub mod Sum
 pub mod Taken
+pub mod Text

@@ -3,8 +3,10 @@ use mathlib.Core.Path.{_≡_, sym, ap, _∙_}
 use Prim.Native.Nat.{ℕ}
 use lib.ListN.{length, replicate, length-replicate}
 use Rattle.receiver_state.specs.View.{stateWords, nameBytes}
-use Rattle.counting.specs.Count.{maxTiles, maxPits}
+use Rattle.count_rules.specs.Count.{maxTiles, maxPits}
 use Rattle.count.proofs.Ends.{begins, refused-then, given-then}
+use Rattle.receiver.specs.Lent.{lent}
+use Rattle.count.specs.Inside.{book, desk}
 use borrow.Author.Needs.{needs}
 use Rattle.count.proofs.afresh.Statement.{statement}
 use Rattle.count.proofs.afresh.Tie as tie
@@ -63,7 +65,7 @@ returns c =
     let own = w .before .before .before .before .before .before .before .before .before in
     let st = own .before .before .before .before .before .before .before .before .before in
     let a = st .args in
-    refused-then (a .log .now) (a .store .now) (a .ledger .now) (a .numbers .now) (a .entries) (st .pre) _ (own .limits-in .ensures) (w .walk .result) _ _ _ _ _ _ (w .walk .ensures) (c .before .if1 .taken) _ (c .refused .ensures)
+    refused-then (a .log .now) (desk (lent _ _ _ _) (book _ _ _ _)) (a .entries) (st .pre) _ (own .limits-in .ensures) (w .walk .result) (desk (lent _ _ _ _) (book _ _ _ _)) (w .walk .ensures) (c .before .if1 .taken) _ (c .refused .ensures)
 
 slice-aggregate-given : tie.Need-slice-aggregate-given
 slice-aggregate-given c = search needs
@@ -93,7 +95,7 @@ returns-2 c =
     let own = w .before .before .before .before .before .before .before .before .before in
     let st = own .before .before .before .before .before .before .before .before .before in
     let a = st .args in
-    given-then (a .log .now) (a .store .now) (a .ledger .now) (a .numbers .now) (a .entries) (st .pre) _ (own .limits-in .ensures) (w .walk .result) _ _ _ _ _ _ (w .walk .ensures) (at-if1 .if1 .left) _ (c .given .ensures)
+    given-then (a .log .now) (desk (lent _ _ _ _) (book _ _ _ _)) (a .entries) (st .pre) _ (own .limits-in .ensures) (w .walk .result) (desk (lent _ _ _ _) (book _ _ _ _)) (w .walk .ensures) (at-if1 .if1 .left) _ (c .given .ensures)
 
 pub afresh-spec : {M : Type 1} → statement M
 afresh-spec =

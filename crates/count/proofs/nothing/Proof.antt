@@ -1,6 +1,6 @@
 -- Of no answers all totals are 0. Assumes nothing.
 use mathlib.Core.Path.{refl}
-use Rattle.counting.specs.Run.{howMany}
+use Rattle.count_rules.specs.Run.{howMany}
 use borrow.Author.Needs.{needs}
 use Rattle.count.proofs.nothing.Statement.{statement}
 use Rattle.count.proofs.nothing.Tie as tie

@@ -1,8 +1,10 @@
 -- The datagram is received, the answer told, and what is delivered taken. Assumes nothing.
 use mathlib.Core.Path.{ap}
 use native.Mathlib.Omega.{arith}
+use Rattle.receiver.specs.Lent.{lent}
 use Rattle.log.specs.Told.{entrySaid}
 use Rattle.count.specs.declared.Totals.{Totals}
+use Rattle.count.specs.Inside.{book, desk}
 use Rattle.count.proofs.Goes.{lists-stay, entry-goes}
 use borrow.Author.Needs.{needs}
 use Rattle.count.proofs.one_entry.Statement.{statement}
@@ -64,9 +66,9 @@ returns c =
     let at-part = at-received .before .before .before .before .before in
     let start = at-part .before .before .before .before .before .before .before .before .before in
     let a = start .args in
-    entry-goes (a .limits) (entrySaid (a .log .now) (a .entry)) (a .state .now) (a .names .now) (a .store .now) (a .ledger .now) (a .numbers .now) (a .tiles .now) (a .pits .now) (a .sure .now) (a .totals) (a .sizes)
-    _ (at-part .part .ensures) (at-received .receive-within .result) _ _ _ _ (at-received .receive-within .ensures) (at-told .told .result) (at-told .told .ensures)
-    _ (at-payload .payload .ensures) (at-taken .one-payload .result) _ _ _ _ (at-taken .one-payload .ensures)
+    entry-goes (a .limits) (entrySaid (a .log .now) (a .entry)) (desk (lent _ _ _ _) (book _ _ _ _)) (a .totals) (a .sizes) _ (at-part .part .ensures) (at-received .receive-within .result) (lent _ _ _ _)
+    (at-received .receive-within .ensures) (at-told .told .result) (at-told .told .ensures) _ (at-payload .payload .ensures) (at-taken .one-payload .result) (book _ _ _ _)
+    (at-taken .one-payload .ensures)
 
 pub one-entry-spec : {M : Type 1} → statement M
 one-entry-spec =

@@ -6,15 +6,16 @@ use native.Mathlib.Omega.{arith}
 use lib.IntN.{ℤ}
 use lib.ListN.{length, length-append}
 use Rattle.wire.specs.Bytes.{Bytes}
+use Rattle.receiver.specs.Lent.{lent}
 use Rattle.log.specs.declared.reader.Limits.{Limits}
 use Rattle.log.specs.Entries.{Entry}
 use Rattle.log.specs.Listed.{Listed, whole, broken}
 use Rattle.log.specs.Told.{entrySaid}
-use Rattle.counting.specs.Count.{maxEntries}
+use Rattle.count_rules.specs.Count.{maxEntries}
 use Rattle.count.specs.declared.Ran.{Ran}
-use Rattle.count.specs.Inside.{Walks}
+use Rattle.count.specs.Inside.{book, desk, Walks}
 use Rattle.count.proofs.Passing.{Passed, passed-none, passed-more, passed-all, passed-broken, ahead, to-come}
-use Rattle.count.proofs.Far.{heldBy, answersBy, seenBy, Far, far-first, far-few, far-all, far-more, far-ends}
+use Rattle.count.proofs.Far.{Far, far-first, far-few, far-all, far-more, far-ends}
 use borrow.Author.Needs.{needs}
 use Rattle.count.proofs.walk.Statement.{statement}
 use Rattle.count.proofs.walk.Tie as tie
@@ -22,7 +23,7 @@ use Rattle.count.proofs.walk.Tie as tie
 record Walking (log : List ℕ) (lim : Limits) (state₀ names₀ store₀ ledger₀ : List ℕ) (numbers₀ : List ℤ) (tiles₀ pits₀ sure₀ state names store ledger : List ℕ) (numbers : List ℤ) (tiles pits sure : List ℕ) (place : ℕ) (done : Ran) : Type 0 where
   entries : List Entry
   passed : Passed log entries place
-  far : Far lim store₀ ledger₀ numbers₀ entries state names store ledger numbers tiles pits sure done
+  far : Far lim (desk (lent state₀ names₀ store₀ ledger₀) (book numbers₀ tiles₀ pits₀ sure₀)) entries (desk (lent state names store ledger) (book numbers tiles pits sure)) done
   state-long : length state ≡ length state₀
   names-long : length names ≡ length names₀
   store-long : length store ≡ length store₀
@@ -63,7 +64,7 @@ loop-holds c =
     record {
       entries = [];
       passed = passed-none (a .log .now) b;
-      far = far-first (a .limits) (a .store .now) (a .ledger .now) (a .numbers .now) (a .state .now) (a .names .now) (a .tiles .now) (a .pits .now) (a .sure .now) (p .at-first) (c .nothing .result) (c .nothing .ensures);
+      far = far-first (a .limits) _ (p .at-first) (c .nothing .result) (c .nothing .ensures);
       state-long = refl;
       names-long = refl;
       store-long = refl;
@@ -188,8 +189,9 @@ returns-2 c =
     λ es e.
     let w : whole (v .entries) ≡ whole es = sym (passed-all (a .log .now) b (v .entries) (l .loop .place) (v .passed) q) ∙ e in
     let u : v .entries ≡ es = cc in
-    subst (λ (x : List Entry). Walks (a .limits) (a .store .now) (a .ledger .now) (a .numbers .now) x (l .loop .done) (l .loop .store) (l .loop .ledger) (l .loop .numbers) (l .loop .tiles) (l .loop .pits) (l .loop .sure)) u
-    (far-all (a .limits) (a .store .now) (a .ledger .now) (a .numbers .now) (v .entries) _ _ _ _ _ _ _ _ _ (v .far))
+    subst (λ (x : List Entry). Walks (a .limits) (desk (lent (a .state .now) (a .names .now) (a .store .now) (a .ledger .now)) (book (a .numbers .now) (a .tiles .now) (a .pits .now) (a .sure .now))) x
+    (l .loop .done) (desk (lent (l .loop .state) (l .loop .names) (l .loop .store) (l .loop .ledger)) (book (l .loop .numbers) (l .loop .tiles) (l .loop .pits) (l .loop .sure)))) u
+    (far-all (a .limits) _ (v .entries) _ _ (v .far))
 
 enum-known-step : tie.Need-enum-known-step Inv-loop μ-loop
 enum-known-step c = search needs
@@ -203,7 +205,7 @@ one-entry-requires c κs =
     let p = start .pre in
     let v = l .loop .inv in
     let z = to-come (a .log .now) (v .entries) (l .loop .place) (v .passed) (p .log-whole .entries) (p .log-whole .is) in
-    far-few (a .limits) (a .store .now) (a .ledger .now) (a .numbers .now) (v .entries) _ _ _ _ _ _ _ _ _ (v .far)
+    far-few (a .limits) _ (v .entries) _ _ (v .far)
     (so-few (v .entries) (z .rest) (p .log-whole .entries) (z .joined) (p .size) (p .log-whole .size) (p .log-whole .few))
 
 same-length-17 : tie.Need-same-length-17 Inv-loop μ-loop
@@ -267,12 +269,12 @@ returns-3 c =
     let v = l .loop .inv in
     let g = at-step .step .given in
     let q = sym (at-read-on .read-on .ensures) ∙ g .1 in
-    let W = o .one-entry .ensures (heldBy (a .limits) (a .store .now) (a .ledger .now) (a .numbers .now) (v .entries)) (seenBy (a .limits) (a .store .now) (a .ledger .now) (a .numbers .now) (v .entries)) (answersBy (a .limits) (a .store .now) (a .ledger .now) (a .numbers .now) (v .entries)) (v .far .at) in
+    let W = o .one-entry .ensures _ _ _ (v .far .at) in
     let e = entrySaid (a .log .now) (g .0 .0) in
     let P = passed-more (a .log .now) b (v .entries) (l .loop .place) (v .passed) (g .0 .0) q in
     λ es i.
     let z = to-come (a .log .now) (v .entries ++ e ∷ []) (g .0 .0 .next) P es i in
-    far-ends (a .limits) (a .store .now) (a .ledger .now) (a .numbers .now) (v .entries) _ _ _ _ _ _ _ _ _ (v .far) e (o .one-entry .result) _ _ _ _ _ _ _ _ (v .numbers-long) W (c .if1 .taken) es (z .rest) (z .joined)
+    far-ends (a .limits) _ (v .entries) _ _ (v .far) e (o .one-entry .result) (desk (lent _ _ _ _) (book _ _ _ _)) (v .numbers-long) W (c .if1 .taken) es (z .rest) (z .joined)
 
 loop-less : tie.Need-loop-less Inv-loop μ-loop
 loop-less c =
@@ -312,13 +314,13 @@ loop-again c =
     let v = l .loop .inv in
     let g = at-step .step .given in
     let q = sym (at-read-on .read-on .ensures) ∙ g .1 in
-    let W = o .one-entry .ensures (heldBy (a .limits) (a .store .now) (a .ledger .now) (a .numbers .now) (v .entries)) (seenBy (a .limits) (a .store .now) (a .ledger .now) (a .numbers .now) (v .entries)) (answersBy (a .limits) (a .store .now) (a .ledger .now) (a .numbers .now) (v .entries)) (v .far .at) in
+    let W = o .one-entry .ensures _ _ _ (v .far .at) in
     let e = entrySaid (a .log .now) (g .0 .0) in
     let P = passed-more (a .log .now) b (v .entries) (l .loop .place) (v .passed) (g .0 .0) q in
     record {
       entries = v .entries ++ e ∷ [];
       passed = P;
-      far = far-more (a .limits) (a .store .now) (a .ledger .now) (a .numbers .now) (v .entries) _ _ _ _ _ _ _ _ _ (v .far) e (o .one-entry .result) _ _ _ _ _ _ _ _ (v .numbers-long) W (c .if1 .left);
+      far = far-more (a .limits) _ (v .entries) _ _ (v .far) e (o .one-entry .result) (desk (lent _ _ _ _) (book _ _ _ _)) (v .numbers-long) W (c .if1 .left);
       state-long = at-state .state .given ∙ v .state-long;
       names-long = at-names .names .given ∙ v .names-long;
       store-long = at-store .store .given ∙ v .store-long;

@@ -6,8 +6,8 @@ use native.Mathlib.Omega.{arith}
 use Rattle.wire.specs.Bytes.{Bytes}
 use Rattle.output.proofs.Sending.{pours-is}
 use Rattle.log_index.specs.Index.{Answer, firstEntry}
-use Rattle.indexing.specs.Adds.{says}
-use Rattle.indexing.proofs.Promises.{index-entries, finds-first}
+use Rattle.index_builder.specs.Adds.{says}
+use Rattle.index_builder.proofs.Promises.{index-entries, finds-first}
 use Rattle.index_lines.specs.Lines.{placeLine, answerLine}
 use borrow.Author.Needs.{needs}
 use Rattle.find.proofs.answer.Statement.{statement}

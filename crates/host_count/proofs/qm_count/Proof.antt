@@ -1,6 +1,7 @@
 -- `host_count::qm_count` meets its contract. Assumes nothing.
 use mathlib.Core.Path.{sym, ap, _∙_}
 use Rattle.count.specs.declared.Answer.{Answer}
+use Rattle.count.specs.Counts.{loan}
 use Rattle.host_count.proofs.Telling.{codeBy, leftBy, not-counted, told-as-counted}
 use borrow.Author.Needs.{needs}
 use Rattle.host_count.proofs.qm_count.Statement.{statement}
@@ -9,7 +10,7 @@ use Rattle.host_count.proofs.qm_count.Tie as tie
 returns : tie.Need-returns
 returns c =
     let start = c .before .before .before .before .before in
-    let a = start .args in not-counted (a .log .now) (a .store .now) (a .ledger .now) (a .numbers .now) (a .report .now) (c .if1 .taken)
+    let a = start .args in not-counted (a .log .now) (loan (a .store .now) (a .ledger .now) (a .numbers .now)) (a .report .now) (c .if1 .taken)
 
 count-log-requires : tie.Need-count-log-requires
 count-log-requires c κs = search needs
@@ -44,7 +45,7 @@ returns-2 c =
     let start = test .before .before .before .before .before in
     let a = start .args in
     let e = told .enum-told .given .1 in
-    told-as-counted (a .log .now) (a .store .now) (a .ledger .now) (a .numbers .now) (a .report .now) (test .if1 .left) (l .count-log .ensures) (sym (ap codeBy e))
+    told-as-counted (a .log .now) (loan (a .store .now) (a .ledger .now) (a .numbers .now)) (a .report .now) (test .if1 .left) (l .count-log .ensures) (sym (ap codeBy e))
     (at-put-report .put-report .ensures ∙ sym (ap (λ (z : Answer). leftBy z (l .count-log .result .report) (a .report .now)) e))
 
 same-length-5 : tie.Need-same-length-5
@@ -63,7 +64,7 @@ returns-3 c =
     let start = test .before .before .before .before .before in
     let a = start .args in
     let e = c .before .answer .given .1 in
-    told-as-counted (a .log .now) (a .store .now) (a .ledger .now) (a .numbers .now) (a .report .now) (test .if1 .left) (l .count-log .ensures) (sym (ap codeBy e))
+    told-as-counted (a .log .now) (loan (a .store .now) (a .ledger .now) (a .numbers .now)) (a .report .now) (test .if1 .left) (l .count-log .ensures) (sym (ap codeBy e))
     (sym (ap (λ (z : Answer). leftBy z (l .count-log .result .report) (a .report .now)) e))
 
 pub qm-count-spec : {M : Type 1} → statement M

@@ -1,8 +1,8 @@
 -- `host_index::told` meets its contract. Assumes nothing.
 use mathlib.Core.Path.{sym, ap, subst}
 use native.Mathlib.Omega.{arith}
-use Rattle.indexing.specs.Adds.{says}
-use Rattle.indexing.specs.declared.Indexed.{Indexed}
+use Rattle.index_builder.specs.Adds.{says}
+use Rattle.index_builder.specs.declared.Indexed.{Indexed}
 use Rattle.host_index.specs.Told.{indexCode, Few}
 use borrow.Author.Needs.{needs}
 use Rattle.host_index.proofs.told.Statement.{statement}

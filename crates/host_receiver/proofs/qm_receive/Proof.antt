@@ -1,5 +1,7 @@
 -- `host_receiver::qm_receive` meets its contract. Assumes nothing.
 use mathlib.Core.Path.{sym, _∙_}
+use Rattle.receiver.specs.Lent.{lent}
+use Rattle.wire.specs.Slices.{_⇒_}
 use Rattle.host_receiver.proofs.Telling.{short-told, heard-told}
 use borrow.Author.Needs.{needs}
 use Rattle.host_receiver.proofs.qm_receive.Statement.{statement}
@@ -15,7 +17,7 @@ same-length-2 : tie.Need-same-length-2
 same-length-2 c = search needs
 
 returns : tie.Need-returns
-returns c = short-told _ _ _ _ _ _ _ _ (sym (c .before .no-room .ensures) ∙ c .if1 .taken)
+returns c = short-told _ _ _ _ (sym (c .before .no-room .ensures) ∙ c .if1 .taken)
 
 receive-requires : tie.Need-receive-requires
 receive-requires c κs = search needs
@@ -47,7 +49,7 @@ returns-2 c =
     let hearing = telling .before .before .before .before .before .before .before .before .before .before .before in
     let test = hearing .before .before .before .before .before in
     let room = sym (test .before .no-room .ensures) ∙ test .if1 .left in
-    heard-told _ _ _ _ _ _ _ _ _ _ _ _ _ _ _ _ room (hearing .receive .ensures) (telling .tell .ensures)
+    heard-told _ (lent _ _ _ _) (_ ⇒ _) (_ ⇒ _) _ _ (lent _ _ _ _) room (hearing .receive .ensures) (telling .tell .ensures)
 
 pub qm-receive-spec : {M : Type 1} → statement M
 qm-receive-spec =

@@ -1,6 +1,8 @@
 -- `host_receiver::qm_receive_within` meets its contract. Assumes nothing.
 use mathlib.Core.Path.{sym, _∙_}
-use Rattle.host_receiver.proofs.Telling.{short-within, heard-within}
+use Rattle.receiver.specs.Lent.{lent}
+use Rattle.wire.specs.Slices.{_⇒_}
+use Rattle.host_receiver.proofs.Telling.{short-told, heard-told}
 use borrow.Author.Needs.{needs}
 use Rattle.host_receiver.proofs.qm_receive_within.Statement.{statement}
 use Rattle.host_receiver.proofs.qm_receive_within.Tie as tie
@@ -15,7 +17,7 @@ same-length-2 : tie.Need-same-length-2
 same-length-2 c = search needs
 
 returns : tie.Need-returns
-returns c = short-within _ _ _ _ _ _ _ _ _ (sym (c .before .no-room .ensures) ∙ c .if1 .taken)
+returns c = short-told _ _ _ _ (sym (c .before .no-room .ensures) ∙ c .if1 .taken)
 
 receive-within-requires : tie.Need-receive-within-requires
 receive-within-requires c κs = search needs
@@ -47,7 +49,7 @@ returns-2 c =
     let hearing = telling .before .before .before .before .before .before .before .before .before .before .before in
     let test = hearing .before .before .before .before .before in
     let room = sym (test .before .no-room .ensures) ∙ test .if1 .left in
-    heard-within _ _ _ _ _ _ _ _ _ _ _ _ _ _ _ _ _ room (hearing .receive-within .ensures) (telling .tell .ensures)
+    heard-told _ (lent _ _ _ _) (_ ⇒ _) (_ ⇒ _) _ _ (lent _ _ _ _) room (hearing .receive-within .ensures) (telling .tell .ensures)
 
 pub qm-receive-within-spec : {M : Type 1} → statement M
 qm-receive-within-spec =

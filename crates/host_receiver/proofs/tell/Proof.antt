@@ -36,7 +36,7 @@ same-length-2 : tie.Need-same-length-2
 same-length-2 c = search needs
 
 returns-2 : tie.Need-returns-2
-returns-2 c = done-tells _ _ _ _ _ _ _ (c .before .before .before .before .before .before .before .enum-told .given .1) refl (λ l m. refl) (c .before .before .before .before .put-outcome .ensures)
+returns-2 c = done-tells _ _ _ _ _ (c .before .before .before .before .before .before .before .enum-told .given .1) refl (λ l m. refl) (c .before .before .before .before .put-outcome .ensures)
 
 same-length-3 : tie.Need-same-length-3
 same-length-3 c = search needs
@@ -45,7 +45,7 @@ same-length-4 : tie.Need-same-length-4
 same-length-4 c = search needs
 
 returns-3 : tie.Need-returns-3
-returns-3 c = done-tells _ _ _ _ _ _ _ (c .before .before .before .before .before .before .before .enum-told2 .given .1) refl (λ l m. refl) (c .before .before .before .before .put-outcome2 .ensures)
+returns-3 c = done-tells _ _ _ _ _ (c .before .before .before .before .before .before .before .enum-told2 .given .1) refl (λ l m. refl) (c .before .before .before .before .put-outcome2 .ensures)
 
 same-length-5 : tie.Need-same-length-5
 same-length-5 c = search needs
@@ -54,7 +54,7 @@ same-length-6 : tie.Need-same-length-6
 same-length-6 c = search needs
 
 returns-4 : tie.Need-returns-4
-returns-4 c = done-tells _ _ _ _ _ _ _ (c .before .before .before .before .before .before .before .enum-told3 .given .1) refl (λ l m. refl) (c .before .before .before .before .put-outcome3 .ensures)
+returns-4 c = done-tells _ _ _ _ _ (c .before .before .before .before .before .before .before .enum-told3 .given .1) refl (λ l m. refl) (c .before .before .before .before .put-outcome3 .ensures)
 
 pub tell-spec : {M : Type 1} → statement M
 tell-spec =

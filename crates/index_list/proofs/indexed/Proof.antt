@@ -1,5 +1,5 @@
 -- The words have room for the rows that were indexed. Assumes nothing.
-use Rattle.indexing.proofs.Promises.{index-entries, index-room}
+use Rattle.index_builder.proofs.Promises.{index-entries, index-room}
 use borrow.Author.Needs.{needs}
 use Rattle.index_list.proofs.indexed.Statement.{statement}
 use Rattle.index_list.proofs.indexed.Tie as tie

@@ -5,7 +5,7 @@ use lib.ListN.{drop}
 use Prim.Native.Nat.{ℕ}
 use Rattle.wire.specs.Bytes.{be}
 use Rattle.log.specs.Entries.{entryOf}
-use Rattle.log_writer.specs.Writes.{Appended}
+use Rattle.log_append.specs.Writes.{Appended}
 use Rattle.log_write.proofs.Keeping.{kept-sends, kept-never, of-numbers}
 use borrow.Author.Needs.{needs}
 use Rattle.log_write.proofs.keep.Statement.{statement}

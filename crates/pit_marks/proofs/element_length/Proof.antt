@@ -9,7 +9,7 @@ use Prim.Native.Nat.{ℕ, _+_, _≤_}
 use native.Mathlib.Omega.{arith}
 use borrow.Author.Tests.{eq-eqb, ne-eqb}
 use Rattle.wire.specs.Choice.{pick}
-use Rattle.counting.specs.Marks.{markLength}
+use Rattle.count_rules.specs.Marks.{markLength}
 use Rattle.pit_marks.proofs.element_length.Statement.{statement}
 use Rattle.pit_marks.proofs.element_length.Tie as tie
 

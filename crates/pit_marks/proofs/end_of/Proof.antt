@@ -4,8 +4,8 @@ use Prim.Native.Nat.{ℕ, suc, _+_, _*_}
 use native.Mathlib.Omega.{arith}
 use native.Mathlib.Numerals.{add-one}
 use borrow.Author.Tests.{lt-ltb, le-ltb}
-use Rattle.tally.specs.Halving.{rankIn}
-use Rattle.counting.specs.Keys.{span, pitKey}
+use Rattle.sorted_set.specs.Halving.{rankIn}
+use Rattle.count_rules.specs.Keys.{span, pitKey}
 use borrow.Author.Needs.{needs}
 use Rattle.pit_marks.proofs.end_of.Statement.{statement}
 use Rattle.pit_marks.proofs.end_of.Tie as tie

@@ -4,7 +4,7 @@ use mathlib.Core.List.{List, _++_}
 use Prim.Native.Nat.{ℕ, _-_, _≤_}
 use native.Mathlib.Omega.{arith}
 use lib.ListN.{length, drop}
-use Rattle.counting.specs.Marks.{Mark, markLength, markAt}
+use Rattle.count_rules.specs.Marks.{Mark, markLength, markAt}
 use Rattle.pit_marks.specs.Enters.{enterMarks}
 use Rattle.pit_marks.proofs.Cases.{as-said, then-on, then-refused, all-entered}
 use Rattle.pit_marks.proofs.Walks.{takes-one, moves-on, marksFrom, marks-turn, marks-end}

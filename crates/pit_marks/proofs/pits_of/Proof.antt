@@ -2,8 +2,8 @@
 use mathlib.Core.Path.{_≡_, sym, ap, _∙_}
 use Prim.Native.Nat.{ℕ, _-_, _*_, _%_}
 use native.Mathlib.Omega.{arith}
-use Rattle.tally.specs.Halving.{rankIn}
-use Rattle.counting.specs.Keys.{span, pitKey}
+use Rattle.sorted_set.specs.Halving.{rankIn}
+use Rattle.count_rules.specs.Keys.{span, pitKey}
 use Rattle.pit_marks.specs.Lines.{endOf, pitsIn}
 use borrow.Author.Needs.{needs}
 use Rattle.pit_marks.proofs.pits_of.Statement.{statement}

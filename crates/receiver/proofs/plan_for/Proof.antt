@@ -1,7 +1,7 @@
 -- `receiver::plan_for` meets its contract. Assumes nothing.
 use mathlib.Core.Path.{subst}
-use Rattle.deciding.specs.declared.Verdict.{Verdict}
-use Rattle.deciding.specs.Inside.{Possible}
+use Rattle.verdict.specs.declared.Verdict.{Verdict}
+use Rattle.verdict.specs.Inside.{Possible}
 use Rattle.receiver.proofs.Settling.{planned-refuse, planned-again, planned-deliver, planned-join, planned-begin}
 use borrow.Author.Needs.{needs}
 use Rattle.receiver.proofs.plan_for.Statement.{statement}

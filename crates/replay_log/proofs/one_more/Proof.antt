@@ -2,16 +2,17 @@
 use mathlib.Core.Path.{_≡_, subst}
 use mathlib.Core.List.{List}
 use Prim.Native.Nat.{ℕ}
+use Rattle.receiver.specs.Lent.{Lent}
 use Rattle.receiver.specs.declared.Outcome.{Outcome}
 use Rattle.log.specs.declared.reader.Limits.{Limits}
-use Rattle.bounded.specs.Within.{ReceivesWithin}
+use Rattle.within_limits.specs.Within.{ReceivesWithin}
 use borrow.Author.Needs.{needs}
 use Rattle.replay_log.proofs.one_more.Statement.{statement}
 use Rattle.replay_log.proofs.one_more.Tie as tie
 
-module _ {l : Limits} {w n store ledger : List ℕ} {sender : ℕ} {d e : List ℕ} {r : Outcome} {w′ n′ store′ ledger′ : List ℕ} where
-  same-datagram : d ≡ e → ReceivesWithin l w n store ledger sender d r w′ n′ store′ ledger′ → ReceivesWithin l w n store ledger sender e r w′ n′ store′ ledger′
-  same-datagram = subst (λ (b : List ℕ). ReceivesWithin l w n store ledger sender b r w′ n′ store′ ledger′)
+module _ (limits : Limits) {l l′ : Lent} {sender : ℕ} {d e : List ℕ} {r : Outcome} where
+  same-datagram : d ≡ e → ReceivesWithin limits l sender d r l′ → ReceivesWithin limits l sender e r l′
+  same-datagram = subst (λ (b : List ℕ). ReceivesWithin limits l sender b r l′)
 
 part-requires : tie.Need-part-requires
 part-requires c κs = search needs
@@ -43,7 +44,7 @@ returns c =
     let r = at-pour-line .before .before .before .before .before .before .before .before .before .before in
     let at-part = r .before .before .before .before .before in
     let p = at-part .part .ensures in
-    record { outcome = _; heard = same-datagram p (r .receive-within .ensures); said = at-pour-line .pour-line .ensures }
+    record { outcome = _; heard = same-datagram _ p (r .receive-within .ensures); said = at-pour-line .pour-line .ensures }
 
 pub one-more-spec : {M : Type 1} → statement M
 one-more-spec =

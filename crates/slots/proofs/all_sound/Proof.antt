@@ -9,7 +9,7 @@ use Rattle.steps.specs.Search.{allBelow}
 use Rattle.steps.proofs.Tables.{all-not}
 use Rattle.steps.specs.Limits.{slotCount}
 use Rattle.slots.specs.Words.{soundIn}
-use Rattle.held.proofs.Runs.{all-more}
+use Rattle.held_bits.proofs.Runs.{all-more}
 use Rattle.slots.proofs.all_sound.Statement.{statement}
 use Rattle.slots.proofs.all_sound.Tie as tie
 

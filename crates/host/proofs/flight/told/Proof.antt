@@ -1,8 +1,8 @@
 -- `host::flight::told` meets its contract. Assumes nothing.
 use mathlib.Core.Path.{_≡_, sym, ap, subst}
 use native.Mathlib.Omega.{arith}
-use Rattle.log_writer.specs.Writes.{says}
-use Rattle.log_writer.specs.declared.Written.{Written}
+use Rattle.log_append.specs.Writes.{says}
+use Rattle.log_append.specs.declared.Written.{Written}
 use Rattle.host.specs.Flight.{lengthCode, Spans}
 use borrow.Author.Needs.{needs}
 use Rattle.host.proofs.flight.told.Statement.{statement}

@@ -1,6 +1,6 @@
 -- `log::reader::limit_at` meets its contract. Assumes nothing.
 use mathlib.Core.Path.{sym, ap, _∙_}
-use Rattle.seven.proofs.Sevens.{number-taken, number-refused}
+use Rattle.varint.proofs.Sevens.{number-taken, number-refused}
 use Rattle.log.specs.Told.{firstOf}
 use Rattle.log.proofs.Reading.{limit-follows, limit-refused}
 use borrow.Author.Needs.{needs}

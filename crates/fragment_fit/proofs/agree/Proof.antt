@@ -1,0 +1,53 @@
+-- `fragment_fit::agree` meets its contract. Assumes nothing.
+use mathlib.Core.Path.{sym}
+use Prim.Native.Nat.{_+_}
+use borrow.Author.Tests.{lt-ltb, le-ltb}
+use borrow.Author.Needs.{needs}
+use Rattle.fragment_fit.proofs.Aparts.{near, far}
+use Rattle.fragment_fit.proofs.agree.Statement.{statement}
+use Rattle.fragment_fit.proofs.agree.Tie as tie
+
+add-if2 : tie.Need-add-if2
+add-if2 c = search needs
+
+add-result : tie.Need-add-result
+add-result c = search needs
+
+add-result-2 : tie.Need-add-result-2
+add-result-2 c = search needs
+
+add-if3 : tie.Need-add-if3
+add-if3 c = search needs
+
+add-result-3 : tie.Need-add-result-3
+add-result-3 c = search needs
+
+add-result-4 : tie.Need-add-result-4
+add-result-4 c = search needs
+
+returns : tie.Need-returns
+returns c = let a = c .before .before .args in rw (lt-ltb _ _ (c .before .if1 .taken)) (sym (near (a .j) (a .other + a .size) (a .k) (a .offset) (c .if2 .taken)))
+
+returns-2 : tie.Need-returns-2
+returns-2 c = let a = c .before .before .args in rw (lt-ltb _ _ (c .before .if1 .taken)) (sym (far (a .j) (a .other + a .size) (a .k) (a .offset) (c .if2 .left)))
+
+returns-3 : tie.Need-returns-3
+returns-3 c = let a = c .before .before .args in rw (le-ltb _ _ (c .before .if1 .left)) (sym (near (a .k) (a .offset + a .len) (a .j) (a .other) (c .if3 .taken)))
+
+returns-4 : tie.Need-returns-4
+returns-4 c = let a = c .before .before .args in rw (le-ltb _ _ (c .before .if1 .left)) (sym (far (a .k) (a .offset + a .len) (a .j) (a .other) (c .if3 .left)))
+
+pub agree-spec : {M : Type 1} → statement M
+agree-spec =
+    tie.close
+    (tie.spec
+    add-if2
+    add-result
+    add-result-2
+    add-if3
+    add-result-3
+    add-result-4
+    returns
+    returns-2
+    returns-3
+    returns-4)

@@ -1,0 +1,93 @@
+-- `fragment_fit::all_apart` meets its contract. The loop's invariant: none of the j fragments passed is held and crosses. Assumes nothing.
+use mathlib.Core.Path.{_≡_, refl, sym, _∙_, ap}
+use mathlib.Core.Bool.{true}
+use mathlib.Core.Logic.{⊎-elim}
+use Prim.Native.Nat.{ℕ, _-_, _*_, _/_, _%_, _^_, _≤_}
+use native.Mathlib.Omega.{arith}
+use lib.Dec.{ltb}
+use borrow.Author.Tests.{not-true, not-false}
+use borrow.Author.Needs.{needs}
+use Rattle.steps.specs.Search.{allBelow}
+use Rattle.fragment_fit.specs.Apart.{apartAt}
+use Rattle.fragment_fit.proofs.Aparts.{run-passes, run-fails, run-word, zero-apart}
+use Rattle.fragment_fit.proofs.all_apart.Statement.{statement}
+use Rattle.fragment_fit.proofs.all_apart.Tie as tie
+
+abbrev Inv-loop : tie.InvT-loop
+Inv-loop held ledger n k offset len j₀ j = (j ≤ n) × (allBelow j (apartAt held ledger k offset len) ≡ true)
+
+abbrev μ-loop : tie.MeasureT-loop
+μ-loop held ledger n k offset len j₀ j = n - j
+
+loop-holds : tie.Need-loop-holds Inv-loop μ-loop
+loop-holds c = (omega arith, refl)
+
+run-length-requires : tie.Need-run-length-requires Inv-loop μ-loop
+run-length-requires c κs = search needs
+
+word-requires : tie.Need-word-requires Inv-loop μ-loop
+word-requires c κs = search needs
+
+shr-w : tie.Need-shr-w Inv-loop μ-loop
+shr-w c = search needs
+
+mul-run-apart : tie.Need-mul-run-apart Inv-loop μ-loop
+mul-run-apart c = search needs
+
+run-apart-requires : tie.Need-run-apart-requires Inv-loop μ-loop
+run-apart-requires c κs = search needs
+
+returns : tie.Need-returns Inv-loop μ-loop
+returns c =
+    let word = c .before .before .before in
+    let start = word .before .before .before in
+    let l = start .loop in
+    let a = start .before .before .before .args in
+    let m = word .before .run-length in
+    let e = ap (λ (x : ℕ). x / 2 ^ (l .j % 64)) (word .word .ensures) in
+    let run = run-word (a .held .now) (a .ledger .now) (a .k) (a .offset) (a .len) (l .j) (m .result) (m .ensures .1) (m .ensures .3) _ e in
+    sym (run-fails (apartAt (a .held .now) (a .ledger .now) (a .k) (a .offset) (a .len)) (a .n) (l .j) (m .result) (omega arith) (run ∙ sym (c .before .run-apart .ensures) ∙ not-true _ (c .if2 .taken)))
+
+add-j : tie.Need-add-j Inv-loop μ-loop
+add-j c = search needs
+
+loop-less : tie.Need-loop-less Inv-loop μ-loop
+loop-less c = search needs
+
+loop-again : tie.Need-loop-again Inv-loop μ-loop
+loop-again c =
+    let word = c .before in
+    let start = word .before .before .before in
+    let l = start .loop in
+    let a = start .before .before .before .args in
+    let m = word .before .run-length in
+    let e = ap (λ (x : ℕ). x / 2 ^ (l .j % 64)) (word .word .ensures) in
+    let run = run-word (a .held .now) (a .ledger .now) (a .k) (a .offset) (a .len) (l .j) (m .result) (m .ensures .1) (m .ensures .3) _ e in
+    let passed = ⊎-elim
+    (λ w. sym (w .1 .ensures) ∙ not-false _ (w .2 .left))
+    (λ w. zero-apart _ (m .result) (a .ledger .now) (2 * l .j) (ltb (l .j) (a .k)) (a .offset) (a .len) (w .left))
+    (c .if1 .came) in
+    (omega arith, run-passes (apartAt (a .held .now) (a .ledger .now) (a .k) (a .offset) (a .len)) (l .j) (m .result) (l .inv .1) (run ∙ passed))
+
+returns-2 : tie.Need-returns-2 Inv-loop μ-loop
+returns-2 c =
+    let e : c .before .loop .j ≡ c .before .before .before .before .args .n = omega arith in
+    sym (rw e at (c .before .loop .inv .1))
+
+pub all-apart-spec : {M : Type 1} → statement M
+all-apart-spec =
+    tie.close
+    (tie.spec
+    Inv-loop
+    μ-loop
+    loop-holds
+    run-length-requires
+    word-requires
+    shr-w
+    mul-run-apart
+    run-apart-requires
+    returns
+    add-j
+    loop-less
+    loop-again
+    returns-2)

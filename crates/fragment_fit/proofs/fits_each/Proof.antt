@@ -1,0 +1,63 @@
+-- `fragment_fit::fits_each` meets its contract. The loop's invariant: the fragment agrees with every held one of the j passed. Assumes nothing.
+use mathlib.Core.Path.{_≡_, refl, sym, _∙_}
+use mathlib.Core.Bool.{true}
+use Prim.Native.Nat.{_-_, _≤_}
+use native.Mathlib.Omega.{arith}
+use borrow.Author.Tests.{not-true, not-false}
+use Rattle.steps.specs.Search.{allBelow}
+use Rattle.steps.proofs.Tables.{all-not}
+use Rattle.fragment_fit.specs.Fits.{fitsIn}
+use Rattle.held_bits.proofs.Runs.{all-more}
+use borrow.Author.Needs.{needs}
+use Rattle.fragment_fit.proofs.fits_each.Statement.{statement}
+use Rattle.fragment_fit.proofs.fits_each.Tie as tie
+
+abbrev Inv-loop : tie.InvT-loop
+Inv-loop held ledger n k offset len j₀ j = (j ≤ n) × (allBelow j (fitsIn held ledger k offset len) ≡ true)
+
+abbrev μ-loop : tie.MeasureT-loop
+μ-loop held ledger n k offset len j₀ j = n - j
+
+loop-holds : tie.Need-loop-holds Inv-loop μ-loop
+loop-holds c = (omega arith, refl)
+
+fits-with-requires : tie.Need-fits-with-requires Inv-loop μ-loop
+fits-with-requires c κs = search needs
+
+returns : tie.Need-returns Inv-loop μ-loop
+returns c =
+    let start = c .before .before .before in
+    let a = start .before .before .before .args in
+    sym (all-not (a .n) (fitsIn (a .held .now) (a .ledger .now) (a .k) (a .offset) (a .len)) (start .loop .j) (omega arith) (sym (c .before .fits-with .ensures) ∙ not-true _ (c .if1 .taken)))
+
+add-j : tie.Need-add-j Inv-loop μ-loop
+add-j c = search needs
+
+loop-less : tie.Need-loop-less Inv-loop μ-loop
+loop-less c = search needs
+
+loop-again : tie.Need-loop-again Inv-loop μ-loop
+loop-again c =
+    let start = c .before .before .before in
+    let a = start .before .before .before .args in
+    let l = start .loop in
+    (omega arith, all-more (fitsIn (a .held .now) (a .ledger .now) (a .k) (a .offset) (a .len)) (l .j) (l .inv .1) (sym (c .before .fits-with .ensures) ∙ not-false _ (c .if1 .left)))
+
+returns-2 : tie.Need-returns-2 Inv-loop μ-loop
+returns-2 c =
+    let e : c .before .loop .j ≡ c .before .before .before .before .args .n = omega arith in
+    sym (rw e at (c .before .loop .inv .1))
+
+pub fits-each-spec : {M : Type 1} → statement M
+fits-each-spec =
+    tie.close
+    (tie.spec
+    Inv-loop
+    μ-loop
+    loop-holds
+    fits-with-requires
+    returns
+    add-j
+    loop-less
+    loop-again
+    returns-2)

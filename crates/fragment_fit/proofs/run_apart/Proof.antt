@@ -1,0 +1,99 @@
+-- `fragment_fit::run_apart` meets its contract. The loop's invariant: crossed of the b fragments passed are held and cross. Assumes nothing.
+use mathlib.Core.Path.{_≡_, refl, ap}
+use mathlib.Core.Bool.{not}
+use mathlib.Core.Logic.{⊎-elim}
+use Prim.Native.Nat.{_-_, _≤_}
+use native.Mathlib.Omega.{arith}
+use lib.Dec.{eqb}
+use borrow.Author.Needs.{needs}
+use Rattle.steps.specs.Search.{allBelow}
+use Rattle.fragment_fit.specs.Apart.{apartIn}
+use Rattle.fragment_fit.proofs.Aparts.{none-more, one-more}
+use Rattle.fragment_fit.proofs.run_apart.Statement.{statement}
+use Rattle.fragment_fit.proofs.run_apart.Tie as tie
+
+abbrev Inv-loop : tie.InvT-loop
+Inv-loop w ledger at m below offset len crossed₀ b₀ crossed b = (b ≤ m) × (crossed ≤ b) × (eqb crossed 0 ≡ allBelow b (apartIn w ledger at below offset len))
+
+abbrev μ-loop : tie.MeasureT-loop
+μ-loop w ledger at m below offset len crossed₀ b₀ crossed b = m - b
+
+loop-holds : tie.Need-loop-holds Inv-loop μ-loop
+loop-holds c = (omega arith, omega arith, refl)
+
+mul-e : tie.Need-mul-e Inv-loop μ-loop
+mul-e c = search needs
+
+add-e : tie.Need-add-e Inv-loop μ-loop
+add-e c = search needs
+
+mul-crosses : tie.Need-mul-crosses Inv-loop μ-loop
+mul-crosses c = search needs
+
+shared-slice-read-crosses : tie.Need-shared-slice-read-crosses Inv-loop μ-loop
+shared-slice-read-crosses c = search needs
+
+add-crosses : tie.Need-add-crosses Inv-loop μ-loop
+add-crosses c = search needs
+
+mul-crosses-2 : tie.Need-mul-crosses-2 Inv-loop μ-loop
+mul-crosses-2 c = search needs
+
+shared-slice-read-crosses-2 : tie.Need-shared-slice-read-crosses-2 Inv-loop μ-loop
+shared-slice-read-crosses-2 c = search needs
+
+crosses-requires : tie.Need-crosses-requires Inv-loop μ-loop
+crosses-requires c κs = search needs
+
+shr-held : tie.Need-shr-held Inv-loop μ-loop
+shr-held c = search needs
+
+add-crossed : tie.Need-add-crossed Inv-loop μ-loop
+add-crossed c = search needs
+
+add-b : tie.Need-add-b Inv-loop μ-loop
+add-b c = search needs
+
+loop-less : tie.Need-loop-less Inv-loop μ-loop
+loop-less c = search needs
+
+loop-again : tie.Need-loop-again Inv-loop μ-loop
+loop-again c =
+    let l = c .before .before .before .before .before .loop in
+    let a = c .before .before .before .before .before .before .before .args in
+    let p = apartIn (a .w) (a .ledger .now) (a .at) (a .below) (a .offset) (a .len) in
+    let here = c .before .crosses .ensures in (
+      omega arith,
+      ⊎-elim (λ w. omega arith) (λ w. omega arith) (c .if1 .came),
+      ⊎-elim
+          (λ w. one-more p (l .b) (l .crossed) _ (ap not (rw here at (w .0 .taken))) (w .1))
+          (λ w. none-more p (l .b) (l .crossed) _ (l .inv .2) (ap not (rw here at (w .0 .left))) (w .1))
+          (c .if1 .came),
+    )
+
+returns : tie.Need-returns Inv-loop μ-loop
+returns c =
+    let e : c .before .loop .b ≡ c .before .before .before .args .m = omega arith in
+    rw e at (c .before .loop .inv .2)
+
+pub run-apart-spec : {M : Type 1} → statement M
+run-apart-spec =
+    tie.close
+    (tie.spec
+    Inv-loop
+    μ-loop
+    loop-holds
+    mul-e
+    add-e
+    mul-crosses
+    shared-slice-read-crosses
+    add-crosses
+    mul-crosses-2
+    shared-slice-read-crosses-2
+    crosses-requires
+    shr-held
+    add-crossed
+    add-b
+    loop-less
+    loop-again
+    returns)

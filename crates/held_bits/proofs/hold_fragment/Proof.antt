@@ -1,0 +1,32 @@
+-- `held_bits::hold_fragment` meets its contract. Assumes nothing.
+use mathlib.Core.Path.{_∙_}
+use Prim.Native.Nat.{_%_}
+use native.Mathlib.Omega.{arith}
+use borrow.Author.Needs.{needs}
+use Rattle.steps.specs.Held.{hold}
+use Rattle.held_bits.proofs.Bits.{above-bits}
+use Rattle.held_bits.proofs.hold_fragment.Statement.{statement}
+use Rattle.held_bits.proofs.hold_fragment.Tie as tie
+
+word-requires : tie.Need-word-requires
+word-requires c κs = search needs
+
+shl-bit : tie.Need-shl-bit
+shl-bit c = search needs
+
+put-word-requires : tie.Need-put-word-requires
+put-word-requires c κs = search needs
+
+same-length : tie.Need-same-length
+same-length c = search needs
+
+returns : tie.Need-returns
+unfolding hold
+returns c =
+    let put = c .before .before in
+    let word = put .before .before in
+    put .put-word .ensures ∙ rw (word .word .ensures, above-bits (word .before .before .before .args .k % 64) (omega arith))
+
+pub hold-fragment-spec : {M : Type 1} → statement M
+hold-fragment-spec =
+    tie.close (tie.spec word-requires shl-bit put-word-requires same-length returns)

@@ -1,0 +1,155 @@
+-- Counted, judged and then entered. Assumes nothing.
+use mathlib.Core.Path.{_≡_, refl, sym, ap, subst, _∙_}
+use mathlib.Core.Bool.{Bool, true, false, _||_}
+use mathlib.Core.List.{List, [], _∷_, _++_}
+use Prim.Native.Nat.{ℕ, _+_, _-_, _*_, _≤_, _<_}
+use native.Mathlib.Omega.{arith}
+use lib.Dec.{ltb}
+use lib.ListN.{length, take}
+use borrow.Author.Tests.{ltb-false}
+use Rattle.wire.specs.Choice.{pick}
+use Rattle.wire.specs.Overlay.{overlay}
+use Rattle.wire.specs.Taken.{Taken, taken, refused}
+use Rattle.wire.proofs.Choices.{or-l, or-r}
+use Rattle.log.specs.Editions.{Edition, headIn, limitsOf}
+use Rattle.log.specs.Told.{firstOf, firstIn}
+use Rattle.log.specs.declared.reader.Limits.{Limits}
+use Rattle.log.specs.declared.reader.First.{First}
+use Rattle.log.specs.declared.reader.First.the-variants as first
+use Rattle.log_index.specs.Limits.{maxIndex, batchRows}
+use Rattle.log_index.specs.Rows.{Row, sorted}
+use Rattle.log_index.specs.Index.{Gathered, gathered, stopped, rowsFrom, rowsBehind, rowsIn, rowsAfter, rowsAdded, Answer, holds, refuses, noRoom, answerOf}
+use Rattle.log_index.specs.Words.{wordsOf}
+use Rattle.log_index.proofs.Batches.{added-fresh}
+use Rattle.index_builder.specs.declared.Indexed.{Indexed}
+use Rattle.index_builder.specs.declared.Indexed.the-variants.{Entries, Refused}
+use Rattle.index_builder.specs.Adds.{says, indexWords, extendedWords, Indexes, Adds}
+use Rattle.index_builder.specs.Walk.{totalOf, Walked}
+
+-- ---- room
+
+module _ (words n : ℕ) (room : noRoom words n ≡ false) where
+  pub room-rows : n ≤ maxIndex
+  room-rows = ltb-false maxIndex n (or-l (ltb maxIndex n) (ltb words (3 * n)) room)
+
+  pub room-for : 3 * n ≤ words
+  room-for = ltb-false words (3 * n) (or-r (ltb maxIndex n) (ltb words (3 * n)) room)
+
+pub room-before : (words n k : ℕ) → noRoom words (n + k) ≡ false → n ≤ maxIndex
+room-before words n k e = let m = room-rows words (n + k) e in omega (arith, m)
+
+-- ---- the three answers
+
+module _ (words n : ℕ) (rs : List Row) where
+  pub answer-full : noRoom words (n + length rs) ≡ true → answerOf words n (gathered rs) ≡ refuses 44
+  unfolding answerOf
+  answer-full e = rw e
+
+  pub answer-holds : noRoom words (n + length rs) ≡ false → answerOf words n (gathered rs) ≡ holds (n + length rs)
+  unfolding answerOf
+  answer-holds e = rw e
+
+pub answer-stopped : (words n k : ℕ) → answerOf words n (stopped k) ≡ refuses k
+unfolding answerOf
+answer-stopped words n k = refl
+
+-- a walk without words told how many rows there are, or the refusal
+module _ (v v′ : List ℕ) (room : ℕ) (r : Indexed) where
+  pub adds-refused : (g : Gathered) (w : List ℕ) (n k : ℕ) → Walked g v 0 room r v′ → r ≡ Refused k → Adds g w n r w
+  unfolding answerOf
+  adds-refused (gathered rs) w n k f e =
+      let q : refuses k ≡ holds (0 + length rs) = sym (ap says e) ∙ f .answer in
+      absurd (let z : _≡_ {A = ℕ} 0 1 = cc in omega arith)
+  adds-refused (stopped i) w n k f e = record { answer = f .answer; index = refl }
+
+  pub adds-full : (g : Gathered) (w : List ℕ) (n k : ℕ) → Walked g v 0 room r v′ → r ≡ Entries k → noRoom (length w) (n + k) ≡ true → Adds g w n (Refused 44) w
+  adds-full (stopped i) w n k f e h =
+      let q : holds k ≡ refuses i = sym (ap says e) ∙ f .answer in
+      absurd (let z : _≡_ {A = ℕ} 0 1 = cc in omega arith)
+  adds-full (gathered rs) w n k f e h =
+      let q : holds k ≡ holds (0 + length rs) = sym (ap says e) ∙ f .answer in
+      let c : k ≡ 0 + length rs = cc in
+      let d : k ≡ length rs = omega arith in
+      let a = answer-full (length w) n rs (ap (λ (i : ℕ). noRoom (length w) (n + i)) (sym d) ∙ h) in
+      record { answer = sym a; index = ap (λ (x : Answer). extendedWords x (gathered rs) w n) (sym a) }
+
+  pub adds-all : (g : Gathered) (w : List ℕ) (n k : ℕ) → Walked g v 0 room r v′ → r ≡ Entries k → noRoom (length w) (n + k) ≡ false
+      → (s : Indexed) (w′ : List ℕ) (b : ℕ) → 3 * batchRows ≤ b → Walked g w n b s w′ → Adds g w n s w′
+  adds-all (stopped i) w n k f e h s w′ b o l =
+      let q : holds k ≡ refuses i = sym (ap says e) ∙ f .answer in
+      absurd (let z : _≡_ {A = ℕ} 0 1 = cc in omega arith)
+  adds-all (gathered rs) w n k f e h s w′ b o l =
+      let q : holds k ≡ holds (0 + length rs) = sym (ap says e) ∙ f .answer in
+      let c : k ≡ 0 + length rs = cc in
+      let d : k ≡ length rs = omega arith in
+      let a = answer-holds (length w) n rs (ap (λ (i : ℕ). noRoom (length w) (n + i)) (sym d) ∙ h) in
+      record { answer = l .answer ∙ sym a; index = l .words o rs refl ∙ ap (λ (x : Answer). extendedWords x (gathered rs) w n) (sym a) }
+
+-- ---- the head
+
+first-rows : (log : List ℕ) (at : ℕ) (m : Limits) (t : Taken Edition) → firstOf log t ≡ first.At at m → rowsBehind log t ≡ rowsFrom m log at
+first-rows log at m (refused n) e = absurd (let z : _≡_ {A = ℕ} 0 1 = cc in omega arith)
+first-rows log at m (taken v b) e = cc
+
+pub head-rows : (log : List ℕ) (at : ℕ) (m : Limits) → firstIn log ≡ first.At at m → rowsIn log ≡ rowsFrom m log at
+unfolding rowsIn
+head-rows log at m e = first-rows log at m (headIn log) e
+
+first-stops : (log : List ℕ) (n : ℕ) (t : Taken Edition) → firstOf log t ≡ first.Refused n → rowsBehind log t ≡ stopped n
+first-stops log n (refused k) e = cc
+first-stops log n (taken v b) e = absurd (let z : _≡_ {A = ℕ} 0 1 = cc in omega arith)
+
+pub head-stops : (log : List ℕ) (n : ℕ) → firstIn log ≡ first.Refused n → rowsIn log ≡ stopped n
+unfolding rowsIn
+head-stops log n e = first-stops log n (headIn log) e
+
+first-added : (log : List ℕ) (at from : ℕ) (m : Limits) (t : Taken Edition) → firstOf log t ≡ first.At at m → rowsAfter log from t ≡ rowsFrom m log from
+first-added log at from m (refused n) e = absurd (let z : _≡_ {A = ℕ} 0 1 = cc in omega arith)
+first-added log at from m (taken v b) e = let q : limitsOf v ≡ m = cc in ap (λ (l : Limits). rowsFrom l log from) q
+
+pub head-added : (log : List ℕ) (at from : ℕ) (m : Limits) → firstIn log ≡ first.At at m → rowsAdded log from ≡ rowsFrom m log from
+unfolding rowsAdded
+head-added log at from m e = first-added log at from m (headIn log) e
+
+first-after : (log : List ℕ) (from n : ℕ) (t : Taken Edition) → firstOf log t ≡ first.Refused n → rowsAfter log from t ≡ stopped n
+first-after log from n (refused k) e = cc
+first-after log from n (taken v b) e = absurd (let z : _≡_ {A = ℕ} 0 1 = cc in omega arith)
+
+pub head-after : (log : List ℕ) (from n : ℕ) → firstIn log ≡ first.Refused n → rowsAdded log from ≡ stopped n
+unfolding rowsAdded
+head-after log from n e = first-after log from n (headIn log) e
+
+-- ---- afresh: what enters no rows at all is sorted
+
+none-sorted : (w : List ℕ) → take (3 * 0) w ≡ wordsOf (sorted [])
+unfolding wordsOf sorted
+none-sorted w = refl
+
+fresh-words : (w : List ℕ) (rs : List Row) (b : Bool) → noRoom (length w) (0 + length rs) ≡ b
+    → extendedWords (answerOf (length w) 0 (gathered rs)) (gathered rs) w 0 ≡ indexWords (answerOf (length w) 0 (gathered rs)) (gathered rs) w
+fresh-words w rs true e =
+    let a = answer-full (length w) 0 rs e in
+    ap (λ (x : Answer). extendedWords x (gathered rs) w 0) a ∙ ap (λ (x : Answer). indexWords x (gathered rs) w) (sym a)
+fresh-words w rs false e =
+    let a = answer-holds (length w) 0 rs e in
+    ap (λ (x : Answer). extendedWords x (gathered rs) w 0) a
+    ∙ added-fresh w [] rs (none-sorted w) (room-for (length w) (0 + length rs) e)
+    ∙ ap (λ (x : Answer). indexWords x (gathered rs) w) (sym a)
+
+pub fresh : (g : Gathered) (w : List ℕ) → extendedWords (answerOf (length w) 0 g) g w 0 ≡ indexWords (answerOf (length w) 0 g) g w
+unfolding answerOf
+fresh (gathered rs) w = fresh-words w rs (noRoom (length w) (0 + length rs)) refl
+fresh (stopped k) w = refl
+
+pub indexes : (log w : List ℕ) (g : Gathered) (r : Indexed) (w′ : List ℕ) → rowsIn log ≡ g → Adds g w 0 r w′ → Indexes log w r w′
+indexes log w g r w′ e a = record {
+  answer = a .answer ∙ ap (answerOf (length w) 0) (sym e);
+  index = a .index ∙ fresh g w ∙ ap (λ (x : Gathered). indexWords (answerOf (length w) 0 x) x w) (sym e);
+}
+
+pub adds-same : (g h : Gathered) (w : List ℕ) (n : ℕ) (r : Indexed) (w′ : List ℕ) → h ≡ g → Adds g w n r w′ → Adds h w n r w′
+adds-same g h w n r w′ e a = subst (λ (x : Gathered). Adds x w n r w′) (sym e) a
+
+pub stops : (g : Gathered) (w : List ℕ) (n k : ℕ) → g ≡ stopped k → Adds g w n (Refused k) w
+unfolding answerOf
+stops g w n k e = rw e (record { answer = refl; index = refl })

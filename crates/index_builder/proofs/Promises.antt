@@ -1,0 +1,139 @@
+-- What the index promises: extended, it is the index worked out afresh; a key is found where the log first has it. Assumes nothing.
+use mathlib.Core.Path.{_≡_, refl, sym, ap, subst, _∙_}
+use mathlib.Core.Logic.{inl, inr}
+use mathlib.Core.Bool.{Bool, true, false}
+use mathlib.Core.Option.{Option}
+use mathlib.Core.List.{List, [], _∷_, _++_}
+use Prim.Native.Nat.{ℕ, _+_, _*_, _≤_}
+use native.Mathlib.Omega.{arith}
+use lib.ListN.{length, take, drop, length-append, length-take, take-append-drop}
+use Rattle.wire.specs.Bytes.{Bytes}
+use Rattle.wire.specs.Choice.{pick}
+use Rattle.wire.specs.Overlay.{overlay}
+use Rattle.wire.proofs.Choices.{either}
+use Rattle.wire.proofs.Overlays.{overlay-at}
+use Rattle.log_index.specs.Rows.{Row, sorted, firstOf}
+use Rattle.log_index.specs.Index.{Gathered, gathered, stopped, rowsIn, rowsAdded, firstTo, firstEntry, Answer, holds, refuses, noRoom, answerOf}
+use Rattle.log_index.specs.Words.{wordsOf, foundIn}
+use Rattle.log_index.proofs.Gathers.{ahead}
+use Rattle.log_index.proofs.Added.{rows-added, rows-rising}
+use Rattle.log_index.proofs.Sorts.{sorted-length}
+use Rattle.log_index.proofs.Wordings.{words-length}
+use Rattle.log_index.proofs.Batches.{added-fresh}
+use Rattle.log_index.proofs.Looks.{found-first}
+use Rattle.index_builder.specs.declared.Indexed.{Indexed}
+use Rattle.index_builder.specs.declared.Indexed.the-variants.{Entries, Refused}
+use Rattle.index_builder.specs.Adds.{says, indexWords, extendedWords, IndexOf, Indexes, Adds, Extends}
+use Rattle.index_builder.proofs.Answers.{room-for, answer-full, answer-holds}
+
+-- ---- extended
+
+-- the rows that were there and those that are added, answered as all of them
+module _ (words : ℕ) (xs : List Row) where
+  answer-ahead : (g : Gathered) → answerOf words (length xs) g ≡ answerOf words 0 (ahead xs g)
+  unfolding answerOf
+  answer-ahead (stopped k) = refl
+  answer-ahead (gathered ys) =
+      let e : length xs + length ys ≡ 0 + length (xs ++ ys) = omega (arith, length-append xs ys) in
+      ap (λ (n : ℕ). pick (noRoom words n) (refuses 44) (holds n)) e
+
+words-ahead : (w : List ℕ) (xs : List Row) → take (3 * length xs) w ≡ wordsOf (sorted xs) → (g : Gathered)
+    → extendedWords (answerOf (length w) (length xs) g) g w (length xs) ≡ indexWords (answerOf (length w) 0 (ahead xs g)) (ahead xs g) w
+unfolding answerOf
+words-ahead w xs e (stopped k) = refl
+words-ahead w xs e (gathered ys) = by-room (noRoom (length w) (length xs + length ys)) refl
+  where
+    same : length xs + length ys ≡ 0 + length (xs ++ ys)
+    same = omega (arith, length-append xs ys)
+
+    by-room : (b : Bool) → noRoom (length w) (length xs + length ys) ≡ b
+        → extendedWords (answerOf (length w) (length xs) (gathered ys)) (gathered ys) w (length xs) ≡ indexWords (answerOf (length w) 0 (gathered (xs ++ ys))) (gathered (xs ++ ys)) w
+    by-room true h =
+        let a = answer-full (length w) (length xs) ys h in
+        let b = answer-full (length w) 0 (xs ++ ys) (ap (noRoom (length w)) (sym same) ∙ h) in
+        ap (λ (x : Answer). extendedWords x (gathered ys) w (length xs)) a ∙ ap (λ (x : Answer). indexWords x (gathered (xs ++ ys)) w) (sym b)
+    by-room false h =
+        let a = answer-holds (length w) (length xs) ys h in
+        let b = answer-holds (length w) 0 (xs ++ ys) (ap (noRoom (length w)) (sym same) ∙ h) in
+        ap (λ (x : Answer). extendedWords x (gathered ys) w (length xs)) a
+        ∙ added-fresh w xs ys e (room-for (length w) (length xs + length ys) h)
+        ∙ ap (λ (x : Answer). indexWords x (gathered (xs ++ ys)) w) (sym b)
+
+-- an index of a log, extended by what was added behind it, is the index of all worked out afresh, refusals too
+pub extended-afresh : (log rest w : List ℕ) → Bytes log → Bytes rest → (n : ℕ) → IndexOf log w n → (r : Indexed) (w′ : List ℕ)
+    → Extends (log ++ rest) (length log) w n r w′ → Indexes (log ++ rest) w r w′
+extended-afresh log rest w h k n i r w′ a =
+    let xs = i .rows in
+    let g = rowsAdded (log ++ rest) (length log) in
+    let e = rows-added log rest h k xs (i .told) in
+    let t : take (3 * length xs) w ≡ wordsOf (sorted xs) = ap (λ (m : ℕ). take (3 * m) w) (sym (i .count)) ∙ i .words in
+    record {
+      answer = a .answer ∙ ap (λ (m : ℕ). answerOf (length w) m g) (i .count) ∙ answer-ahead (length w) xs g ∙ ap (answerOf (length w) 0) (sym e);
+      index =
+          a .index
+          ∙ ap (λ (m : ℕ). extendedWords (answerOf (length w) m g) g w m) (i .count)
+          ∙ words-ahead w xs t g
+          ∙ ap (λ (x : Gathered). indexWords (answerOf (length w) 0 x) x w) (sym e);
+    }
+
+-- ---- what is left is an index
+
+index-words : (log w : List ℕ) (n : ℕ) (w′ : List ℕ) (g : Gathered) → rowsIn log ≡ g → holds n ≡ answerOf (length w) 0 g
+    → w′ ≡ indexWords (answerOf (length w) 0 g) g w → IndexOf log w′ n
+unfolding answerOf
+index-words log w n w′ (stopped k) e a i = absurd (let z : _≡_ {A = ℕ} 0 1 = cc in omega arith)
+index-words log w n w′ (gathered rs) e a i = elim (either (noRoom (length w) (0 + length rs))) [
+  | inl h ↦
+      let q : holds n ≡ refuses 44 = a ∙ answer-full (length w) 0 rs h in
+      absurd (let z : _≡_ {A = ℕ} 0 1 = cc in omega arith)
+  | inr h ↦
+      let b = answer-holds (length w) 0 rs h in
+      let q : holds n ≡ holds (0 + length rs) = a ∙ b in
+      let c : n ≡ 0 + length rs = cc in
+      let s = wordsOf (sorted rs) in
+      let room = room-for (length w) (0 + length rs) h in
+      let l : length s ≡ 3 * length rs = words-length (sorted rs) ∙ ap (λ (k : ℕ). 3 * k) (sorted-length rs) in
+      let f : 0 + length s ≤ length w = omega (arith, l, room) in
+      let m : 3 * n ≡ length s = omega (arith, l) in
+      let v : w′ ≡ overlay w 0 s = i ∙ ap (λ (x : Answer). indexWords x (gathered rs) w) b in
+      record { rows = rs; told = e; count = omega arith; words = (λ j. take (m j) (v j)) ∙ overlay-at w 0 s f }
+]
+
+-- what `index_log` leaves is the index of the log
+pub index-entries : (log w : List ℕ) (n : ℕ) (r : Indexed) (w′ : List ℕ) → Indexes log w r w′ → r ≡ Entries n → IndexOf log w′ n
+index-entries log w n r w′ i e = index-words log w n w′ (rowsIn log) refl (sym (ap says e) ∙ i .answer) (i .index)
+
+pub index-left : (log w : List ℕ) (n : ℕ) (w′ : List ℕ) → Indexes log w (Entries n) w′ → IndexOf log w′ n
+index-left log w n w′ i = index-words log w n w′ (rowsIn log) refl (i .answer) (i .index)
+
+-- in words for so many rows
+pub index-room : (log w : List ℕ) (n : ℕ) → IndexOf log w n → 3 * n ≤ length w
+index-room log w n i =
+    let l : length (wordsOf (sorted (i .rows))) ≡ 3 * length (i .rows) = words-length (sorted (i .rows)) ∙ ap (λ (k : ℕ). 3 * k) (sorted-length (i .rows)) in
+    let t = sym (length-take (3 * n) w) ∙ ap length (i .words) in
+    let c = i .count in
+    omega (arith, l, t, c)
+
+-- ---- a key is found
+
+pub finds-first : (log : List ℕ) → Bytes log → (w : List ℕ) (n : ℕ) → IndexOf log w n → (s q : ℕ) → foundIn w n s q ≡ firstEntry log s q
+finds-first log h w n i s q =
+    let xs = i .rows in
+    let split : w ≡ wordsOf (sorted xs) ++ drop (3 * n) w = sym (take-append-drop (3 * n) w) ∙ ap (λ (u : List ℕ). u ++ drop (3 * n) w) (i .words) in
+    (λ j. foundIn (split j) (i .count j) s q)
+    ∙ found-first s q xs (drop (3 * n) w) (rows-rising log h xs (i .told))
+    ∙ ap (firstTo s q) (sym (i .told))
+
+-- ---- no second answer
+
+pub says-once : (r s : Indexed) → says r ≡ says s → r ≡ s
+says-once (Entries n) (Entries m) e = cc
+says-once (Entries n) (Refused k) e = absurd (let z : _≡_ {A = ℕ} 0 1 = cc in omega arith)
+says-once (Refused k) (Entries m) e = absurd (let z : _≡_ {A = ℕ} 0 1 = cc in omega arith)
+says-once (Refused k) (Refused i) e = cc
+
+pub index-once : (log w : List ℕ) (r s : Indexed) (x y : List ℕ) → Indexes log w r x → Indexes log w s y → (r ≡ s) × (x ≡ y)
+index-once log w r s x y a b = (says-once r s (a .answer ∙ sym (b .answer)), a .index ∙ sym (b .index))
+
+pub extend-once : (log : List ℕ) (from : ℕ) (w : List ℕ) (n : ℕ) (r s : Indexed) (x y : List ℕ) → Extends log from w n r x → Extends log from w n s y → (r ≡ s) × (x ≡ y)
+extend-once log from w n r s x y a b = (says-once r s (a .answer ∙ sym (b .answer)), a .index ∙ sym (b .index))

@@ -1,0 +1,86 @@
+-- The rows counted, then judged, then added. Assumes nothing.
+use mathlib.Core.Path.{sym, _∙_}
+use Prim.Native.Nat.{ℕ}
+use native.Mathlib.Omega.{arith}
+use lib.ListN.{length, replicate, length-replicate}
+use Rattle.index_builder.proofs.Answers.{adds-refused, adds-full, adds-all, room-before}
+use borrow.Author.Needs.{needs}
+use Rattle.index_builder.proofs.add.Statement.{statement}
+use Rattle.index_builder.proofs.add.Tie as tie
+
+slice-aggregate-walk : tie.Need-slice-aggregate-walk
+slice-aggregate-walk c = search needs
+
+slice-aggregate-walk-2 : tie.Need-slice-aggregate-walk-2
+slice-aggregate-walk-2 c = search needs
+
+walk-requires : tie.Need-walk-requires
+walk-requires c κs = search needs
+
+enum-known-counted : tie.Need-enum-known-counted
+enum-known-counted c = search needs
+
+enum-told : tie.Need-enum-told
+enum-told c = search needs
+
+returns : tie.Need-returns
+returns c =
+    let at-walk = c .before .before .before .before in
+    let start = at-walk .before .before .before .before .before in
+    let a = start .args in
+    adds-refused _ _ _ _ _ (a .index .now) (a .n) _ (at-walk .walk .ensures) (c .enum-told .given .1)
+
+no-room-requires : tie.Need-no-room-requires
+no-room-requires c κs = search needs
+
+returns-2 : tie.Need-returns-2
+returns-2 c =
+    let at-no-room = c .before in
+    let at-counted = at-no-room .before .before in
+    let at-walk = at-counted .before .before .before .before in
+    let start = at-walk .before .before .before .before .before in
+    let a = start .args in
+    adds-full _ _ _ _ _ (a .index .now) (a .n) _ (at-walk .walk .ensures) (at-counted .counted .given .1) (sym (at-no-room .no-room .ensures) ∙ c .if1 .taken)
+
+slice-aggregate-walk-3 : tie.Need-slice-aggregate-walk-3
+slice-aggregate-walk-3 c = search needs
+
+walk-requires-2 : tie.Need-walk-requires-2
+walk-requires-2 c κs =
+    let at-if1 = c .before .before in
+    let at-no-room = at-if1 .before in
+    let start = at-no-room .before .before .before .before .before .before .before .before .before .before .before in
+    let a = start .args in
+    room-before (length (a .index .now)) (a .n) _ (sym (at-no-room .no-room .ensures) ∙ at-if1 .if1 .left)
+
+same-length : tie.Need-same-length
+same-length c = search needs
+
+returns-3 : tie.Need-returns-3
+returns-3 c =
+    let at-walk2 = c .before .before .before in
+    let at-if1 = at-walk2 .before .before .before in
+    let k = at-if1 .before in
+    let n = k .before .before in
+    let at-walk = n .before .before .before .before in
+    let start = at-walk .before .before .before .before .before in
+    let a = start .args in
+    let room = sym (k .no-room .ensures) ∙ at-if1 .if1 .left in
+    adds-all _ _ _ _ _ (a .index .now) (a .n) _ (at-walk .walk .ensures) (n .counted .given .1) room _ _ _ (omega (arith, length-replicate {A = ℕ} 192 0)) (at-walk2 .walk2 .ensures)
+
+pub add-spec : {M : Type 1} → statement M
+add-spec =
+    tie.close
+    (tie.spec
+    slice-aggregate-walk
+    slice-aggregate-walk-2
+    walk-requires
+    enum-known-counted
+    enum-told
+    returns
+    no-room-requires
+    returns-2
+    slice-aggregate-walk-3
+    walk-requires-2
+    same-length
+    returns-3)

@@ -1,0 +1,37 @@
+-- Over the most rows, or over the words. Assumes nothing.
+use Rattle.index_builder.proofs.Walks.{full-before, full-then, room-words}
+use borrow.Author.Needs.{needs}
+use Rattle.index_builder.proofs.no_room.Statement.{statement}
+use Rattle.index_builder.proofs.no_room.Tie as tie
+
+-- Over the most rows, or over the words. Assumes nothing.
+
+-- Over the most rows, or over the words. Assumes nothing.
+
+-- Over the most rows, or over the words. Assumes nothing.
+
+-- Over the most rows, or over the words. Assumes nothing.
+
+returns : tie.Need-returns
+returns c =
+    let a = c .before .args in
+    full-before (a .words) (a .n) (a .k) (c .if1 .taken)
+
+returns-2 : tie.Need-returns-2
+returns-2 c =
+    let a = c .before .before .args in
+    full-then (a .words) (a .n) (a .k) (c .before .if1 .left) (c .if2 .taken)
+
+add-result : tie.Need-add-result
+add-result c = search needs
+
+mul-result : tie.Need-mul-result
+mul-result c = search needs
+
+returns-3 : tie.Need-returns-3
+returns-3 c =
+    let a = c .before .before .args in
+    room-words (a .words) (a .n) (a .k) (c .before .if1 .left) (c .if2 .left)
+
+pub no-room-spec : {M : Type 1} → statement M
+no-room-spec = tie.close (tie.spec returns returns-2 add-result mul-result returns-3)

@@ -1,0 +1,59 @@
+-- `log_append::begin` meets its contract. Assumes nothing.
+use mathlib.Core.Path.{sym, ap, _∙_}
+use mathlib.Core.List.{List}
+use native.Mathlib.Omega.{arith}
+use Prim.Native.Nat.{ℕ}
+use lib.ListN.{length}
+use Rattle.log_append.proofs.Writing.{seven-most, begin-over, begin-short, begin-good, begin-length}
+use borrow.Author.Needs.{needs}
+use Rattle.log_append.proofs.begin.Statement.{statement}
+use Rattle.log_append.proofs.begin.Tie as tie
+
+returns : tie.Need-returns
+returns c =
+    let a = c .before .before .args in
+    begin-over (a .out .now) (a .limit) (c .if1 .taken)
+
+seven-length-requires : tie.Need-seven-length-requires
+seven-length-requires c κs = search needs
+
+add-n : tie.Need-add-n
+add-n c = omega (arith, seven-most (c .before .before .before .args .limit))
+
+returns-2 : tie.Need-returns-2
+returns-2 c =
+    let a = c .before .before .before .before .args in
+    begin-short (a .out .now) (a .limit) (c .before .before .if1 .left) (omega (arith, c .if2 .taken, c .before .seven-length .ensures))
+
+slice-write-out : tie.Need-slice-write-out
+slice-write-out c = search needs
+
+put-seven-requires : tie.Need-put-seven-requires
+put-seven-requires c κs = search needs
+
+same-length : tie.Need-same-length
+same-length c =
+    let p = c .before .before in
+    let a = p .before .before .before .before .before .before .args in
+    ap length (p .put-seven .ensures) ∙ begin-length (a .out .now) (a .limit) _
+
+returns-3 : tie.Need-returns-3
+returns-3 c =
+    let p = c .before .before in
+    let i = p .before .before in
+    let l = i .before in
+    let a = l .before .before .before .args in
+    begin-good (a .out .now) (a .limit) (l .seven-length .result) _ (l .before .if1 .left) (l .seven-length .ensures) (i .if2 .left) (p .put-seven .ensures)
+
+pub begin-spec : {M : Type 1} → statement M
+begin-spec =
+    tie.close
+    (tie.spec
+    returns
+    seven-length-requires
+    add-n
+    returns-2
+    slice-write-out
+    put-seven-requires
+    same-length
+    returns-3)

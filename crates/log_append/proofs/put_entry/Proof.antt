@@ -1,0 +1,77 @@
+-- `log_append::put_entry` meets its contract: the three numbers and the bytes, each after the one before. Assumes nothing.
+use mathlib.Core.Path.{ap, _∙_}
+use native.Mathlib.Omega.{arith}
+use Prim.Native.Nat.{ℕ, _+_}
+use Rattle.log_append.proofs.Writing.{entry-size, entry-overlay}
+use borrow.Author.Needs.{needs}
+use Rattle.log_append.proofs.put_entry.Statement.{statement}
+use Rattle.log_append.proofs.put_entry.Tie as tie
+
+seven-length-requires : tie.Need-seven-length-requires
+seven-length-requires c κs = search needs
+
+add-a : tie.Need-add-a
+add-a c =
+    let a = c .before .before .before .args in
+    omega (arith, entry-size (a .sender) (a .tick) (a .datagram .now))
+
+seven-length-requires-2 : tie.Need-seven-length-requires-2
+seven-length-requires-2 c κs = search needs
+
+add-b : tie.Need-add-b
+add-b c =
+    let a = c .before .before .before .before .args in
+    omega (arith, entry-size (a .sender) (a .tick) (a .datagram .now))
+
+seven-length-requires-3 : tie.Need-seven-length-requires-3
+seven-length-requires-3 c κs = search needs
+
+add-c : tie.Need-add-c
+add-c c =
+    let a = c .before .before .before .before .before .args in
+    omega (arith, entry-size (a .sender) (a .tick) (a .datagram .now))
+
+put-seven-requires : tie.Need-put-seven-requires
+put-seven-requires c κs = search needs
+
+put-seven-requires-2 : tie.Need-put-seven-requires-2
+put-seven-requires-2 c κs = search needs
+
+put-seven-requires-3 : tie.Need-put-seven-requires-3
+put-seven-requires-3 c κs = search needs
+
+put-bytes-requires : tie.Need-put-bytes-requires
+put-bytes-requires c κs = search needs
+
+same-length : tie.Need-same-length
+same-length c = search needs
+
+returns : tie.Need-returns
+returns c =
+    let third = c .before .before .before .before .before .before in
+    let second = third .before .before .before .before in
+    let one = second .before .before .before .before in
+    let sizes = one .before .before in
+    let a = sizes .before .before .before .before .before .args in
+    entry-overlay (a .out .now) _ _ _ _ (a .at) _ _ _ (a .sender) (a .tick) (a .datagram .now)
+    (one .put-seven .ensures) (ap (λ (n : ℕ). a .at + n) (sizes .before .before .seven-length .ensures))
+    (second .put-seven2 .ensures) (ap (λ (n : ℕ). a .at + sizes .before .before .seven-length .result + n) (sizes .before .seven-length2 .ensures))
+    (third .put-seven3 .ensures) (ap (λ (n : ℕ). a .at + sizes .before .before .seven-length .result + sizes .before .seven-length2 .result + n) (sizes .seven-length3 .ensures))
+    (c .before .before .put-bytes .ensures)
+
+pub put-entry-spec : {M : Type 1} → statement M
+put-entry-spec =
+    tie.close
+    (tie.spec
+    seven-length-requires
+    add-a
+    seven-length-requires-2
+    add-b
+    seven-length-requires-3
+    add-c
+    put-seven-requires
+    put-seven-requires-2
+    put-seven-requires-3
+    put-bytes-requires
+    same-length
+    returns)

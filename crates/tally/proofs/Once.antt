@@ -1,9 +1,0 @@
--- NO SECOND ANSWER satisfies the contract of `enter`; for `rank` it is wire's `one-answer`. Assumes nothing.
-use mathlib.Core.Path.{_≡_, sym, _∙_}
-use mathlib.Core.List.{List}
-use Prim.Native.Nat.{ℕ}
-use Rattle.tally.specs.declared.Entered.{Entered}
-use Rattle.tally.specs.Halving.{Enters}
-
-pub enter-once : {w : List ℕ} {n x : ℕ} {a b : Entered} {u v : List ℕ} → Enters w n x a u → Enters w n x b v → (a ≡ b) × (u ≡ v)
-enter-once p q = (p .gave ∙ sym (q .gave), p .left ∙ sym (q .left))

@@ -1,0 +1,23 @@
+-- `within_limits::read_within` meets its contract. Assumes nothing.
+use mathlib.Core.Path.{refl, _∙_}
+use borrow.Author.Needs.{needs}
+use Rattle.within_limits.proofs.read_within.Statement.{statement}
+use Rattle.within_limits.proofs.read_within.Tie as tie
+
+least-requires : tie.Need-least-requires
+least-requires c κs = search needs
+
+fewest-requires : tie.Need-fewest-requires
+fewest-requires c κs = search needs
+
+read-datagram-requires : tie.Need-read-datagram-requires
+read-datagram-requires c κs = search needs
+
+returns : tie.Need-returns
+returns c =
+    let f = c .before in
+    c .read-datagram .ensures .answer ∙ rw (f .before .least .ensures, f .fewest .ensures) refl
+
+pub read-within-spec : {M : Type 1} → statement M
+read-within-spec =
+    tie.close (tie.spec least-requires fewest-requires read-datagram-requires returns)
