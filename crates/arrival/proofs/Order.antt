@@ -3,7 +3,7 @@ use mathlib.Core.Path.{_≡_, refl, sym, ap, _∙_, subst}
 use mathlib.Core.Logic.{_≢_, _⊎_, inl, inr}
 use mathlib.Core.Bool.{Bool, true, false, not, _&&_, _||_}
 use mathlib.Core.Option.{Option, none, some, Option·map}
-use mathlib.Core.List.{List, [], _∷_, _++_, map}
+use mathlib.Core.List.{List, [], _∷_, _++_, map, append-nil}
 use Prim.Native.Nat.{ℕ, zero, suc, _+_, _-_, _*_, _≤_, _<_, zero-le, suc-le-suc}
 use native.Mathlib.Nat.{suc-inj}
 use native.Mathlib.Omega.{arith}
@@ -13,7 +13,7 @@ use lib.ListN.{length, getD, set, take, drop, replicate, length-replicate, getD-
 use lib.Seq.{take-length, take-append-seam}
 use borrow.Author.Tests.{eq-eqb, le-leb}
 use Rattle.wire.specs.Choice.{pick}
-use Rattle.wire.proofs.Choices.{either, never}
+use Rattle.wire.proofs.Choices.{either, never, and-five}
 use Rattle.datagram.specs.Limits.{maxFragments, maxName, maxPayload}
 use Rattle.names.specs.Name.{goodName}
 use Rattle.datagram.specs.Name.{untilZero}
@@ -71,10 +71,6 @@ until-own (x ∷ xs) e = go (eqb x 0) (λ q. until-own xs q) e
 
 until-padded : (nm : List ℕ) → goodName nm ≡ true → (n : ℕ) → untilZero (nm ++ replicate n 0) ≡ length nm
 until-padded nm g zero = ap untilZero (append-nil nm) ∙ until-own nm (name-no-zero nm [] g)
-  where
-    append-nil : (l : List ℕ) → l ++ [] ≡ l
-    append-nil [] = refl
-    append-nil (x ∷ xs) = ap (λ (t : List ℕ). x ∷ t) (append-nil xs)
 until-padded nm g (suc n) = name-no-zero nm (replicate n 0) g
 
 pub name-back : (nm : List ℕ) → goodName nm ≡ true → nameIn (padded nm) ≡ nm
@@ -104,14 +100,11 @@ sound-ok σ f w v =
     all-of slotCount (λ s. slotOk (m .slotSize) (slotAt (m .slots) s))
     (λ s b. subst (λ (n : ℕ). slotOk n (slotAt (m .slots) s) ≡ true) (sym (v .sized)) (slot-ok (v .slots) s b)) in
     let mem : memoryOk (m .memory) ≡ true = rw (v .memory) (memory-ok (keysOf σ (completed σ f))) in
-    and5 _ _ _ _ _
+    and-five _ _ _ _ _
     (eq-eqb (length (w .store)) (m .storeLength) (v .slots .store-length ∙ sym (v .long)))
     (eq-eqb (length (w .ledger)) ledgerLength (v .slots .ledger-length))
     (eq-eqb (m .slotSize) (slotSizeOf (length (w .store))) (v .sized ∙ ap slotSizeOf (sym (v .slots .store-length))))
     all mem
-  where
-    and5 : (a b c d e : Bool) → a ≡ true → b ≡ true → c ≡ true → d ≡ true → e ≡ true → (a && (b && (c && (d && e)))) ≡ true
-    and5 a b c d e p q r s t = rw (p, q, r, s, t)
 
 step-is : (σ : Scene) (f : Feed) (w : World) → Inv σ f w → (from : ℕ) (d : List ℕ)
     → step (w .machine) (w .store) (w .ledger) from d ≡ receive (w .machine) (w .store) (w .ledger) from (said (slotBytes σ) maxFragments d)

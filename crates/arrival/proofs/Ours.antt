@@ -93,7 +93,7 @@ module _ (C sender q : ℕ) (name payload : List ℕ) (m : ℕ) (w : Cuttable ma
 
 -- what a call of the cutter that made a datagram left
 pub one-of-ours : (C sender : ℕ) (name payload : List ℕ) (q m index : ℕ) (out : List ℕ) (n l : ℕ) (out′ : List ℕ)
-    → q < 2 ^ 32 → CutTo name payload q m index out (Made n l) out′ → OneOfOurs C sender q name payload m index n l out′
+    → q < 2 ^ 32 → CutTo name payload q m index out (Made n l) out′ → OneOfOurs C (cutMessage sender q name payload m) index n l out′
 one-of-ours C sender name payload q m index out n l out′ fits k =
     let w : Cuttable maxPayload maxFragments q name payload m = cuttable name payload q m index out n l out′ fits k in
     let d : Done name payload m index (length out) n l = made name payload m index (length out) n l (sym (k .answer)) in

@@ -12,7 +12,7 @@ use lib.Dec.{eqb}
 use lib.ListN.{length, set}
 use borrow.Author.Tests.{eqb-true, eqb-false, eq-eqb, ne-eqb}
 use Rattle.wire.specs.Same.{same}
-use Rattle.wire.proofs.Choices.{either, never, and-l, and-r, and-of}
+use Rattle.wire.proofs.Choices.{either, never, and-l, and-r, and-of, or-of-right}
 use Rattle.wire.proofs.Parts.{same-refl, same-true}
 use Rattle.datagram.specs.Limits.{maxPayload, maxFragments}
 use Rattle.datagram.specs.Said.{Fragment, Said, refused, small, fragment, said}
@@ -266,11 +266,7 @@ module _ (σ : Start) (b : Begins σ) where
   ]
     where
       more-come : (f : Feed) (e : Event) (j : ℕ) → come σ f j ≡ true → come σ (f ▹ e) j ≡ true
-      more-come f (comes x) j t = or-true (isPart m x j) t
-        where
-          or-true : (a : Bool) {c : Bool} → c ≡ true → (a || c) ≡ true
-          or-true true t = refl
-          or-true false t = t
+      more-come f (comes x) j t = or-of-right (isPart m x j) t
       more-come f (forgets from) j t = t
 
   -- an arrival that is one of its own is its fragment k

@@ -12,7 +12,7 @@ use Rattle.watch.specs.Noted.{Noted, first, forward, restarted}
 use Rattle.watch.specs.Watching.{moves}
 use Rattle.watch.specs.Difference.{difference, told}
 use Rattle.watch.proofs.Tells.{restarted-number}
-use Rattle.watch.proofs.Runs.{step-told, forward-distance}
+use Rattle.watch.proofs.Runs.{step-told, forward-distance, cons-eq}
 use Rattle.moss.specs.Packet.{Given, gives, refuses, Packet, packetOf}
 use Rattle.gauge_watch.specs.declared.Gauge.{Gauge}
 use Rattle.gauge_watch.specs.Heard.{silent, notedOf, movedTo, asked, after}
@@ -96,9 +96,6 @@ from-first g b p xs bs r n l = from-moved g b p first xs bs r n refl l
 pub from-restart : (g : Gauge) (b : List ℕ) (p : Packet) (m : ℕ) (xs : List ℕ) (bs : List (List ℕ)) → packetOf b ≡ gives p → notedOf g p ≡ restarted m
     → LeavesOut (p .session) (nextAfter p) xs bs → notedAll g (b ∷ bs) ≡ restarted m ∷ map forward xs
 from-restart g b p m xs bs r n l = from-moved g b p (restarted m) xs bs r n refl l
-
-cons-eq : {x : Noted} {a b : List Noted} {y : Noted} → _≡_ {A = List Noted} (x ∷ a) (y ∷ b) → (x ≡ y) × (a ≡ b)
-cons-eq e = (cc, cc)
 
 -- Over any run of Forwards what is missing and what is carried add up to the way from the number first expected to the last one.
 pub run-missing : (g : Gauge) (s : List ℕ) (e : ℕ) (bs : List (List ℕ)) (n final : ℕ) (missing : List ℕ) → Expects g s e → Carries s e bs n final

@@ -15,7 +15,7 @@ use Rattle.wire.proofs.Choices.{either, never, and-l, and-r}
 use Rattle.log_index.specs.Rows.{Row, rowOf, earlier, put, sorted, isOf, firstOf}
 use Rattle.log_index.specs.Words.{wordsOf, rowAt, rankIn, held, atRank, foundIn}
 use Rattle.log_index.proofs.Order.{Before, by-sender, by-sequence, by-place, Behind, of-sender, of-sequence, of-place, test-before, test-behind, upto-trans}
-use Rattle.log_index.proofs.Halves.{Turns}
+use Rattle.wire.proofs.Halves.{Turns}
 use Rattle.log_index.proofs.Sorts.{none, All, Ordered, put-on, put-here, put-only, sorted-ordered, sorted-length, sorted-all, earlierAt, turns-rest}
 use Rattle.log_index.proofs.Wordings.{words-length, words-all, row-words, rank-turns}
 

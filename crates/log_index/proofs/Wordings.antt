@@ -12,8 +12,9 @@ use Rattle.wire.specs.Choice.{pick}
 use Rattle.wire.specs.Overlay.{overlay}
 use Rattle.wire.proofs.Overlays.{overlay-eq}
 use Rattle.log_index.specs.Rows.{Row, rowOf, earlier, put}
-use Rattle.log_index.specs.Words.{wordsOf, rowAt, halve, rankIn, inserted, entered, enteredAll}
-use Rattle.log_index.proofs.Halves.{Turns, halve-turns}
+use Rattle.wire.specs.Halving.{halve}
+use Rattle.log_index.specs.Words.{wordsOf, rowAt, rankIn, inserted, entered, enteredAll}
+use Rattle.wire.proofs.Halves.{Turns, halve-turns}
 use Rattle.log_index.proofs.Sorts.{none, Ordered, put-length, put-ordered, putAll, falls, earlierAt, put-at}
 
 pub words-length : (rs : List Row) → length (wordsOf rs) ≡ 3 * length rs

@@ -8,6 +8,7 @@ use lib.Dec.{ltb, leb}
 use lib.ListN.{length, getD, take, drop}
 use Rattle.wire.specs.Choice.{pick}
 use Rattle.wire.specs.Overlay.{overlay}
+use Rattle.wire.specs.Halving.{halve}
 use Rattle.log_index.specs.Limits.{batchRows}
 use Rattle.log_index.specs.Rows.{Row, rowOf, earlier, sorted, isOf}
 use Rattle.log_index.specs.declared.Found.{Found}
@@ -21,17 +22,6 @@ abbrev pub rowAt : List ℕ → ℕ → Row
 rowAt w i = rowOf (getD w (3 * i) 0) (getD w (3 * i + 1) 0) (getD w (3 * i + 2) 0)
 
 -- ---- by halving
-
-abbrev pub middle : ℕ → ℕ → ℕ
-middle low high = low + (high - low) / 2
-
--- between low and high, the half where a test changes from true to false is looked at next
-unfoldable pub halve : ℕ → (ℕ → Bool) → ℕ → ℕ → ℕ
-halve zero p low high = low
-halve (suc k) p low high =
-    pick (ltb low high)
-    (halve k p (pick (p (middle low high)) (middle low high + 1) low) (pick (p (middle low high)) high (middle low high)))
-    low
 
 -- the place of a row among the first n; as many turns as there are rows are enough
 unfoldable pub rankIn : List ℕ → ℕ → Row → ℕ

@@ -1,6 +1,6 @@
 -- Laws of the definitions, one turn at a time, as the loops use them.
 use mathlib.Core.Path.{_≡_, refl, sym, _∙_, ap}
-use mathlib.Core.Bool.{Bool, true, false, not, _&&_, _||_}
+use mathlib.Core.Bool.{Bool, true, false, not, _&&_, _||_, or-true}
 use mathlib.Core.Option.{Option, none, some, Option·map}
 use mathlib.Core.List.{List, [], _∷_, _++_}
 use Prim.Native.Nat.{ℕ, zero, suc, _+_, _≤_, _<_, min}
@@ -66,10 +66,6 @@ has-snoc (y ∷ l) x q = rw (has-snoc l x q) (go (eqb y q) (has l q) (eqb x q))
     go : (b c d : Bool) → (b || (c || d)) ≡ ((b || c) || d)
     go true c d = refl
     go false c d = refl
-
-or-true : (b : Bool) → (b || true) ≡ true
-or-true true = refl
-or-true false = refl
 
 module _ (l : List ℕ) (q : ℕ) where
   pub has-more : (j : ℕ) → j < length l → has (take j l) q ≡ false → eqb (getD l j 0) q ≡ false → has (take (j + 1) l) q ≡ false

@@ -6,6 +6,7 @@ use Prim.Native.Nat.{ℕ, _+_, _*_, _-_, _<_}
 use native.Mathlib.Omega.{arith}
 use lib.ListN.{length, getD, set, take, drop, replicate}
 use Rattle.wire.specs.Overlay.{overlay}
+use Rattle.wire.proofs.Overlays.{overlay-whole}
 use Rattle.datagram.specs.Limits.{maxName, maxFragments}
 use Rattle.datagram.specs.Said.{Fragment, fragmentIn}
 use Rattle.datagram.specs.declared.Header.{Header}
@@ -27,7 +28,7 @@ use Rattle.slots.specs.declared.Found.the-variants.{At, Nothing}
 use Rattle.slots.specs.Words.{turns, at, senderWord, sequenceWord, sizeWord, freeIn, firstBelow}
 use Rattle.receiver_state.specs.View.{roomWord, nameIn, slotsOf, memoryOf, view}
 use Rattle.receiver_state.specs.Inside.{Shaped, Remembers}
-use Rattle.receiver_state.proofs.Windows.{window-length, overlay-whole}
+use Rattle.receiver_state.proofs.Windows.{window-length}
 use Rattle.receiver_state.proofs.Firsts.{optionOf, first-within}
 use Rattle.receiver_state.proofs.Bridge.{slots-length, free-slot, oldest-slot}
 use Rattle.receiver_state.proofs.Cases.{row-is, key-is, size-is, name-is}

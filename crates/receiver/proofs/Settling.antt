@@ -8,6 +8,7 @@ use native.Mathlib.Omega.{arith}
 use lib.ListN.{length, getD, set}
 use Rattle.wire.specs.Choice.{pick}
 use Rattle.wire.proofs.Choices.{either}
+use Rattle.wire.specs.Slices.{_⇒_}
 use Rattle.datagram.specs.Limits.{maxFragments}
 use Rattle.datagram.specs.Read.{readDatagram, partOf}
 use Rattle.datagram.specs.Said.{Fragment, says, said, fragmentIn}
@@ -131,7 +132,7 @@ module _ (w n : List ℕ) (sender : ℕ) (d : List ℕ) (p : Plan) where
     still = tt;
   })
 
-  pub settled-hold : (t : Seat) (h : Header) (o : Outcome) (w1 n1 : List ℕ) → p ≡ plan.Hold t h → Puts w n (t .at) (t .emptied) h d o w1 n1
+  pub settled-hold : (t : Seat) (h : Header) (o : Outcome) (w1 n1 : List ℕ) → p ≡ plan.Hold t h → Puts (w ⇒ w1) (n ⇒ n1) (t .at) (t .emptied) h d o
       → Settles w n sender p d o w1 n1
   settled-hold t h o w1 n1 e P = by-plan (plan.Hold t h) o w1 n1 e (record { leaves = P; still = tt })
 

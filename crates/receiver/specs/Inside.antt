@@ -148,10 +148,10 @@ pub record Plans (w n : List ℕ) (sender : ℕ) (v : Verdict) (p : Plan) (w′ 
   pub still : Still p w n w′ n′
 
 -- step 5, whatever the store and the ledger
-abbrev pub Puts : List ℕ → List ℕ → ℕ → Emptied → Header → List ℕ → Outcome → List ℕ → List ℕ → Type 0
-Puts w n s gone h d r w′ n′ =
-    (store ledger : List ℕ) → Leaves (step5 (view w n) (slotsOf w n) store ledger gone s (fragmentIn d h)) r
-    (lent w′ n′ (storeWith (getD w roomWord 0) store s (fragmentIn d h)) (ledgerWith ledger s (fragmentIn d h)))
+abbrev pub Puts : Buffer → Buffer → ℕ → Emptied → Header → List ℕ → Outcome → Type 0
+Puts w n s gone h d r =
+    (store ledger : List ℕ) → Leaves (step5 (view (w .before) (n .before)) (slotsOf (w .before) (n .before)) store ledger gone s (fragmentIn d h)) r
+    (lent (w .after) (n .after) (storeWith (getD (w .before) roomWord 0) store s (fragmentIn d h)) (ledgerWith ledger s (fragmentIn d h)))
 
 pub record Settles (w n : List ℕ) (sender : ℕ) (p : Plan) (d : List ℕ) (r : Outcome) (w′ n′ : List ℕ) : Type 0 where
   pub leaves : (store ledger : List ℕ) → Leaves (settled (view w n) store ledger sender d p) r (lent w′ n′ (storeAfter (getD w roomWord 0) d store p) (ledgerAfter d ledger p))

@@ -12,6 +12,7 @@ ghost use mathlib.Core.Bool.{true};
 ghost use mathlib.Core.List.{List};
 ghost use Prim.Native.Nat.{ℕ, _<_, _≤_};
 ghost use lib.ListN.{length, getD};
+ghost use Rattle.wire.specs.Slices.{buffer};
 ghost use Rattle.datagram.specs.Limits.{maxPayload};
 ghost use Rattle.datagram.specs.Said.{fragmentIn};
 ghost use Rattle.steps.specs.Limits.{slotCount};
@@ -169,7 +170,7 @@ fn deliver(state: &mut [u64], names: &mut [u8], s: usize, gone: Emptied) -> Outc
 // Step 5, but for the store and the ledger: the fragment is held in slot s, which is open.
 fn put(state: &mut [u64], names: &mut [u8], s: usize, h: Header, d: &[u8], gone: Emptied) -> Outcome
     requires { ⌜ (s < slotCount) × Ready (now state) (now names) × Told (now d) h ⌝ }
-    ensures { λ r. ⌜ Puts (now (state .entry)) (now (names .entry)) s gone h (now (d .entry)) r (now (state .exit)) (now (names .exit)) ⌝ }
+    ensures { λ r. ⌜ Puts (buffer state) (buffer names) s gone h (now (d .entry)) r ⌝ }
 {
     keep(&mut *state, &mut *names, s, h, d);
     let b = slots::HEAD + slots::BLOCK * s;

@@ -13,7 +13,7 @@ use lib.Seq.{take-all}
 use Rattle.wire.specs.Choice.{pick}
 use Rattle.wire.specs.Overlay.{overlay}
 use Rattle.wire.proofs.Choices.{either}
-use Rattle.wire.proofs.Overlays.{overlay-at, overlay-eq, length-overlay}
+use Rattle.wire.proofs.Overlays.{overlay-at, overlay-eq, length-overlay, overlay-whole}
 use Rattle.datagram.specs.Limits.{maxName, maxPayload}
 use Rattle.datagram.specs.Read.{partOf}
 use Rattle.datagram.specs.Said.{Fragment, fragmentIn}
@@ -33,7 +33,7 @@ use Rattle.ranks.proofs.Ranks.{lowered-length}
 use Rattle.slots.specs.Words.{blockWords, blockAt, turns, at, senderWord, sequenceWord, sizeWord, countWord, turnWord, heldWord, busyIn}
 use Rattle.receiver_state.specs.View.{stateWords, nameBytes, block, nameIn, slotIn, slotOf, slotsOf, memoryOf, view}
 use Rattle.receiver_state.specs.Inside.{Shaped, Shows, namedIn}
-use Rattle.receiver_state.proofs.Windows.{window-length, window-inner, overlay-whole, part-back}
+use Rattle.receiver_state.proofs.Windows.{window-length, window-inner, part-back}
 use Rattle.receiver_state.proofs.Bridge.{word, slot-at, open-many, block-view, both-view, lowered-view}
 
 -- ---- names

@@ -60,12 +60,6 @@ window-in d a j x n h g =
       ]
     ])
 
--- a whole window
-pub overlay-whole : (d x : List ℕ) → length x ≡ length d → overlay d 0 x ≡ x
-overlay-whole d x e = ext-getD 0 (overlay d 0 x) x (length-overlay d 0 x ∙ sym e) (λ i h.
-    let z : 0 + i ≡ i = omega arith in
-    ap (λ (y : ℕ). getD (overlay d 0 x) y 0) (sym z) ∙ write-in d 0 x (omega arith) i (omega (arith, length-overlay d 0 x)))
-
 -- a window of a window
 pub window-inner : (n a j k : ℕ) (d : List ℕ) → j + k ≤ n → take k (drop j (take n (drop a d))) ≡ take k (drop (a + j) d)
 window-inner n a j k d h = ext-getD 0 _ _

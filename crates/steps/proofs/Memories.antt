@@ -13,7 +13,7 @@ use lib.ListN.{length, getD, set, take, drop, replicate, length-take, length-set
 use lib.Seq.{take-suc-set, take-all, take-suc, getD-set-same, getD-set-other}
 use borrow.Author.Tests.{eqb-true, eq-eqb, ne-eqb, lt-ltb, le-ltb, le-leb}
 use Rattle.wire.specs.Choice.{pick}
-use Rattle.wire.proofs.Choices.{either, never, and-l, and-r, and-of, or-l, or-r, pick-all}
+use Rattle.wire.proofs.Choices.{either, never, and-l, and-r, and-of, or-l, or-r, pick-all, and-false}
 use Rattle.steps.specs.Limits.{sendersMost, keysEach}
 use Rattle.steps.specs.Search.{allBelow, one, first}
 use Rattle.steps.specs.Memory.{Key, keyOf, sameKey, among, Place, noPlace, vacant, isOf, remembered, has, Memory, emptyMemory, placeAt, keptAt, isRemembered, furthestBack, orElse, placeFor, countOf, pushed, withKey, sunk, remember, freed, forgetKeys, memoryOk, rememberAll, without, since, Lately, FewSenders, Recent}
@@ -592,25 +592,17 @@ recalled ks k e h = go (first (isOf (k .sender)) (rememberAll ks)) refl
 freed-own : (from : ℕ) (p : Place) → isOf from (freed from p) ≡ false
 freed-own from p = elim (either (eqb (p .sender) from)) [
   | inl e ↦ rw e
-  | inr e ↦ rw e (and-no (not (vacant p)))
+  | inr e ↦ rw e (and-false (not (vacant p)))
 ]
-  where
-    and-no : (b : Bool) → (b && false) ≡ false
-    and-no true = refl
-    and-no false = refl
 
 module _ (from s : ℕ) (n : s ≢ from) where
   freed-other : (p : Place) → isOf s (freed from p) ≡ isOf s p
   freed-other p = elim (ℕ-discrete (p .sender) from) [
     | yes e ↦
         let d : eqb (p .sender) s ≡ false = ne-eqb (p .sender) s (λ z. n (sym z ∙ e)) in
-        rw (eq-eqb (p .sender) from e, d) (sym (and-no (not (vacant p))))
+        rw (eq-eqb (p .sender) from e, d) (sym (and-false (not (vacant p))))
     | no e ↦ rw (ne-eqb (p .sender) from e)
   ]
-    where
-      and-no : (b : Bool) → (b && false) ≡ false
-      and-no true = refl
-      and-no false = refl
 
   freed-kept : (p : Place) → isOf s p ≡ true → remembered (freed from p) ≡ remembered p
   freed-kept p e = rw (ne-eqb (p .sender) from (λ z. n (sym (of-sender s p e) ∙ z)))

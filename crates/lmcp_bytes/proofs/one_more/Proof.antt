@@ -33,7 +33,8 @@ returns c =
     let d = t .before .before .before in
     let a = d .before .before .before .before .before .args in
     subst
-    (λ (b : Bool). byLength b (a .calculate) (a .body .now) (a .n) (a .list .now) (a .bytes .now) (a .out .now) (a .at) (a .list .now) (a .bytes .now) (p .pour-longer .last .0) (p .pour-longer .result))
+    (λ (b : Bool). byLength b (a .calculate) (a .body .now) (a .n) (record { list = a .list .now; bytes = a .bytes .now; out = a .out .now }) (a .at)
+    (record { list = a .list .now; bytes = a .bytes .now; out = p .pour-longer .last .0 }) (p .pour-longer .result))
     (sym (lt-ltb (length (a .list .now)) (length (a .body .now) / 8) (t .if1 .taken)))
     (record { same-list = refl; same-bytes = refl; said = pours-then (d .pour-decimal .ensures) (p .pour-longer .ensures) })
 
@@ -73,7 +74,8 @@ returns-2 c =
     ∙ ap (λ (k : ℕ). take k (sets (a .list .now) 0 vs)) (sym (length-numbers (length (a .body .now) / 8) (a .body .now)))
     ∙ taken-front (a .list .now) vs (omega (arith, length-numbers (length (a .body .now) / 8) (a .body .now), t .if1 .left)) in
     subst
-    (λ (b : Bool). byLength b (a .calculate) (a .body .now) (a .n) (a .list .now) (a .bytes .now) (a .out .now) (a .at) (l .take-list .last .1 .0) (w .write-message .last .1 .1 .0) (p .pour-made .last .0) (p .pour-made .result))
+    (λ (b : Bool). byLength b (a .calculate) (a .body .now) (a .n) (record { list = a .list .now; bytes = a .bytes .now; out = a .out .now }) (a .at)
+    (record { list = l .take-list .last .1 .0; bytes = w .write-message .last .1 .1 .0; out = p .pour-made .last .0 }) (p .pour-made .result))
     (sym (le-ltb (length (a .list .now)) (length (a .body .now) / 8) (t .if1 .left)))
     (record {
       taken = l .take-list .ensures .1;

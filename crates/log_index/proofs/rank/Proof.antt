@@ -4,8 +4,9 @@ use Prim.Native.Nat.{ℕ, _-_, _*_, _≤_}
 use native.Mathlib.Omega.{arith}
 use lib.ListN.{length}
 use Rattle.log_index.specs.Rows.{rowOf, earlier}
-use Rattle.log_index.specs.Words.{rowAt, halve, rankIn}
-use Rattle.log_index.proofs.Halves.{starts, goes-behind, goes-before, ends}
+use Rattle.wire.specs.Halving.{halve}
+use Rattle.log_index.specs.Words.{rowAt, rankIn}
+use Rattle.wire.proofs.Halves.{starts, goes-behind, goes-before, ends}
 use borrow.Author.Needs.{needs}
 use Rattle.log_index.proofs.rank.Statement.{statement}
 use Rattle.log_index.proofs.rank.Tie as tie
@@ -26,7 +27,7 @@ abbrev μ-loop : tie.MeasureT-loop
 loop-holds : tie.Need-loop-holds Inv-loop μ-loop
 unfolding rankIn
 loop-holds c =
-    (omega arith, (omega arith, starts _ (c .before .args .n)))
+    (omega arith, (omega arith, starts _ (c .before .args .n) _ refl))
 
 sub-mid : tie.Need-sub-mid Inv-loop μ-loop
 sub-mid c = search needs

@@ -1,7 +1,7 @@
 -- Assumes nothing.
 use mathlib.Core.Path.{sym, _∙_}
 use native.Mathlib.Omega.{arith}
-use Rattle.sorted_set.proofs.Halves.{rank-most}
+use Rattle.sorted_set.proofs.Sets.{rank-most}
 use Rattle.sorted_set.proofs.Enterings.{there-at, full-at, new-at}
 use borrow.Author.Needs.{needs}
 use Rattle.sorted_set.proofs.enter.Statement.{statement}

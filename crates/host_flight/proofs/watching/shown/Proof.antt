@@ -1,7 +1,7 @@
 -- `host_flight::watching::shown` meets its contract. Assumes nothing.
 use mathlib.Core.Path.{_∙_}
-use Rattle.host_flight.proofs.Watched.{overlay-whole}
 use borrow.Author.Needs.{needs}
+use Rattle.wire.proofs.Overlays.{overlay-whole}
 use Rattle.host_flight.proofs.watching.shown.Statement.{statement}
 use Rattle.host_flight.proofs.watching.shown.Tie as tie
 

@@ -1,4 +1,4 @@
--- Halving: a turn goes on in one half, and where the test changes once it ends there. Assumes nothing.
+-- Halving: more turns than there are places change nothing, a turn goes on in one half, and where the test changes once it ends there. Assumes nothing.
 use mathlib.Core.Path.{_≡_, refl, sym, ap, _∙_}
 use mathlib.Core.Logic.{inl, inr}
 use mathlib.Core.Bool.{Bool, true, false}
@@ -6,9 +6,9 @@ use Prim.Native.Nat.{ℕ, zero, suc, _+_, _-_, _≤_, _<_}
 use native.Mathlib.Omega.{arith}
 use lib.Dec.{ltb}
 use borrow.Author.Tests.{ltb-true, ltb-false, lt-ltb, le-ltb}
 use Rattle.wire.specs.Choice.{pick}
 use Rattle.wire.proofs.Choices.{either}
-use Rattle.log_index.specs.Words.{middle, halve}
+use Rattle.wire.specs.Halving.{middle, halve}
 
 -- true up to a place of the first n, and false there
 pub record Turns (p : ℕ → Bool) (n r : ℕ) : Type 0 where
@@ -17,12 +17,12 @@ pub record Turns (p : ℕ → Bool) (n r : ℕ) : Type 0 where
   pub right : r < n → p r ≡ false
 
 module _ (p : ℕ → Bool) where
-  done : (k low high : ℕ) → high ≤ low → halve k p low high ≡ low
+  pub done : (k low high : ℕ) → high ≤ low → halve k p low high ≡ low
   unfolding halve
   done zero low high h = refl
   done (suc k) low high h = rw (le-ltb low high h)
 
-  turn : (k low high : ℕ) (b : Bool) → low < high → p (middle low high) ≡ b
+  pub turn : (k low high : ℕ) (b : Bool) → low < high → p (middle low high) ≡ b
       → halve (suc k) p low high ≡ halve k p (pick b (middle low high + 1) low) (pick b high (middle low high))
   unfolding halve
   turn k low high b h e = rw (lt-ltb low high h, e)
@@ -61,6 +61,24 @@ module _ (p : ℕ → Bool) where
   pub ends : (low high : ℕ) → high ≤ low → halve (high - low) p low high ≡ low
   ends low high h = done (high - low) low high h
 
+  -- from the start, with as many turns as there are places
+  pub starts : (n high : ℕ) → high ≡ n → halve (high - 0) p 0 high ≡ halve n p 0 n
+  starts n high e = enough (high - 0) high 0 high (omega arith) (omega arith) ∙ ap (λ (h : ℕ). halve h p 0 h) e
+
+  -- no place past the last
+  pub halve-most : (k low high : ℕ) → low ≤ high → halve k p low high ≤ high
+  unfolding halve
+  halve-most zero low high h = h
+  halve-most (suc k) low high h = elim (either (ltb low high)) [
+    | inl e ↦
+        let l = ltb-true low high e in
+        elim (either (p (middle low high))) [
+          | inl q ↦ rw (turn k low high true l q) (halve-most k (middle low high + 1) high (omega arith))
+          | inr q ↦ let i : halve k p low (middle low high) ≤ middle low high = halve-most k low (middle low high) (omega arith) in rw (turn k low high false l q) (omega arith)
+        ]
+    | inr e ↦ rw (done (suc k) low high (ltb-false low high e)) h
+  ]
+
   -- a test that, once it fails, fails from there on
   module _ (n : ℕ) (falls : (i j : ℕ) → i ≤ j → j < n → p j ≡ true → p i ≡ true) where
     pub halve-turns : (k low high : ℕ) → high ≤ low + k → low ≤ high → high ≤ n → ((i : ℕ) → i < low → p i ≡ true) → (high < n → p high ≡ false)
@@ -83,8 +101,3 @@ module _ (p : ℕ → Bool) where
           let z : low ≡ high = omega arith in
           rw (done (suc k) low high b) (record { most = omega arith; left = left; right = rw (← z) at right })
     ]
-
-pub starts : (p : ℕ → Bool) (n : ℕ) → halve (n - 0) p 0 n ≡ halve n p 0 n
-starts p n =
-    let e : n - 0 ≡ n = omega arith in
-    ap (λ (k : ℕ). halve k p 0 n) e
