@@ -2,7 +2,7 @@
 
 #include "twin.h"
 
-/* HELD: how many numbers each program holds; docs/DECISIONS.md says what lmcp_bytes answers to a longer list. */
+/* HELD: how many numbers each program holds; docs/PROGRAMS.md says what lmcp_bytes answers to a longer list. */
 enum { GOOD = FIRST_KIND, LIST_ROOM = 500000, MESSAGE_ROOM = 15 * LIST_ROOM + 64, HELD = 262144 };
 
 static i64 list[LIST_ROOM];
