@@ -20,7 +20,8 @@ use Rattle.steps.proofs.Tables.{and-none, all-of, all-not, all-none, all-cong}
 use Rattle.held_bits.proofs.Runs.{all-split}
 use Rattle.held_bits.proofs.Bits.{held-bit}
 use Rattle.fragment_fit.specs.Fits.{fitsIn}
-use Rattle.fragment_fit.specs.Apart.{crosses, apartIn, apartAt, nearFit}
+use Rattle.fragment_fit.specs.Apart.{crosses, apartAt, nearFit}
+use Rattle.fragment_fit.specs.Inside.{apartIn}
 
 -- ---- tests that a number passes
 

@@ -6,7 +6,8 @@ ghost use lib.Dec.{ltb};
 ghost use lib.ListN.{length};
 ghost use Rattle.steps.specs.Search.{allBelow};
 ghost use Rattle.fragment_fit.specs.Fits.{agreesAt, fitsIn};
-ghost use Rattle.fragment_fit.specs.Apart.{crosses, apartIn, apartAt, nearFit};
+ghost use Rattle.fragment_fit.specs.Apart.{crosses, apartAt, nearFit};
+ghost use Rattle.fragment_fit.specs.Inside.{apartIn};
 
 // ---- one by one, over any slices
 

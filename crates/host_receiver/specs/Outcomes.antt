@@ -47,12 +47,6 @@ unlessRefused Kept lent new = new
 unlessRefused Repeat lent new = new
 unlessRefused (Delivered place len) lent new = new
 
--- the numbers and the name at the start of what was lent, whatever the answer
-pub record Writes (o : Outcome) (told name : Buffer) (answer : ℕ) : Type 0 where
-  pub gave : answer ≡ 0
-  pub numbers : told .after ≡ overlay (told .before) 0 (outcomeNumbers o)
-  pub bytes : name .after ≡ overlay (name .before) 0 (o .name)
-
 -- as the answer has it
 pub record Tells (o : Outcome) (told name : Buffer) (answer : ℕ) : Type 0 where
   pub gave : answer ≡ answerCode (o .answer)

@@ -14,7 +14,8 @@ use lib.Seq.{drop-at, getD-append-add}
 use borrow.Author.Tests.{lt-ltb, le-ltb, eq-eqb, ne-eqb, ltb-true, ltb-false, eqb-true, eqb-false}
 use Rattle.wire.specs.Choice.{pick}
 use Rattle.wire.specs.Bytes.{be, bytes, Bytes}
-use Rattle.wire.specs.Signed.{signed, unsigned, Within}
+use Rattle.wire.specs.Signed.{signed, unsigned}
+use Rattle.wire.specs.Inside.{Within}
 use Rattle.wire.proofs.Choices.{never}
 use Rattle.wire.proofs.Numbers.{length-bytes, be-bytes, be-lt, bytes-be}
 use Rattle.wire.proofs.Signs.{unsigned-signed, signed-within, unsigned-lt, signed-unsigned}

@@ -2,7 +2,6 @@
 // 4-byte big-endian count and that many 8-byte big-endian two's-complement numbers; a line gives the bytes of each, or its refusal, or says
 // that the list is longer than the program holds.
 ghost use mathlib.Core.Path.{_≡_};
-ghost use mathlib.Core.List.{[], _∷_, _++_};
 ghost use Prim.Native.Nat.{_/_, _≤_};
 ghost use lib.ListN.{length, take};
 ghost use lib.Seq.{sets};

@@ -6,7 +6,6 @@ use mathlib.Core.List.{List, [], _∷_, _++_}
 use Prim.Native.Nat.{ℕ, zero, suc, _≤_, _<_}
 use native.Mathlib.Omega.{arith}
 use lib.ListN.{length, getD, take, drop}
-use Rattle.wire.specs.Choice.{pick}
 use Rattle.wire.proofs.Choices.{either}
 use Rattle.log_index.specs.Rows.{Row, rowOf, earlier, put, sorted}
 use Rattle.log_index.proofs.Order.{earlier-turned, upto-trans, upto-earlier, earlier-same}

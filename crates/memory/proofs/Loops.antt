@@ -20,7 +20,7 @@ use Rattle.steps.specs.Search.{allBelow, first}
 use Rattle.steps.proofs.Tables.{all-cong}
 use Rattle.steps.specs.Memory.{Place, vacant, isOf, remembered, has, orElse, placeAt, noPlace, memoryOk}
 use Rattle.memory.specs.Words.{senderAt, usedAt, sequencesAt, sequencesIn, placeIn, memoryIn}
-use Rattle.memory.specs.Parts.{shiftedIn, freedAt, freedIn}
+use Rattle.memory.specs.InsideParts.{shiftedIn, freedAt, freedIn}
 
 -- ---- the first place that passes
 

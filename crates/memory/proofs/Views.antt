@@ -24,7 +24,7 @@ use Rattle.steps.specs.Memory.{keyOf, Place, noPlace, vacant, isOf, remembered,
 use Rattle.steps.proofs.Memories.{place-inside, after-long, after-here, after-other, forget-at, forget-long}
 use Rattle.steps.proofs.Tables.{First, first-some}
 use Rattle.memory.specs.Words.{senderAt, usedAt, turnsAt, turnAt, sequencesAt, memoryWords, sequencesIn, placeIn, memoryIn, Left}
-use Rattle.memory.specs.Parts.{turnRanks, settledIn, shiftedIn, addedIn, freedAt, freedIn}
+use Rattle.memory.specs.InsideParts.{turnRanks, settledIn, shiftedIn, addedIn, freedAt, freedIn}
 use Rattle.memory.proofs.Loops.{shifted-length, freed-length}
 
 place-eq : (a b : Place) → a .sender ≡ b .sender → a .used ≡ b .used → a .turn ≡ b .turn → a .sequences ≡ b .sequences → a ≡ b

@@ -9,7 +9,7 @@ ghost use Rattle.steps.specs.Search.{first};
 ghost use Rattle.steps.specs.Memory.{keyOf, isOf, vacant, remembered, has, orElse, placeFor, countOf, isRemembered, forgetKeys, memoryOk};
 ghost use Rattle.steps.specs.Memory as steps;
 ghost use Rattle.memory.specs.Words.{memoryWords, placeIn, memoryIn, Left};
-ghost use Rattle.memory.specs.Parts.{turnRanks, settledIn, shiftedIn, addedIn, freedAt, freedIn};
+ghost use Rattle.memory.specs.InsideParts.{turnRanks, settledIn, shiftedIn, addedIn, freedAt, freedIn};
 
 // For how many senders keys are remembered, and how many for each.
 pub const SENDERS_MOST: usize = 16;

@@ -27,14 +27,6 @@ abbrev pub pastAll : Trail → ℕ → ℕ → List (List ℕ) → Trail
 pastAll t n at [] = t
 pastAll t n at (m ∷ ms) = pastAll (past t n at (length m)) n (at + (2 + length m)) ms
 
-abbrev pub walked : Trail → ℕ → ℕ → Option (List (List ℕ)) → Walked
-walked t n at none = Broken
-walked t n at (some ms) = Filled (pastAll t n at ms)
-
-abbrev pub looked : ℕ → Given Packet → Looked
-looked n (refuses number) = Refused number
-looked n (gives p) = Good (headerOf p) (pastAll start n headLength (p .messages))
-
 -- the message that was looked out for, if it was passed
 abbrev pub pointed : Trail → ℕ → Given Part
 pointed t n = pick (ltb n (t .count)) (gives (record { at = t .at; len = t .len })) (refuses 54)

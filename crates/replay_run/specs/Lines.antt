@@ -1,5 +1,5 @@
 -- The lines of the program `replay`, in ASCII, and what they are about. Definitions only.
-use mathlib.Core.List.{List, [], _∷_, _++_}
+use mathlib.Core.List.{List, _++_}
 use Prim.Native.Nat.{ℕ}
 use Rattle.wire.specs.Slices.{Buffer}
 use Rattle.wire.specs.Text.{ascii}

@@ -4,6 +4,7 @@ pub mod Halving
 pub mod Overlay
 pub mod Same
 pub mod Signed
+pub mod Inside
 pub mod Slices
 pub mod Sum
 pub mod Taken

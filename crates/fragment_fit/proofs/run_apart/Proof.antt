@@ -7,7 +7,7 @@ use native.Mathlib.Omega.{arith}
 use lib.Dec.{eqb}
 use borrow.Author.Needs.{needs}
 use Rattle.steps.specs.Search.{allBelow}
-use Rattle.fragment_fit.specs.Apart.{apartIn}
+use Rattle.fragment_fit.specs.Inside.{apartIn}
 use Rattle.fragment_fit.proofs.Aparts.{none-more, one-more}
 use Rattle.fragment_fit.proofs.run_apart.Statement.{statement}
 use Rattle.fragment_fit.proofs.run_apart.Tie as tie

@@ -2,7 +2,7 @@
 use mathlib.Core.Path.{_≡_, sym, _∙_, ap}
 use borrow.Author.Needs.{needs}
 use borrow.Author.Tests.{lt-ltb, le-ltb}
-use Rattle.memory.specs.Parts.{addedIn}
+use Rattle.memory.specs.InsideParts.{addedIn}
 use Rattle.memory.proofs.add.Statement.{statement}
 use Rattle.memory.proofs.add.Tie as tie
 

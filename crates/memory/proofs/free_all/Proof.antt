@@ -5,7 +5,7 @@ use native.Mathlib.Omega.{arith}
 use borrow.Author.Needs.{needs}
 use lib.ListN.{length}
 use Rattle.steps.specs.Limits.{sendersMost, keysEach}
-use Rattle.memory.specs.Parts.{freedIn}
+use Rattle.memory.specs.InsideParts.{freedIn}
 use Rattle.memory.proofs.Loops.{freed-none, freed-more, freed-length}
 use Rattle.memory.proofs.free_all.Statement.{statement}
 use Rattle.memory.proofs.free_all.Tie as tie

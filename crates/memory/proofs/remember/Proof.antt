@@ -4,7 +4,7 @@ use Prim.Native.Nat.{ℕ}
 use borrow.Author.Needs.{needs}
 use lib.ListN.{length}
 use Rattle.memory.specs.Words.{memoryWords, memoryIn}
-use Rattle.memory.specs.Parts.{settledIn, addedIn}
+use Rattle.memory.specs.InsideParts.{settledIn, addedIn}
 use Rattle.memory.proofs.Views.{stays, left, for-inside, settled-length, remembered-memory, remembered-length}
 use Rattle.memory.proofs.remember.Statement.{statement}
 use Rattle.memory.proofs.remember.Tie as tie

@@ -1,7 +1,7 @@
 -- `memory::settle` meets its contract. Assumes nothing.
 use mathlib.Core.Path.{_≡_, sym, _∙_, ap}
 use borrow.Author.Needs.{needs}
-use Rattle.memory.specs.Parts.{settledIn}
+use Rattle.memory.specs.InsideParts.{settledIn}
 use Rattle.memory.proofs.settle.Statement.{statement}
 use Rattle.memory.proofs.settle.Tie as tie
 

@@ -5,7 +5,7 @@ use native.Mathlib.Omega.{arith}
 use lib.ListN.{length, length-set}
 use borrow.Author.Needs.{needs}
 use Rattle.steps.specs.Limits.{keysEach}
-use Rattle.memory.specs.Parts.{shiftedIn}
+use Rattle.memory.specs.InsideParts.{shiftedIn}
 use Rattle.memory.proofs.Loops.{shifted-none, shifted-more}
 use Rattle.memory.proofs.shift.Statement.{statement}
 use Rattle.memory.proofs.shift.Tie as tie

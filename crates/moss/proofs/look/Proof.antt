@@ -6,7 +6,7 @@ use borrow.Author.Needs.{needs}
 use lib.ListN.{length}
 use Rattle.moss.specs.Limits.{headLength}
 use Rattle.moss.specs.Packet.{lengthIn}
-use Rattle.moss.specs.Walk.{looked}
+use Rattle.moss.specs.InsideWalk.{looked}
 use Rattle.moss.proofs.Packets.{packet-short, packet-wrong, packet-long, packet-type, packet-held}
 use Rattle.moss.proofs.look.Statement.{statement}
 use Rattle.moss.proofs.look.Tie as tie
