@@ -5,7 +5,7 @@ use mathlib.Core.List.{List, [], _∷_}
 use Prim.Native.Nat.{ℕ, zero, suc, _+_, _-_, _*_, _/_, _%_, _^_}
 use lib.Dec.{eqb, ltb}
 use lib.ListN.{length, take, drop}
-use Rattle.wire.specs.Choice.{pick}
+use Rattle.wire.specs.Choice.{pick, _when_else_}
 use Rattle.wire.specs.Bytes.{be}
 use Rattle.ack_blocks.specs.Limits.{maxBlocks, largest, kindSingle, kindRun, kindMap, singleLength, runLength, mapHead}
 use Rattle.ack_blocks.specs.Blocks.{Block, single, run, map, acknowledges}

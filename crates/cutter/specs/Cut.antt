@@ -8,7 +8,7 @@ use lib.ListN.{length, take, drop}
 use Rattle.wire.specs.Bytes.{bytes}
 use Rattle.wire.specs.Overlay.{overlay}
 use Rattle.datagram.specs.Limits.{maxPayload, maxFragments, maxName}
-use Rattle.wire.specs.Choice.{pick}
+use Rattle.wire.specs.Choice.{pick, _when_else_}
 use Rattle.names.specs.Name.{goodName}
 use Rattle.datagram.specs.Read.{smallMagic, fragmentMagic}
 use Rattle.cutter.specs.Limits.{leastSize, mostSize}

@@ -4,7 +4,7 @@ use mathlib.Core.Bool.{Bool, true, false}
 use Prim.Native.Nat.{ℕ}
 use lib.ListN.{getD}
 use lib.Dec.{ltb, leb}
-use Rattle.wire.specs.Choice.{pick}
+use Rattle.wire.specs.Choice.{pick, _when_else_}
 use Rattle.watch.specs.declared.Watch.{Watch}
 use Rattle.watch.specs.declared.Seen.{Seen}
 use Rattle.watch.specs.Limits.{maxSenders}

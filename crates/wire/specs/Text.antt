@@ -2,7 +2,7 @@
 use Prim.Native.Nat.{ℕ}
 use Prim.Native.Char.{code}
 use Prim.Native.String.{String, [], _∷_}
-use mathlib.Core.List.{List, [] as none}
+use mathlib.Core.List.{List, [] as none, _∷_ as _then_}
 
 abbrev pub ascii : String → List ℕ
 ascii [] = none
