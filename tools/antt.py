@@ -21,7 +21,6 @@ class Token:
 
     kind: str
     text: str
-    line: int
     parts: list = field(default_factory=list)
 
 
@@ -65,28 +64,27 @@ def dots(raw):
     return out
 
 
-def tokens(text, line=1):
+def tokens(text):
     """The tokens of a text."""
     raw = dots(list(pieces(text)))
     out = []
     k = 0
     while k < len(raw):
-        kind, word, start, _ = raw[k]
-        here = line + text.count("\n", 0, start)
+        kind, word, *_ = raw[k]
         k += 1
         if kind == "field":
-            out.append(Token("field", raw[k][1], here))
+            out.append(Token("field", raw[k][1]))
             k += 1
         elif kind in ("name", "quoted"):
             words = [word]
             while k < len(raw) and raw[k][0] == "path":
                 words.append(raw[k + 1][1])
                 k += 2
-            out.append(Token("path" if len(words) > 1 else "name", ".".join(words), here, words))
+            out.append(Token("path" if len(words) > 1 else "name", ".".join(words), words))
         elif kind == "bracket":
-            out.append(Token("open" if word in OPEN else "close", word, here))
+            out.append(Token("open" if word in OPEN else "close", word))
         elif kind in ("sep", "text", "stop"):
-            out.append(Token(kind, word, here))
+            out.append(Token(kind, word))
     return out
 
 

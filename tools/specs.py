@@ -5,6 +5,7 @@ comment, signature and clauses). `Project.rests_on` gives the items that an item
 import glob
 import os
 import re
+from dataclasses import dataclass
 from functools import cached_property, lru_cache
 
 import antt
@@ -13,6 +14,7 @@ MARKS = r"(?:(?:unfoldable|abbrev|pub|axiom) )*"
 SIGNATURE = re.compile(rf"(?P<marks>{MARKS})(?P<name>[^\s(){{}}.;,@\"]+)(?P<levels> \{{[^}}:]*\}})? :(?: |$)")
 TYPE = re.compile(rf"(?P<marks>{MARKS})(?P<kind>record|data) (?P<name>\S+)")
 USE = re.compile(r"^(?:unfoldable )?(?P<pub>pub )?(?:ghost )?use (?P<module>[^\s{;]+?)(?:\.\{(?P<names>[^}]*)\}|(?: as (?P<alias>[^\s;]+))?);?\s*$")
+CLAUSE = re.compile(r"^\s*(?:requires|ensures) \{(.*?)\}\s*$", re.M | re.S)
 RT_ITEM = re.compile(r'^(?P<pub>pub )?(?:extern "C" )?(?P<kind>struct|enum|const|fn) (?P<name>\w+)')
 RT_USE = re.compile(r"^(?P<pub>pub )?use (?P<path>[\w:]+?)(?: as (?P<alias>\w+))?;")
 # what the prelude of antt, which is open in every file, and a contract's own words give
@@ -25,6 +27,14 @@ def indent_of(line):
     return len(line) - len(line.lstrip())
 
 
+@dataclass(frozen=True)
+class Block:
+    """`module _ (..) where`, which binds for all that stands in it: the comment above it, and its own lines."""
+
+    comment: tuple
+    lines: tuple
+
+
 class Item:
     """One definition with its comment, and the module block and the section that it stands in."""
 
@@ -32,7 +42,7 @@ class Item:
         self.file, self.kind, self.name, self.line = file, kind, name, line
         self.public = False
         self.comment, self.text = [], []
-        # the `module _ (..) where` around it, each with its comment, and the comment that heads its section
+        # the blocks around it, and the comment that heads its section
         self.blocks, self.section = (), None
         self.members, self.fields = [], []
 
@@ -68,14 +78,22 @@ def operator_parts(name):
 
 
 class Names:
-    """What names mean in a file: its own, and those that its `use` lines bring."""
+    """What the `use` lines of a file bring."""
 
     def __init__(self):
-        # name: (module, the name there); alias: module
+        # name: (module, the name there); alias: module; and the names that the file passes on
         self.imports, self.aliases = {}, {}
         self.passed_on = set()
+        # of a `use` that goes over lines, those so far
+        self.begun = ""
 
     def read(self, line):
+        """Takes a line in, if it is one of a `use`."""
+        line = self.begun + line
+        if re.match(r"(unfoldable |pub |ghost )*use ", line) and "{" in line and "}" not in line:
+            self.begun = line
+            return True
+        self.begun = ""
         found = USE.match(line)
         if not found:
             return False
@@ -181,7 +199,12 @@ class AnttFile(File):
 
     def read(self, number, line):
         indent = indent_of(line)
-        if not line.strip():
+        if self.blocks and not self.blocks[-1].lines[-1].endswith("where"):
+            last = self.blocks[-1]
+            self.blocks = self.blocks[:-1] + (Block(last.comment, last.lines + (line,)),)
+        elif self.names.begun:
+            self.names.read(line)
+        elif not line.strip():
             self.empty(number)
         elif self.current and (indent > self.level or line.strip() == "}"):
             self.current.text.append(line)
@@ -193,8 +216,7 @@ class AnttFile(File):
             elif self.names.read(line) or re.match(r"(pub )?mod ", line):
                 self.head, self.comment = self.head or self.comment, []
             elif line.lstrip().startswith("module _"):
-                # a comment above the block is the block's
-                self.blocks += (tuple(self.comment + [line]),)
+                self.blocks += (Block(tuple(self.comment), (line,)),)
                 self.comment, self.current = [], None
             else:
                 self.begin(line, number)
@@ -254,7 +276,7 @@ class AnttFile(File):
         scope = self.scope()
         env = frozenset()
         for block in item.blocks:
-            env = scope.binders(antt.tree(antt.tokens(block[-1]))[2:-1], env)
+            env = scope.binders(antt.tree(antt.tokens("\n".join(block.lines)))[2:-1], env)
         lines = [x for x in item.text if not re.match(r"\s*infix", x)]
         if item.kind == "definition":
             self.used_by_definition(scope, item, lines, env)
@@ -311,8 +333,8 @@ class RattleFile(File):
 
     def __init__(self, project, path):
         super().__init__(project, path)
-        # what `use` lines of Rattle bring: name: (crate or module, name)
-        self.types = {}
+        # what `use` lines of Rattle bring: name: (crate or module, name), and which of them are passed on
+        self.types, self.passed_on = {}, set()
         # apart from the types: a clause never means a function by its name
         self.functions = {}
         self.modules = [m[1] for m in (re.match(r"(?:pub )?mod (\w+);", x) for x in self.lines) if m]
@@ -332,6 +354,8 @@ class RattleFile(File):
             if rattle:
                 words = rattle["path"].split("::")
                 self.types[rattle["alias"] or words[-1]] = (words[0], words[-1])
+                if rattle["pub"]:
+                    self.passed_on.add(words[-1])
             elif found:
                 number = self.begin(found, comment, number)
             else:
@@ -381,7 +405,7 @@ class RattleFile(File):
         """The types and consts of its text; of a function's clauses the names of antt."""
         scope = self.scope()
         text = "\n".join(item.text)
-        for clause in re.findall(r"^\s*(?:requires|ensures) \{(.*?)\}\s*$", text, re.M | re.S):
+        for clause in CLAUSE.findall(text):
             scope.term(antt.tree(antt.tokens(clause)), frozenset(parameters(text)))
         return scope.used
 
@@ -467,15 +491,20 @@ class Project:
                 self.after_its_own(used.path, order)
         order.append(path)
 
-    def rests_on(self, item):
-        """The items that one reaches, itself last, each after those that it uses."""
-        reached = {item.key: item}
-        todo = [item]
+    def reached(self, items):
+        """All that these items name, and so on: {key: item}; themselves too."""
+        out = {i.key: i for i in items}
+        todo = list(items)
         while todo:
             for i in self.needs(todo.pop()):
-                if i.key not in reached:
-                    reached[i.key] = i
+                if i.key not in out:
+                    out[i.key] = i
                     todo.append(i)
+        return out
+
+    def rests_on(self, item):
+        """The items that one reaches, itself last, each after those that it uses."""
+        reached = self.reached([item])
         del reached[item.key]
         order, done = [], set()
         for i in sorted(reached.values(), key=lambda i: (self.ranks[i.file.path], i.line)):
