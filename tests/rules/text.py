@@ -3,8 +3,8 @@ import os
 import re
 
 import antt
+import items
 import pages
-import specs
 from faults import bare, read
 
 MOST = 8  # arguments
@@ -80,7 +80,7 @@ def arguments(item):
     """How many explicit arguments a definition of specs/ takes."""
     lines = [x for x in item.text if not x.lstrip().startswith("infix")]
     if item.kind == "definition":
-        end = next((k for k, x in enumerate(lines) if k and specs.indent_of(x) == specs.indent_of(lines[0])), len(lines))
+        end = next((k for k, x in enumerate(lines) if k and items.indent_of(x) == items.indent_of(lines[0])), len(lines))
         nodes = antt.tree(antt.tokens("\n".join(lines[:end])))
         return explicit(nodes[antt.place(nodes, ":") + 1 :])
     nodes = antt.tree(antt.tokens(lines[0]))
@@ -107,7 +107,7 @@ def few_arguments(faults, project):
     met = set()
     for path in project.paths("*/src/*.rt"):
         for item in (i for i in project.file(path).items if i.kind == "fn"):
-            for clause in specs.CLAUSE.findall("\n".join(item.text)):
+            for clause in items.CLAUSE.findall("\n".join(item.text)):
                 for name, count in applications(antt.tree(antt.tokens(clause))):
                     over(faults, met, item, f"{item.file.crate} {name}", count)
     for path in project.paths("*/specs/*.antt"):

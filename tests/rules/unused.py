@@ -6,7 +6,7 @@ import os
 import re
 
 import antt
-import specs
+import items
 
 # a fault once the tree is free of them; until then they are counted
 ENFORCED = False
@@ -27,7 +27,7 @@ def words(text):
 
 def stands(name, used):
     """Whether a name is among the words that are used: itself, or all parts of an operator, also with the places of its arguments (`_+ 1`)."""
-    parts = specs.operator_parts(name)
+    parts = items.operator_parts(name)
     return name in used or (bool(parts) and all(any(p == w or p == w.strip("_") for w in used) for p in parts))
 
 
@@ -51,8 +51,8 @@ def unused(project, path):
     text = USE_LINE.sub("", "\n".join(file.lines))
     more = edits(project, path)
     if path.endswith(".rt"):
-        clauses = words("\n".join(specs.CLAUSE.findall(text + "\n" + more)))
-        code = set(re.findall(r"\w+", re.sub(r"//.*", "", specs.CLAUSE.sub("", text) + more)))
+        clauses = words("\n".join(items.CLAUSE.findall(text + "\n" + more)))
+        code = set(re.findall(r"\w+", re.sub(r"//.*", "", items.CLAUSE.sub("", text) + more)))
         out = [x for x in file.types if x not in code and x not in file.passed_on]
     else:
         clauses = words(text + "\n" + more)
