@@ -11,7 +11,7 @@ TOKEN = re.compile(
     rf"|(?P<dot>\.+)|(?P<at>@)|(?P<name>{WORD})"
 )
 KEYWORDS = set("data record deriving module where use mod pub package using open as unfoldable abbrev axiom unfold unfolding mutual".split())
-KEYWORDS |= set("infix infixl infixr elim let in do λ ∀ Type → × ↔ = : | ↦ ← [ ] ? _ 𝕀 ⌜ ⌝ ⊔".split())
+KEYWORDS |= set("infix infixl infixr elim let in do λ ∀ Type → × = : | ↦ ← [ ] ? _ 𝕀 ⌜ ⌝ ⊔".split())
 OPEN = {"(": ")", "{": "}"}
 
 
