@@ -1,5 +1,5 @@
 """The sequence watch of document 01, written from the paper alone, in plain Python, and the lines of the program gaps."""
-from receiver import MAX_PAYLOAD, read
+from .receiver import MAX_PAYLOAD, read
 
 
 class Watch:

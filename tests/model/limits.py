@@ -1,5 +1,5 @@
 """Cases for the program limits, and what document 01 says of each: the cutter, the parts of a datagram, the watch, and what the receiver is lent."""
-from receiver import MAX_PAYLOAD, cut, name_in, read
+from .receiver import MAX_PAYLOAD, cut, name_in, read
 
 CUT, PARTS, WATCH, OPEN, RECEIVE, FORGET = range(1, 7)
 LEDGER = 16384

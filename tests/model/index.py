@@ -1,11 +1,9 @@
 """The index of document 02, L11, written from the paper alone, in plain Python, and what the programs over it write."""
 import os
 import random
-import sys
 
-sys.path.insert(0, os.path.join(os.path.dirname(os.path.abspath(__file__)), "..", "log"))
-from log import HOLDS, Refused, entry_bytes, first_log_of, head_in, log_of, number_at  # noqa: E402
-from receiver import cut, fragment, read, small  # noqa: E402
+from .log import HOLDS, Refused, entry_bytes, first_log_of, head_in, log_of, number_at
+from .receiver import cut, fragment, read, small
 
 MOST = 4096
 

@@ -1,9 +1,5 @@
 """The log of document 02, L1 and L10, written from the papers alone, in plain Python, and what the programs over a log write."""
-import os
-import sys
-
-sys.path.insert(0, os.path.join(os.path.dirname(os.path.abspath(__file__)), "..", "vectors"))
-from receiver import Receiver  # noqa: E402
+from .receiver import Receiver
 
 HOLDS = 4194304
 STORE = 2097152

@@ -5,11 +5,8 @@ import sys
 import threading
 from concurrent.futures import ThreadPoolExecutor
 
-ROOT = os.path.join(os.path.dirname(os.path.abspath(__file__)), "..", "..")
-for folder in ("vectors", "log", "reference"):
-    sys.path.insert(0, os.path.join(ROOT, "tests", folder))
-sys.dont_write_bytecode = True
-import built  # noqa: E402
+from . import built
+from .built import ROOT
 
 passed = failed = 0
 

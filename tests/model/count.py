@@ -1,14 +1,10 @@
 """The count of document 02, L9, over both versions of L14's table, written from the paper alone, in plain Python: what the program count_pits
-writes, its vector, and the flights of samples/. It stands on the receiver beside it, the log of tests/log and the LMCP reader of tests/lmcp."""
-import os
+writes, its vector, and the flights of samples/."""
 import random
-import sys
 
-here = os.path.dirname(os.path.abspath(__file__))
-sys.path += [os.path.join(here, "..", "log"), os.path.join(here, "..", "lmcp")]
-import messages  # noqa: E402
-from log import STORE, entries_in, first_log_of, limits_in, log_of  # noqa: E402
-from receiver import MAX_PAYLOAD, Receiver, cut, fragment, small  # noqa: E402
+from . import messages
+from .log import STORE, entries_in, first_log_of, limits_in, log_of
+from .receiver import MAX_PAYLOAD, Receiver, cut, fragment, small
 
 HOLDS = 2097152
 NUMBERS = 262144
