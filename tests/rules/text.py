@@ -11,45 +11,24 @@ MOST = 8  # arguments
 # ---- the tables of exceptions: each is to be mended, and then goes from here
 # clauses and definitions with more arguments: crate and name
 OVER = {
-    "arrival OneOfOurs",
     "lmcp Marked",
     "lmcp Sofar",
-    "lmcp_bytes Longer",
-    "lmcp_bytes Made′",
-    "lmcp_bytes Written",
-    "lmcp_bytes byLength",
     "pit_marks Lays",
     "pit_payloads Looks",
-    "receiver Puts",
-    "replay_log Replayed",
 }
 # files of specs/ with definitions that nothing public reaches
 NOT_INSIDE = {
-    "ack_blocks/Walk",
-    "ack_writer/Walk",
-    "checksum/Strides",
     "count/Counts",
-    "cutter/Trip",
     "find/Numbers",
     "find/Said",
-    "fragment_fit/Apart",
     "gauge/Lines",
-    "host/Fields",
-    "host/Flight",
-    "host_receiver/Outcomes",
-    "index_builder/Walk",
     "index_lines/Lines",
     "lmcp_bytes/Lines",
     "lmcp_reader/Steps",
     "lmcp_writer/Steps",
-    "log_index/Words",
     "log_write/Kept",
-    "memory/Parts",
-    "moss/Walk",
     "pit_marks/Enters",
     "pit_payloads/Took",
-    "stream/Windows",
-    "wire/Signed",
 }
 OPERATORS = set("→ × ≡ λ ≤ < + * : ⌝ ⌜ ∷ ++ = ⊎ - / % ^ && || when else if then in let".split())
 # a word that hands on the number of a refusal
