@@ -110,7 +110,13 @@ def ask_line(record):
     return "yes" if acknowledged(record[8:], number(record[:8])) else "no"
 
 
+# the numbers that ack_bytes holds
+HOLDS = 65536
+
+
 def bytes_line(record):
+    if len(record) // 8 > HOLDS:
+        return f"longer than {HOLDS} numbers"
     if len(record) % 8:
         raise Refused(70)
     blocks = blocks_of([number(record[i:i + 8]) for i in range(0, len(record), 8)])
@@ -174,9 +180,32 @@ def lists():
     return [listed(l) for l in d] + [b"1234567", bytes(9), listed([5, 4]) + b"1"]
 
 
+def single_bytes():
+    """Numbers that differ in one byte alone, high kinds, and of two refusals that could be given the first."""
+    far = [1 << (8 * k) for k in range(8)]
+    d = [ask(7 ^ f, single(7)) for f in far] + [ask(7, single(7 ^ f)) for f in far]
+    # both ends of a run and of a map, with numbers of the same low bytes beside them
+    d += [ask(n, run(2**32 + 5, 2**40 + 6)) for n in (5, 6, 2**32 + 4, 2**32 + 5, 2**33, 2**40 + 6, 2**40 + 7)] + [ask(n, bitmap(2**32 + 5, "0101")) for n in (6, 2**32 + 6, 2**32 + 8, 2**32 + 7)]
+    d += [ask(2**63, run(2**63 - 1, 2**63)), ask(7, run(2**32 + 1, 5)), ask(7, run(2**63, 2**63 - 1)), ask(7, run(LARGEST, 4)[:16]), ask(7, run(LARGEST, 4)[:10])]
+    # a map of 256 bits and of 257, the first and the last byte of it
+    for bits in (256, 257):
+        d += [ask(9 + k, bitmap(9, "1" + "0" * (bits - 2) + "1")) for k in (0, 1, 7, 8, 15, 16, 255, 256, 257)]
+    # 77 before what the first block is, and of a list that is good but for its length; the kind is the whole byte
+    over = single(1) * 7278 + run(2, 3) * 2
+    assert len(over) == MOST + 1
+    d += [ask(1, over), ask(1, b"\x09" + bytes(MOST)), ask(1, run(5, 4) + bytes(MOST))]
+    return d + [ask(7, bytes([kind]) + single(7)[1:]) for kind in (16, 128, 130)] + [ask(5, run(5, 6)[:9] + run(5, 6)[9:16])]
+
+
+def single_byte_lists():
+    """Numbers whose low bytes rise where they fall, and the other way; runs across each byte's end; a list of 65,536 bytes."""
+    d = [[2**32, 5], [5, 2**32 + 6], [2**40 + 1, 2**32 + 2], [2**63 - 1, 2**63], [2**63, 1]] + [[256**k - 1, 256**k] for k in range(1, 8)] + [[256**k - 2, 256**k] for k in range(1, 8)]
+    return [listed(l) for l in d] + [listed([2 * i for i in range(7278)] + [20000, 20001, 30000, 30001]), bytes(8 * HOLDS + 7), bytes(8 * HOLDS + 8)]
+
+
 FILES = {
-    "crates/acks/stdin": stream_of(questions()) + b"\0\0\0\x09" + bytes(8),
-    "crates/ack_bytes/stdin": stream_of(lists()) + b"\0\0\0",
+    "crates/acks/stdin": stream_of(questions() + single_bytes()) + b"\0\0\0\x09" + bytes(8),
+    "crates/ack_bytes/stdin": stream_of(lists() + single_byte_lists()) + b"\0\0\0",
     "samples/acks.bin": stream_of([ask(n, single(7) + run(10, 12) + bitmap(20, "100000011")) for n in (7, 8, 11, 13, 20, 21, 28)] + [ask(7, run(5, 4))]),
     "samples/ack-numbers.bin": stream_of([listed([7, 10, 11, 12, 20, 27, 28]), listed([]), listed([3, 3])]),
 }
@@ -189,7 +218,7 @@ for refusal in (70, 71, 72, 73, 74, 77):
 for refusal in (70, 75, 77):
     assert b"refused %d\n" % refusal in FILES["crates/ack_bytes/stdout"], refusal
 # every list that is written reads back as itself
-for one in lists():
+for one in lists() + single_byte_lists():
     if len(one) % 8 == 0 and len(one) < 4000:
         l = [number(one[i:i + 8]) for i in range(0, len(one), 8)]
         try:

@@ -3,7 +3,7 @@ writes, its vector, and the flights of samples/."""
 import random
 
 from . import messages
-from .log import STORE, entries_in, first_log_of, limits_in, log_of
+from .log import STORE, each_number, entries_in, first_log_of, limits_in, log_of
 from .receiver import MAX_PAYLOAD, Receiver, cut, fragment, small
 
 HOLDS = 2097152
@@ -298,6 +298,25 @@ def edges():
     # 17 senders and a copy of each: 16 are known
     heard = [(i, d) for i in range(17) for d in cut(5, b"TILE", pits_message(i % 3, [(i, 1)]), 1400)]
     return logs + [log_of(ticked(heard + heard[::-1]))]
+
+
+def refused_first():
+    """Logs of which two refusals could be given: the log's own before 62, 60 and 61, and 62 before 60 and 61, wherever they come. Marks over 8,192 that are
+    fewer pits. Limits of a log of each edition, by 5 and 6, at both sides, with lists that they admit and small ones, which they do not concern."""
+    def flight(payloads):
+        return ticked([(7, d) for i, p in enumerate(payloads) for d in cut(i, b"TILE", p, 65507)])
+
+    tiles = flight([pits_message(t, []) for t in range(257)])
+    pits = flight([pits_message(9, [(i, 1) for i in range(k, k + 2731)], place=lambda pit: False) for k in (0, 2731, 5462)])
+    wind = [(99, i, small(i, b"MAST", b"")) for i in range(4097)]
+    logs = [log_of(bad) + x for bad in (tiles, pits) for x in (b"", b"\5", b"\5\x80\0", b"\5\5\x80\x80\4")]
+    logs += [log_of(x) for bad in (tiles, pits) for x in (bad + wind, bad + wind[:4096 - len(bad)], bad + wind[:4097 - len(bad)])] + [log_of(wind) + b"\5", log_of(wind) + b"\5\x80\0", log_of(tiles + wind) + b"\5\5\x80\x80\4"]
+    often = [pits_message(9, [(1, 0)] * 3000 + [(k, 1)], place=lambda pit: False) for k in range(3)]
+    logs += [log_of(flight(often + [pits_message(9, [(77, 1)]), pits_message(10, [(1, 0)])]))]
+    edge = [(262144, 3), (262145, 3), (100, 256), (100, 257), (100, 3), (101, 3), (101, 257), (100, 1024), (100, 1025)]
+    some = [(5, fragment(700 + i, p, 1, 1, n, b"x")) for i, (p, n) in enumerate(edge)] + [(5, small(730, b"TILE", bytes(300)))]
+    some += [(5, d) for i in (1, 20) for d in cut(740 + i, b"TILE", pits_message(40 + i, [(1, 1)] * i), 96)]
+    return logs + [first_log_of(ticked(some))] + [log_of(ticked(some), limit) for limit in (0, 100, 101, 262143, 262144, MAX_PAYLOAD)]
 
 
 def in_sum(found):

@@ -135,3 +135,19 @@ def log_write(stream):
         entries.append((int.from_bytes(stream[at:at + 8], "big"), int.from_bytes(stream[at + 8:at + 16], "big"), stream[at + 18:at + 18 + length]))
         at += 18 + length
     return log_of(entries)
+
+
+# ---- logs for every program over a log
+
+def each_number():
+    """Logs in which each of the numbers, a log's limit and an entry's three, is refused for each reason, cut before that would be known, and just good: not in
+    its shortest form by one group and by more, a tenth byte of 0, 2, 129; the limit one over the most, a length one over."""
+    bad = [b"\x85\x00", b"\x80\x80\x00", b"\xff" * 9 + b"\x02", b"\x80" * 9 + b"\x00", b"\xff" * 9 + b"\x81", b"\x80" * 9 + b"\x03", b"\xff" * 9 + b"\x01"]
+    out = [b"\x02" + x for x in bad] + [b"\x02" + x[:-1] for x in bad]
+    out += [b"\x02" + seven(LIMIT + n) + entry_bytes(7, 9, b"abc") for n in (-1, 0, 1)] + [b"\x00" + entry_bytes(7, 9, b"abc"), b"\x03" + seven(LIMIT), b"\x81\x00"]
+    for head in (b"\x01", b"\x02" + seven(LIMIT)):
+        log = head + entry_bytes(7, 9, b"abc")
+        for place in (b"", b"\x05", b"\x05\x05"):
+            out += [log + place + x + b"\x05\x05\x05" for x in bad] + [log + place + x[:-1] for x in bad]
+        out += [log + b"\x05\x05" + seven(65536), log + b"\x05\x05" + seven(65535), log + b"\x05\x05" + seven(65536)[:-1], log + b"\x05\x05\x80\x80\x84\x00", log + b"\x05\x05\x01", log]
+    return out

@@ -150,3 +150,29 @@ def parts():
     d = [b"", r(1, b"")[:14], r(1, b"U"), r(1, b"H"), r(2**32 - 1, b"E"), r(1, b"u"), r(1, b"H", b"\0\0"), r(1, b"E", b"x"), r(1, b"U", block(b"abc") + block(b""))]
     d += [r(1, b"U", b"\0"), r(1, b"U", b"\0\1"), r(1, b"U", b"\0\0\0"), r(1, b"u", b"\0"), r(7, b"U", block(bytes(65514))), r(7, b"u", bytes(65517)), r(7, b"U", bytes(200000)), r(8, b"U")]
     return d
+
+
+def single_packets():
+    """What one byte or one count alone tells: each byte of the length field and of the session, small letters, E and H between others of their session,
+    a first number of 0, Same that does not move, 2^31 ahead and one less; and of two refusals that could be given the first."""
+    u = lambda s, q, *ms: packet(s, q, b"U", b"".join(map(block, ms)))  # noqa: E731
+    d = [packet(ONE, 3, b"H", b"", 19 ^ 1 << k) for k in (0, 8, 16, 24, 31)] + [packet(ONE, 3, b"U", b"\0", 19), packet(ONE, 3, b"H", b"\0\0", 19), packet(ONE, 3, b"x", b"", 20)[:18]]
+    d += [packet(ONE, 3, k, b"") for k in (b"u", b"h", b"e", b"\0", b"V", b"\xd5")]
+    # the session is all ten bytes, each by itself, and any bytes
+    d += [u(ONE, 100, b"x")] + [u(bytes(c ^ (k <= i) for k, c in enumerate(ONE)), 101 + i, b"x") for i in range(10)] + [u(bytes(10), 112, b"x"), u(b"\xff" * 10, 113, b"x")]
+    # E ends nothing and has no messages; a heartbeat of number 0 comes before message 0
+    d += [u(ONE, 5, b"a", b"b"), packet(ONE, 7, b"E", b""), u(ONE, 7, b"c"), packet(ONE, 8, b"E", b""), packet(ONE, 8, b"H", b""), packet(ONE, 8, b"E", b""), u(ONE, 8, b"d")]
+    d += [packet(TWO, 0, b"H", b""), u(TWO, 0, b"a"), packet(ONE, 0, b"E", b""), u(ONE, 0, b"a"), u(TWO, 0), u(TWO, 0, b"a")]
+    # Same and Late do not move it, whatever they carry; Restarted does, by its own count
+    d += [u(TWO, 0, b"x", b"y", b"z"), u(TWO, 1, b"x"), u(TWO, 0, b"x", b"y", b"z"), packet(TWO, 1, b"H", b""), u(TWO, 2, b"x"), u(TWO, 2 + 2**31, b"a", b"b", b"c"), u(TWO, 5 + 2**31, b"d")]
+    d += [u(ONE, 1, b"x"), u(ONE, 2**31, b"x"), u(ONE, 2**31 + 1), u(ONE, 1, b"x"), u(ONE, 1 + 2**31), packet(ONE, 2**31 + 1, b"H", b""), packet(ONE, 2**31 - 1024, b"E", b""), packet(ONE, 2**31 - 1025, b"E", b""), u(ONE, 2**31 - 1025, b"x")]
+    # a message of 256 bytes and one of 255; blocks that are short by one byte and over by one, the last of two
+    d += [u(ONE, 9, bytes(256), bytes(255), b""), packet(ONE, 9, b"U", block(b"a") + block(bytes(256))[:-1]), packet(ONE, 9, b"U", block(b"a") + block(bytes(256)) + b"\0"), packet(ONE, 9, b"U", b"\1\0" + bytes(255))]
+    return d
+
+
+def single_parts():
+    """Small letters with nothing else wrong, 51 before 53, every byte of a sequence, any session, both sides of a record's least."""
+    r = lambda q, k, body=b"": ONE + q.to_bytes(4, "big") + k + body  # noqa: E731
+    d = [r(1, k) for k in (b"u", b"h", b"e", b"\0", b"V", b"\xd5")] + [r(0x01020304, b"U", block(b"x")), r(0x81828384, b"H"), bytes(range(246, 256)) + bytes(4) + b"E", bytes(14), bytes(15), r(1, b"H")[:-1], r(1, b"U", b"\1\0" + bytes(255)), r(1, b"U", b"\1\0" + bytes(256))]
+    return d + [r(7, b"H", bytes(65517)), r(7, b"H", bytes(65516)), r(7, b"U", b"\xff\xf0" + bytes(65515))]

@@ -211,5 +211,9 @@ void flight_pits(u64 pits);
 void flight_entries(u64 entries);
 /* Cuts or damages the log that was made. */
 void flight_damage(void);
+/* Of one message that is no list: a Ping, of two numbers. */
+void flight_ping(void);
+/* More entries behind those that there are. */
+void flight_more(u64 entries);
 
 #endif
