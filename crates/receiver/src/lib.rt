@@ -57,7 +57,8 @@ enum Plan {
     Refuse(u32),
     Again,
     Deliver(Header),
-    Hold(Seat, Header),
+    // the header first, as in Deliver: it then lies at one place in both
+    Hold(Header, Seat),
 }
 
 // ---- what changes in the state
@@ -233,13 +234,13 @@ fn plan_for(state: &mut [u64], names: &mut [u8], sender: u64, verdict: Verdict) 
         Verdict::Again => Plan::Again,
         Verdict::Deliver(h) => Plan::Deliver(h),
         Verdict::Join(s, h) => Plan::Hold(
+            h,
             Seat {
                 at: s,
                 emptied: Emptied::Nobody,
             },
-            h,
         ),
-        Verdict::Begin(h) => Plan::Hold(begin(state, names, sender, h), h),
+        Verdict::Begin(h) => Plan::Hold(h, begin(state, names, sender, h)),
     }
 }
 
@@ -267,7 +268,7 @@ fn settle(state: &mut [u64], names: &mut [u8], sender: u64, plan: Plan, d: &[u8]
         Plan::Refuse(n) => stay(Answer::Refused(n)),
         Plan::Again => stay(Answer::Repeat),
         Plan::Deliver(h) => small(state, sender, h, d),
-        Plan::Hold(seat, h) => {
+        Plan::Hold(h, seat) => {
             let at = seat.at;
             let gone = seat.emptied;
             put(state, names, at, h, d, gone)
@@ -297,7 +298,7 @@ fn store_in(store: &mut [u8], ledger: &mut [u32], room: u64, plan: Plan, d: &[u8
         Plan::Refuse(_) => {}
         Plan::Again => {}
         Plan::Deliver(_) => {}
-        Plan::Hold(seat, h) => {
+        Plan::Hold(h, seat) => {
             let at = seat.at;
             put_fragment(store, ledger, room as usize, at, h, d);
         }
