@@ -10,13 +10,15 @@ use verdict::Verdict;
 ghost use mathlib.Core.Path.{_≡_};
 ghost use mathlib.Core.Bool.{true};
 ghost use mathlib.Core.List.{List};
-ghost use Prim.Native.Nat.{ℕ, _<_, _≤_};
-ghost use lib.ListN.{length, getD};
-ghost use Rattle.datagram.specs.Limits.{maxPayload};
+ghost use Prim.Native.Nat.{ℕ, _+_, _<_, _≤_};
+ghost use lib.ListN.{length, getD, replicate};
+ghost use Rattle.wire.specs.Overlay.{overlay};
+ghost use Rattle.datagram.specs.Limits.{maxName, maxPayload};
 ghost use Rattle.datagram.specs.Said.{fragmentIn};
 ghost use Rattle.steps.specs.Limits.{slotCount};
 ghost use Rattle.steps.specs.Memory.{keyOf};
 ghost use Rattle.steps.specs.Slots.{noName};
+ghost use Rattle.slots.specs.Words.{blockWords};
 ghost use Rattle.receiver_state.specs.View.{stateWords};
 ghost use Rattle.receiver_state.specs.Inside.{Shaped, Ready, Told, namedIn, Remembers};
 ghost use Rattle.verdict.specs.Inside.{Possible};
@@ -63,6 +65,30 @@ enum Plan {
 
 // ---- what changes in the state
 
+// The words of a slot, from a place on, are zeros.
+fn clear_block(state: &mut [u64], b: usize)
+    requires { ⌜ b + blockWords ≤ length (now state) ⌝ }
+    ensures { λ _. ⌜ now (state .exit) ≡ overlay (now (state .entry)) b (replicate blockWords 0) ⌝ }
+{
+    let mut i: usize = 0;
+    while i < slots::BLOCK {
+        state[b + i] = 0;
+        i += 1;
+    }
+}
+
+// The bytes of a name, from a place on, are zeros.
+fn clear_name(names: &mut [u8], a: usize)
+    requires { ⌜ a + maxName ≤ length (now names) ⌝ }
+    ensures { λ _. ⌜ now (names .exit) ≡ overlay (now (names .entry)) a noName ⌝ }
+{
+    let mut i: usize = 0;
+    while i < datagram::MAX_NAME {
+        names[a + i] = 0;
+        i += 1;
+    }
+}
+
 // Slot s is freed: all zeros, and the turns of those opened after it fall by one.
 fn release(state: &mut [u64], names: &mut [u8], s: usize)
     requires { ⌜ (s < slotCount) × Shaped (now state) (now names) ⌝ }
@@ -70,10 +96,8 @@ fn release(state: &mut [u64], names: &mut [u8], s: usize)
 {
     let b = slots::HEAD + slots::BLOCK * s;
     let t = words::word(&*state, b + slots::TURN);
-    let zeros = [0u64; slots::BLOCK];
-    let blank = [0u8; datagram::MAX_NAME];
-    words::put_words(&mut *state, b, &zeros);
-    wire::put_bytes(names, datagram::MAX_NAME * s, &blank);
+    clear_block(&mut *state, b);
+    clear_name(names, datagram::MAX_NAME * s);
     slots::lower(state, t);
 }
 
