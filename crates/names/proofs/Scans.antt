@@ -74,6 +74,10 @@ next-low s x =
 pub scan-step : (s : Scan) (l : List ℕ) (i : ℕ) → i < length l → scan s (drop i l) ≡ scan (next s (getD l i 0)) (drop (i + 1) l)
 scan-step s l i h = ap (scan s) (drop-cons l i 0 h) ∙ ap (λ (n : ℕ). scan (next s (getD l i 0)) (drop n l)) (sym (add-one i))
 
+-- a byte that is a code point by itself
+pub plain-step : (l : List ℕ) (i : ℕ) → i < length l → within 32 126 (getD l i 0) ≡ true → scan start (drop i l) ≡ scan start (drop (i + 1) l)
+plain-step l i h e = scan-step start l i h ∙ ap (λ (s : Scan). scan s (drop (i + 1) l)) (rw e)
+
 pub scan-end : (s : Scan) (l : List ℕ) (i : ℕ) → length l ≤ i → scan s (drop i l) ≡ s
 scan-end s l i h = ap (scan s) (drop-of-length-le l h)
 

@@ -60,7 +60,12 @@ pour-noted-requires-2 : tie.Need-pour-noted-requires-2
 pour-noted-requires-2 c κs = search needs
 
 pour-messages-requires : tie.Need-pour-messages-requires
-pour-messages-requires c κs = search needs
+pour-messages-requires c κs =
+    let d = c .before .before .before in
+    let o = d .before .before .before .before in
+    let s = o .before .before .before .before .before in
+    let r = s .before .before .before .before in
+    sym (ap reads (r .read .given .1)) ∙ r .before .before .read-packet .ensures
 
 slice-aggregate-pour-3 : tie.Need-slice-aggregate-pour-3
 slice-aggregate-pour-3 c = search needs
