@@ -1,6 +1,7 @@
 pub mod Limits
 pub mod Run
 pub mod Table
+pub mod Packed
 pub mod Walk
 pub mod Value
 pub mod Read
