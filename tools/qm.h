@@ -1,16 +1,10 @@
-/* What the commands of qm share: files in memory, a walk over a log's entries, messages, and the few functions of the C library that they use; the
-   toolchain ships the library without its headers. Programs are x86-64 Linux, and so are these numbers. */
+/* What the parts of qm share: its commands, files in memory, what is said, and a walk over a log's entries. */
 
 #ifndef QM_TOOL_H
 #define QM_TOOL_H
 
 #include "../include/quartzmitten.h"
-
-int printf(const char *format, ...);
-int fprintf(void *file, const char *format, ...);
-int fflush(void *file);
-int strcmp(const char *a, const char *b);
-extern void *stderr;
+#include "system.h"
 
 /* The status of the program. */
 enum {
@@ -19,6 +13,22 @@ enum {
     USAGE = 2,     /* called otherwise than --help says */
     REFUSED = 3    /* the log was refused, by the number printed */
 };
+
+/* ---- how it is called */
+
+enum { LIST, REPLAY, GAPS, COUNT, INDEX, FIND, KEEP, COMMANDS };
+
+struct command {
+    const char *name, *takes, *does, *option, *says;
+    int operands;
+};
+extern const struct command commands[COMMANDS];
+
+/* Writes how qm, or that command of it, is called; with DONE also what it does. Answers the status given. */
+int usage(FILE *to, int status);
+int command_usage(FILE *to, unsigned i, int status);
+
+/* ---- files */
 
 /* A file as it lies on disk, of any size. */
 struct mapped {
@@ -29,6 +39,8 @@ struct mapped {
 /* DONE and the file, or FAILED with the reason said. The second takes a file that is open. */
 int map_file(const char *command, const char *path, struct mapped *m);
 int map_open_file(const char *command, const char *path, int file, struct mapped *m);
+
+/* ---- what is said */
 
 /* DONE where all that was printed went out, or FAILED with the reason said. */
 int printed(const char *command);
