@@ -39,13 +39,13 @@ def parts_line(letter, c, p, m, k, front):
     return f"name:{name.hex()} payload:{payload.hex()}"
 
 
-def watch_line(claims, last, sender, number):
-    """A watch that claims so many senders, of 1 to 16, each at the same last number."""
+def watch_line(claims, last, sender, number, step=0):
+    """A watch that claims so many senders, of 1 to 16, each with its last number the step above that of the one before it."""
     if claims > 16:
         return "refused 14"
     if not 1 <= sender <= claims:
         return "first" if claims < 16 else "refused 14"
-    d = (number - last + 2**31) % 2**32 - 2**31
+    d = (number - last - step * (sender - 1) + 2**31) % 2**32 - 2**31
     return f"forward {d - 1}" if d > 0 else "same" if d == 0 else f"late {-d}" if -d <= 1024 else f"restarted {number}"
 
 
@@ -179,8 +179,10 @@ def writer_cases():
     # packets: no room at all, one byte short, just room; 52 and 53 before 55; then each message, the first, the last and the one after it; 50, 51, 53 before 54
     d += [(NTH, kind, m, count, room, 65507, 0) for kind, m, count, room in [(u, 3, 2, 0), (u, 3, 2, 28), (u, 3, 2, 29), (u, 0, 0, 18), (u, 0, 0, 19), (h, 0, 0, 18), (h, 0, 0, 19), (ord("u"), 3, 2, 5), (h, 3, 2, 5), (ord("E"), 3, 1, 40)]]
     d += [(NTH, u, m, count, 65507, front, n) for m, count, front, n in [(3, 2, 65507, 1), (3, 2, 65507, 2), (3, 2, 65507, 2**64 - 1), (0, 3, 65507, 2), (0, 3, 65507, 3), (0, 0, 65507, 0), (300, 2, 65507, 1), (3, 2, 18, 5), (3, 2, 28, 5), (3, 2, 19, 0)]] + [(NTH, h, 0, 0, 65507, 65507, 0)]
-    # blocks: a lone number, a run, both, none; 75 and 77 before 76; 65,502 and 65,535 bytes are more than the output, 65,529 too
-    d += [(ACKED, first, step, count, room) for first, step, count, room in [(7, 2, 1, 8), (7, 2, 1, 9), (7, 2, 2, 17), (7, 2, 2, 18), (7, 1, 2, 16), (7, 1, 2, 17), (7, 1, 0, 0), (7, 0, 2, 0), (7, 0, 2, 65507), (2**64 - 1, 1, 2, 65507), (7, 2, 7278, 65501), (7, 2, 7278, 65502), (7, 2, 7281, 65507), (7, 2, 7282, 65507), (7, 2, 7282, 0), (7, 1, 7282, 17)]]
+    # blocks: a lone number, a run, both, none; 75 and 77 before 76; 65,502 bytes fit the output, 65,529 do not
+    blocks = [(7, 2, 1, 8), (7, 2, 1, 9), (7, 2, 2, 17), (7, 2, 2, 18), (7, 1, 2, 16), (7, 1, 2, 17), (7, 1, 0, 0), (7, 0, 2, 0), (7, 0, 2, 65507), (2**64 - 1, 1, 2, 65507)]
+    blocks += [(7, 2, 7278, 65501), (7, 2, 7278, 65502), (7, 2, 7281, 65507), (7, 2, 7282, 65507), (7, 2, 7282, 0), (7, 1, 7282, 17)]
+    d += [(ACKED,) + b for b in blocks]
     # messages: a Ping, with and without its sum, one byte short and just room; every other refusal before 13
     d += [(MADE, c, room, 1, 1) for c in (0, 1) for room in (0, 12, 26, 27, 28)] + [(MADE, 1, 0) + l for l in [(), (3,), (1,), (1, 0), (1, 8), (1, 1, 1), (1, 6, 1, 128, 0), (1, 4, 1, 2), (1, 6, 0) + (6, 0) * 16]]
     return d + [(MADE, 1, room, 2, 5, 9, 1, 4, 77, 1, 0, 40) for room in (57, 58, 59)]
@@ -196,6 +198,8 @@ def unmade_cases():
                   ((2, COUNT_WORD, 0), (2, SEQUENCE_WORD, 5), none, none), ((0, COUNT_WORD, 0), (0, SIZE_WORD, 99), none, none), ((3, SIZE_WORD, 9), none, none, none), ((3, SIZE_WORD, 3), none, none, none)]:
         d += [(TIED,) + sum(words, ()) + last for last in [(2, 1, 2), (5, 1, 2), (6, 1, 2), (3, 1, 2), (50, 0, 1), (50, 0, 2), (50, 1, 2), (5, 0, 2), (2, 1, 3)]]
     last = [(LAST_KEYS, 32, NONE, 0), (LAST_KEYS, 33, NONE, 0), (LAST_SIZE, 8, LAST_COUNT, 1), (LAST_SIZE, 9, LAST_COUNT, 1), (LAST_SIZE, 8, LAST_COUNT, 1024), (LAST_SIZE, 8, LAST_COUNT, 1025), (LAST_SIZE, 9, LAST_COUNT, 0)]
+    # each sender is watched by its own last number
+    d += [(WATCH, 16, 2**32 - 50, s, n, 100) for s in (1, 2, 15, 16, 17) for n in (2**32 - 49, 51, 50, 1351, 1450, 1451, 1200)]
     return d + [(RECEIVE, RIGHT, RIGHT, STORE, LEDGER) + w for w in last] + [(FORGET, RIGHT, RIGHT) + w for w in last]
 
 
