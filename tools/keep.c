@@ -9,13 +9,14 @@ long pwrite(int file, const void *from, unsigned long length, long at);
 int ftruncate(int file, long length);
 int fdatasync(int file);
 int flock(int file, int how);
+int fcntl(int file, int what, ...);
 int munmap(void *at, unsigned long length);
 void *signal(int number, void (*handler)(int));
 void *memmove(void *to, const void *from, unsigned long length);
 int *__errno_location(void);
 char *strerror(int number);
 
-enum { READ_WRITE = 2, CREATE = 0100, MODE = 0644, ALONE = 2, AT_ONCE = 4, INTERRUPTED = 4, TOO_LARGE_SIGNAL = 25 };
+enum { READ_WRITE = 2, CREATE = 0100, MODE = 0644, ALONE = 2, AT_ONCE = 4, INTERRUPTED = 4, TOO_LARGE_SIGNAL = 25, SET_PIPE_SIZE = 1031 };
 
 /* A record: sender, tick, length, and the bytes. An entry has at most 30 bytes more than its datagram. */
 enum { HEAD = 8 + 8 + 2, MAX_DATAGRAM = 65535, MOST_MORE = 30 };
@@ -117,7 +118,8 @@ static int keep_all(struct keeper *k) {
         qm_size taken = put_records(k, length, &status);
         if (status != DONE || acknowledge(k) != DONE) return FAILED;
         length -= taken;
-        memmove(input, input + taken, length);
+        /* a record that comes a byte at a time is not moved at each byte */
+        if (taken > 0) memmove(input, input + taken, length);
         long came = read(0, input + length, sizeof input - length);
         if (came < 0 && *__errno_location() == INTERRUPTED) continue;
         if (came < 0) return failed("keep", "standard input");
@@ -140,6 +142,8 @@ int keep_command(const char *path, int synced) {
     }
     /* a file over the system's limit is a failure to write like others */
     signal(TOO_LARGE_SIGNAL, (void (*)(int)) 1);
+    /* a pipe then holds as much as one turn reads, so that one sync is for all records that wait; where standard input is no pipe, nothing happens */
+    fcntl(0, SET_PIPE_SIZE, (int) sizeof input);
     int status = resume(&k);
     return status == DONE ? keep_all(&k) : status;
 }
