@@ -103,7 +103,8 @@ static int keep_all(struct keeper *k) {
         qm_size taken = put_records(k, length, &status);
         if (status != DONE || acknowledge(k) != DONE) return FAILED;
         length -= taken;
-        memmove(input, input + taken, length);
+        /* a record that comes a byte at a time is not moved at each byte */
+        if (taken > 0) memmove(input, input + taken, length);
         long came = read(0, input + length, sizeof input - length);
         if (came < 0 && *__errno_location() == INTERRUPTED) continue;
         if (came < 0) return failed("keep", "standard input");
@@ -126,6 +127,8 @@ int keep_command(const char *path, int synced) {
     }
     /* a file over the system's limit is a failure to write like others */
     signal(FILE_TOO_LARGE, PASSED_OVER);
+    /* a pipe then holds as much as one turn reads, so that one sync is for all records that wait; where standard input is no pipe, nothing happens */
+    fcntl(0, PIPE_SIZE, (int) sizeof input);
     int status = resume(&k);
     return status == DONE ? keep_all(&k) : status;
 }

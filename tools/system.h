@@ -51,9 +51,10 @@ long lseek(int file, long by, int from);
 int ftruncate(int file, long length);
 int fdatasync(int file);
 int flock(int file, int how);
+int fcntl(int file, int what, ...);
 int isatty(int file);
 int close(int file);
-enum { TO_READ = 0, TO_READ_AND_WRITE = 2, CREATED = 0100, FOR_ALL_TO_READ = 0644, FROM_END = 2, ALONE = 2, AT_ONCE = 4 };
+enum { TO_READ = 0, TO_READ_AND_WRITE = 2, CREATED = 0100, FOR_ALL_TO_READ = 0644, FROM_END = 2, ALONE = 2, AT_ONCE = 4, PIPE_SIZE = 1031 };
 
 /* ---- the process: its end, its errors, signals and the time */
 
