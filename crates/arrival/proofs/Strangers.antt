@@ -26,7 +26,7 @@ use Rattle.steps.specs.Memory.{keyOf, isRemembered}
 use Rattle.steps.specs.Slots.{Slot, busy, findOpen, opening, seat}
 use Rattle.steps.specs.Receive.{Machine, After, stay, step5, beginAt, receive, sound, step, sequenceOf}
 use Rattle.steps.specs.Runs.{World, worldOf, Arrival, keyIn, call}
-use Rattle.steps.specs.Reach.{found, isOpen}
+use Rattle.steps.specs.Reach.{found, isOpen, isAccepted}
 use Rattle.steps.proofs.Quick.{step5-ledger}
 use Rattle.steps.proofs.Tables.{not-true, not-false, and-no, all-at, all-of, all-none, all-cong}
 use Rattle.steps.proofs.Seats.{unturned, look, busyAt, set-there, set-here}
@@ -35,7 +35,7 @@ use Rattle.steps.proofs.Branches.{step-unsound, step-sound, receive-refused, fr
 use Rattle.steps.proofs.Ranks.{Sat}
 use Rattle.steps.proofs.Reaches.{Good, Tidy, reached-good, seat-sat, begun-tidy, begun-busy, step-good}
 use Rattle.arrival.specs.Demand.{Message, key, parts, datagram, handed}
-use Rattle.arrival.specs.Strangers.{Start, part, isAccepted, Begins, Event, comes, forgets, Feed, begun, _▹_, after, isPart, isOwn, acceptsForeign, noForeign, opensOther, openings, come, complete, notForgotten, Supposed, its, handsOver, Promised, Strangers}
+use Rattle.arrival.specs.Strangers.{Start, part, Begins, Event, comes, forgets, Feed, begun, _▹_, after, isPart, isOwn, acceptsForeign, noForeign, opensOther, openings, come, complete, notForgotten, Supposed, its, handsOver, Promised, Strangers}
 use Rattle.arrival.proofs.Within.{fragment-within, small-within}
 use Rattle.arrival.proofs.Pieces.{fragmentSaid, piece, Cut, cut-within}
 use Rattle.arrival.proofs.Joining.{Holds, holds-move, holds-open}

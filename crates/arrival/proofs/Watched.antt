@@ -31,7 +31,7 @@ use Rattle.steps.specs.Memory.{keyOf, sameKey, isRemembered, remember}
 use Rattle.steps.specs.Slots.{Slot, busy, slotAt, findOpen, release, opening, filled, allHeld, padded, seat, releaseOf}
 use Rattle.steps.specs.Receive.{Machine, After, stay, placeOf, storeWith, ledgerWith, Verdict, step3, step5, beginAt, act, receive, step, forget, sequenceOf}
 use Rattle.steps.specs.Runs.{World, lending, worldOf, Arrival, from, keyIn, call}
-use Rattle.steps.specs.Reach.{found, isOpen, isStored, opensSlot}
+use Rattle.steps.specs.Reach.{found, isOpen, isStored, opensSlot, isAccepted}
 use Rattle.steps.proofs.Tables.{all-at, all-cong, or-not, or-yes}
 use Rattle.steps.proofs.Memories.{same-key, key-same, whole-ok, remember-other, forget-other}
 use Rattle.steps.proofs.Seats.{unturned, look, busyAt, keyAt, Found, open-found, open-none, same-its-key, set-there, set-here}
@@ -41,7 +41,7 @@ use Rattle.steps.proofs.Branches.{Course, unmoved, given, joined, begun, course
 use Rattle.steps.proofs.Ranks.{Ranks, Shrunk, Sat}
 use Rattle.steps.proofs.Reaches.{Good, Tidy, good-sound, good-form, seat-sat, begun-tidy, begun-busy, step-good, good-released, forget-good}
 use Rattle.arrival.specs.Demand.{Message, key, parts, datagram, handed, handedBy, nameIn, Delivery}
-use Rattle.arrival.specs.Strangers.{part, isAccepted, isOwn, isForeign, acceptsForeign, opensOther, its, handsOver}
+use Rattle.arrival.specs.Strangers.{part, isOwn, isForeign, acceptsForeign, opensOther, its, handsOver}
 use Rattle.arrival.proofs.Pieces.{piece, Cut, piece-end, payload-fits, few-parts}
 use Rattle.arrival.proofs.Joining.{Holds, holds-move, holds-open, holds-put, whole-bytes, arrives-again, arrives-new}
 use Rattle.arrival.proofs.Newer.{newer, newer-filled, newest}
@@ -60,7 +60,7 @@ differs : (a b : Key) → a ≢ b → sameKey a b ≡ false
 differs a b n = elim (either (sameKey a b)) [ inl e ↦ absurd (n (same-key a b e)) | inr e ↦ e ]
 
 -- what is stored is accepted
-stored-accepted : (a : Answer) → isStored a ≡ true → isAccepted a ≡ true
+pub stored-accepted : (a : Answer) → isStored a ≡ true → isAccepted a ≡ true
 stored-accepted (Refused n) e = e
 stored-accepted Kept e = refl
 stored-accepted Repeat e = e

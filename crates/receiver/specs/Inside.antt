@@ -4,6 +4,7 @@ use mathlib.Core.Bool.{true}
 use mathlib.Core.List.{List}
 use Prim.Native.Nat.{ℕ, _+_, _*_, _≤_, _<_}
 use lib.ListN.{length, getD, set}
+use Rattle.wire.specs.Slices.{Buffer}
 use Rattle.datagram.specs.Limits.{maxPayload}
 use Rattle.datagram.specs.Read.{partOf}
 use Rattle.datagram.specs.Said.{Fragment, fragmentIn}

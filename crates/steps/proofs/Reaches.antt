@@ -40,7 +40,7 @@ pub record Tidy (C : ℕ) (slots : List Slot) (memory : Memory) : Type 0 where
   pub not-both : (s : ℕ) → s < slotCount → busyAt slots s ≡ true → isRemembered memory (keyAt slots s) ≡ false
   pub ranks : Ranks slots
 
-other-key : (a b : Key) → a ≢ b → sameKey a b ≡ false
+pub other-key : (a b : Key) → a ≢ b → sameKey a b ≡ false
 other-key a b n = elim (either (sameKey a b)) [ inl e ↦ absurd (n (same-key a b e)) | inr e ↦ e ]
 
 slot-ok : (C : ℕ) (x : Slot) → x .size ≤ C → x .count ≤ maxFragments → slotOk C x ≡ true

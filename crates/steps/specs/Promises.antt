@@ -1,9 +1,10 @@
--- What calls promise besides, said for the theorems of proofs/: refusal 9's list, what forget leaves, what a fragment of an open key has. Definitions only.
+-- What calls promise besides, said for the theorems of proofs/: where a delivered payload lies, refusal 9's list, what forget leaves, what a fragment of an
+-- open key has. Definitions only.
 use mathlib.Core.Path.{_≡_}
 use mathlib.Core.Logic.{_≢_, _⊎_}
 use mathlib.Core.Bool.{true, false}
 use mathlib.Core.List.{List}
-use Prim.Native.Nat.{ℕ, _<_}
+use Prim.Native.Nat.{ℕ, _+_, _≤_, _<_}
 use lib.ListN.{length, take, drop}
 use Rattle.datagram.specs.Limits.{maxFragments}
 use Rattle.datagram.specs.Said.{Fragment}
@@ -11,7 +12,13 @@ use Rattle.steps.specs.Limits.{slotCount, sendersMost, keysEach, ledgerL
 use Rattle.steps.specs.Held.{isHeld}
 use Rattle.steps.specs.Memory.{Key, Memory, placeAt, isRemembered}
 use Rattle.steps.specs.Slots.{Slot, busy, slotAt, padded}
-use Rattle.steps.specs.Receive.{Machine, offsetOf, lengthOf, placeOf}
+use Rattle.steps.specs.Receive.{Machine, PayloadAt, offsetOf, lengthOf, placeOf}
+use Rattle.steps.specs.Answers.{holder, beginsAt, payloadAt}
+
+-- a payload of n bytes at p: all of it lies in what holds it, and so many bytes are handed over
+pub record Lies (d store : List ℕ) (p : PayloadAt) (n : ℕ) : Type 0 where
+  pub inside : beginsAt p + n ≤ length (holder d store p)
+  pub long : length (take n (payloadAt d store p)) ≡ n
 
 -- over 16 remembered senders, or over 32 keys for one
 pub data Crowded (m : Memory) : Type 0 where

@@ -2,7 +2,7 @@
 use mathlib.Core.Bool.{Bool, true, false, not, _&&_, _||_}
 use mathlib.Core.Option.{Option, none, some}
 use mathlib.Core.List.{List, [], _∷_}
-use Prim.Native.Nat.{ℕ, suc, _+_, _*_}
+use Prim.Native.Nat.{ℕ, suc, _+_, _*_, min}
 use lib.Dec.{eqb, leb, ltb}
 use lib.ListN.{length, getD, set, take, drop, replicate}
 use Rattle.wire.specs.Choice.{pick, _when_else_}
@@ -227,6 +227,13 @@ unfoldable pub step : Machine → List ℕ → List ℕ → ℕ → List ℕ →
 step m store ledger sender d =
     pick (sound m (length store) (length ledger))
     (receive m store ledger sender (said (m .slotSize) maxFragments d))
+    (stay m store ledger (Refused 9))
+
+-- The call within further limits, of a payload and of its fragments: they bind beside C and 1,024, by 6 and 5 (document 02, L10).
+unfoldable pub stepWithin : ℕ → ℕ → Machine → List ℕ → List ℕ → ℕ → List ℕ → After
+stepWithin payload fragments m store ledger sender d =
+    pick (sound m (length store) (length ledger))
+    (receive m store ledger sender (said (min (m .slotSize) payload) (min maxFragments fragments) d))
     (stay m store ledger (Refused 9))
 
 -- ---- forget
