@@ -129,16 +129,17 @@ class Project:
 
     @cached_property
     def promises(self):
-        """The theorems that docs/TRUST.md has in the last column of its table: `name`, .. of one crate, or `name`, .. (`crate`), parts by `;`."""
+        """The theorems that docs/TRUST.md has beside the demands, in the third column: `name`, .. or `name`, .. (`crate`), parts by `;`."""
         with open(os.path.join(self.root, "docs/TRUST.md"), encoding="utf8") as f:
-            cells = [row.split(" | ")[-1] for row in f.read().split("\n") if row.startswith("|")]
-        out = []
-        for part in ";".join(cells).split(";"):
+            rows = [row.split(" | ") for row in f.read().split("\n") if row.startswith("|")]
+        out = {}
+        for part in ";".join(cells[2] for cells in rows if len(cells) == 3).split(";"):
             words = re.findall(r"`([^`]+)`", part)
             crate = words[-1] if words and words[-1] in self.crates else None
-            for word in words:
-                out += [self.statement(t) for t in self.theorems.get(word, []) if crate in (None, t.file.crate)]
-        return out
+            for theorem in (t for word in words for t in self.theorems.get(word, [])):
+                if crate in (None, theorem.file.crate):
+                    out[theorem.key] = self.statement(theorem)
+        return list(out.values())
 
     def statement(self, theorem):
         """A theorem without its proof, as an item."""
