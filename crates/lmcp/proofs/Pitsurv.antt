@@ -52,11 +52,3 @@ row-fit v i h e = subst RowFits (sym e) (row-fits (rowsOf (pitsurv v)) (rows-fit
 
 pub sound : (v : ℕ) → v < 256 ^ 2 → Sound (pitsurv v)
 sound v h = record { version-fits = h; types-fit = lit≤ tt; rows-fit = rows-fit v }
-
--- ---- the rows and their beginnings, by the edition
-
-pub rows-are : (v i : ℕ) (two : Bool) → second v ≡ two → getD (joined (typesOf two)) i nothing ≡ getD (rowsOf (pitsurv v)) i nothing
-rows-are v i two e = ap (λ (t : Bool). getD (joined (typesOf t)) i nothing) (sym e)
-
-pub starts-are : (v t : ℕ) (two : Bool) → second v ≡ two → getD (beginnings 0 (typesOf two)) t 0 ≡ getD (startsOf (pitsurv v)) t 0
-starts-are v t two e = ap (λ (b : Bool). getD (beginnings 0 (typesOf b)) t 0) (sym e)

@@ -1,10 +1,10 @@
 // Survey messages: the message table of series PITSURV, and what the reader and the writer answer.
 ghost use mathlib.Core.Path.{_≡_};
-ghost use Prim.Native.Nat.{_-_, _*_, _^_, min};
+ghost use Prim.Native.Nat.{_-_, _*_, _^_, _<_, min};
 ghost use lib.ListN.{length, getD};
 ghost use lib.Signed.{mag};
 ghost use Rattle.lmcp.specs.Table.{pitsurv, rowsOf, startsOf, nothing};
-ghost use Rattle.lmcp.specs.Packed.{packedOf};
+ghost use Rattle.lmcp.specs.Packed.{packedOf, cell};
 ghost use Rattle.lmcp.specs.Read.{typed};
 
 // The longest whole message, in bytes.
@@ -62,181 +62,6 @@ pub enum Made {
     Refused(u32),
 }
 
-const INT16: Row = Row {
-    count: 0,
-    fixed: 1,
-    kind: SIGNED_KIND,
-    arg: 2,
-};
-
-const INT32: Row = Row {
-    count: 0,
-    fixed: 1,
-    kind: SIGNED_KIND,
-    arg: 4,
-};
-
-const INT64: Row = Row {
-    count: 0,
-    fixed: 1,
-    kind: SIGNED_KIND,
-    arg: 8,
-};
-
-// In centimetres.
-const DEPTH_ROW: Row = INT16;
-
-const UINT16: Row = Row {
-    count: 0,
-    fixed: 1,
-    kind: UNSIGNED_KIND,
-    arg: 2,
-};
-
-const UINT32: Row = Row {
-    count: 0,
-    fixed: 1,
-    kind: UNSIGNED_KIND,
-    arg: 4,
-};
-
-const BOOL: Row = Row {
-    count: 0,
-    fixed: 1,
-    kind: BOOL_KIND,
-    arg: 1,
-};
-
-// Its bits, not negative.
-const REAL32: Row = Row {
-    count: 0,
-    fixed: 1,
-    kind: UNSIGNED_KIND,
-    arg: 4,
-};
-
-// The signed number with the same bits.
-const REAL64: Row = Row {
-    count: 0,
-    fixed: 1,
-    kind: SIGNED_KIND,
-    arg: 8,
-};
-
-const BYTES4: Row = Row {
-    count: 0,
-    fixed: 4,
-    kind: UNSIGNED_KIND,
-    arg: 1,
-};
-
-const STRING: Row = Row {
-    count: 2,
-    fixed: 0,
-    kind: CHAR_KIND,
-    arg: 1,
-};
-
-const PLACE: Row = Row {
-    count: 0,
-    fixed: 1,
-    kind: OBJECT_KIND,
-    arg: 2,
-};
-
-const TILE_HEAD: Row = Row {
-    count: 0,
-    fixed: 1,
-    kind: OBJECT_KIND,
-    arg: 3,
-};
-
-const PIT_MARKS: Row = Row {
-    count: 2,
-    fixed: 0,
-    kind: OBJECT_KIND,
-    arg: 4,
-};
-
-// The same with its count in 4 bytes.
-const MANY_PIT_MARKS: Row = Row {
-    count: 4,
-    fixed: 0,
-    kind: OBJECT_KIND,
-    arg: 4,
-};
-
-const LMCP_OBJECT: Row = Row {
-    count: 0,
-    fixed: 1,
-    kind: OBJECT_KIND,
-    arg: 0,
-};
-
-// Series PITSURV, version 1: the fields of one type after the other.
-const FIRST: [Row; 19] = [
-    // 2 Place: lat, lon, height
-    INT32,
-    INT32,
-    INT16,
-    // 3 TileHead: tile, column, row, corner
-    UINT32,
-    UINT16,
-    UINT16,
-    PLACE,
-    // 4 PitMark: pit, sure, at
-    UINT32,
-    BOOL,
-    PLACE,
-    // 5 PitList: tile, pits
-    UINT32,
-    PIT_MARKS,
-    // 6 Note: text, about
-    STRING,
-    LMCP_OBJECT,
-    // 7 Frame: camera, stamp, tilt, tick, head
-    BYTES4,
-    REAL64,
-    REAL32,
-    INT64,
-    TILE_HEAD,
-];
-
-// Version 2: PitMark has a depth at its end, and PitList its count in 4 bytes.
-const SECOND: [Row; 20] = [
-    // 2 Place: lat, lon, height
-    INT32,
-    INT32,
-    INT16,
-    // 3 TileHead: tile, column, row, corner
-    UINT32,
-    UINT16,
-    UINT16,
-    PLACE,
-    // 4 PitMark: pit, sure, at, depth
-    UINT32,
-    BOOL,
-    PLACE,
-    DEPTH_ROW,
-    // 5 PitList: tile, pits
-    UINT32,
-    MANY_PIT_MARKS,
-    // 6 Note: text, about
-    STRING,
-    LMCP_OBJECT,
-    // 7 Frame: camera, stamp, tilt, tick, head
-    BYTES4,
-    REAL64,
-    REAL32,
-    INT64,
-    TILE_HEAD,
-];
-
-// Where the rows of each type begin, null and Ping first, and at last where they all end.
-const FIRST_STARTS: [usize; 9] = [0, 0, 0, 3, 7, 10, 12, 14, 19];
-
-const SECOND_STARTS: [usize; 9] = [0, 0, 0, 3, 7, 11, 13, 15, 20];
-
 // What stands past the last row.
 const NOTHING: Row = Row {
     count: 0,
@@ -247,35 +72,6 @@ const NOTHING: Row = Row {
 
 // How many types there are, null among them.
 const TYPES: u64 = 8;
-
-// Row i of the table of a version.
-pub fn row_at(version: u64, i: usize) -> Row
-    ensures { λ r. ⌜ r ≡ getD (rowsOf (pitsurv version)) i nothing ⌝ }
-{
-    if version == 2 {
-        if i < 20 {
-            return SECOND[i];
-        }
-        return NOTHING;
-    }
-    if i < 19 {
-        return FIRST[i];
-    }
-    NOTHING
-}
-
-// Where the rows of type t begin; one past the last type, where they all end.
-pub fn start_of(version: u64, t: usize) -> usize
-    ensures { λ r. ⌜ r ≡ getD (startsOf (pitsurv version)) t 0 ⌝ }
-{
-    if t < 9 {
-        if version == 2 {
-            return SECOND_STARTS[t];
-        }
-        return FIRST_STARTS[t];
-    }
-    0
-}
 
 // ---- the table as bytes: made once a message and lent to the walks
 
@@ -442,7 +238,7 @@ pub const BEGINS: usize = 20;
 
 pub const ENDS: usize = 21;
 
-const FIRST_TABLE: [[u8; 8]; 22] = [
+const FIRST: [[u8; 8]; 22] = [
     LAT,
     LON,
     HEIGHT,
@@ -467,7 +263,7 @@ const FIRST_TABLE: [[u8; 8]; 22] = [
     [0, 0, 3, 7, 10, 12, 14, 19],
 ];
 
-const SECOND_TABLE: [[u8; 8]; 22] = [
+const SECOND: [[u8; 8]; 22] = [
     LAT,
     LON,
     HEIGHT,
@@ -497,9 +293,47 @@ pub fn table(version: u64) -> [[u8; 8]; 22]
     ensures { λ r. ⌜ r ≡ packedOf version ⌝ }
 {
     if version == 2 {
-        return SECOND_TABLE;
+        return SECOND;
     }
-    FIRST_TABLE
+    FIRST
+}
+
+// A byte of a table.
+fn entry(rows: &[[u8; 8]; 22], i: usize, k: usize) -> usize
+    requires { ⌜ (i < 22) × (k < 8) ⌝ }
+    ensures { λ r. ⌜ r ≡ cell (now (rows .entry)) i k ⌝ }
+{
+    wire::wide(rows[i][k]) as usize
+}
+
+// Row i of the table of a version.
+pub fn row_at(version: u64, i: usize) -> Row
+    ensures { λ r. ⌜ r ≡ getD (rowsOf (pitsurv version)) i nothing ⌝ }
+{
+    if i < BEGINS {
+        let rows = table(version);
+        return Row {
+            count: entry(&rows, i, COUNT),
+            fixed: entry(&rows, i, FIXED),
+            kind: rows[i][KIND],
+            arg: entry(&rows, i, ARG),
+        };
+    }
+    NOTHING
+}
+
+// Where the rows of type t begin; one past the last type, where they all end.
+pub fn start_of(version: u64, t: usize) -> usize
+    ensures { λ r. ⌜ r ≡ getD (startsOf (pitsurv version)) t 0 ⌝ }
+{
+    let rows = table(version);
+    if t < 8 {
+        return entry(&rows, BEGINS, t);
+    }
+    if t == 8 {
+        return entry(&rows, ENDS, 7);
+    }
+    0
 }
 
 // Whether n is a type of the table, and the declared one unless any may stand there.
