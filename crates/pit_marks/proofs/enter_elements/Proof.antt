@@ -45,7 +45,7 @@ returns c =
     let d = drop (l .loop .place) (a .list .now) in
     let q = marks-turn (a .two) (a .list .now) (l .loop .place) (markLength (a .two) d) (omega arith) refl in
     as-said (sym (l .loop .inv .2) ∙ ap (λ (ms : List Mark). enterMarks (a .tile) ms (l .loop .pits) (l .loop .sure) (l .loop .now)) q)
-    (then-refused (a .tile) (markAt d) _ (l .loop .pits) (l .loop .sure) (l .loop .now) _ _ _ (n .enter-element .ensures) _ (c .enum-told .given .1))
+    (then-refused (a .tile) (markAt d) _ (l .loop .pits) (l .loop .sure) (l .loop .now) _ _ _ (n .enter-element .ensures) _ _ (c .enum-told .given .1))
 
 element-length-requires : tie.Need-element-length-requires Inv-loop μ-loop
 element-length-requires c κs = search needs

@@ -1,4 +1,5 @@
 -- A list: its tile before its pits. Assumes nothing.
+use Rattle.pit_marks.specs.Sets.{setsOf}
 use Rattle.pit_marks.proofs.Cases.{tile-full, tile-now}
 use borrow.Author.Needs.{needs}
 use Rattle.pit_marks.proofs.enter_list.Statement.{statement}
@@ -24,7 +25,7 @@ returns c =
     let e = c .before .before .before .before in
     let n = e .before .before in
     let a = n .before .before .before .before .args in
-    tile-full (a .list .now) (a .tiles .now) (a .pits .now) (a .sure .now) (a .had) (n .number-at .result) (n .number-at .ensures) (e .enter .result) _ (e .enter .ensures)
+    tile-full (a .list .now) (setsOf (a .tiles .now) (a .pits .now) (a .sure .now)) (a .had) (n .number-at .result) (n .number-at .ensures) (e .enter .result) _ (e .enter .ensures)
     (c .enum-told .given .1)
 
 number-at-requires-2 : tie.Need-number-at-requires-2
@@ -49,7 +50,7 @@ returns-2 c =
     let e = m .before .before .before .before .before .before in
     let n = e .before .before in
     let a = n .before .before .before .before .args in
-    tile-now (a .list .now) (a .tiles .now) (a .pits .now) (a .sure .now) (a .had) (n .number-at .result) (n .number-at .ensures) (e .enter .result) _ (e .enter .ensures)
+    tile-now (a .list .now) (setsOf (a .tiles .now) (a .pits .now) (a .sure .now)) (a .had) (n .number-at .result) (n .number-at .ensures) (e .enter .result) _ (e .enter .ensures)
     _ (m .before .before .entered .given .1) (m .number-at2 .result) (m .number-at2 .ensures) _ _ _ (k .enter-elements .ensures)
 
 pub enter-list-spec : {M : Type 1} → statement M

@@ -1,6 +1,7 @@
 -- By whether the numbers are a list's, and what entering it answers. Assumes nothing.
 use mathlib.Core.Path.{_≡_, refl, sym, ap}
 use borrow.Author.Tests.{not-true, not-false}
+use Rattle.pit_marks.specs.Sets.{setsOf}
 use Rattle.pit_payloads.specs.Looks.{lookedBy}
 use Rattle.pit_payloads.proofs.Cases.{no-list, is-list}
 use borrow.Author.Needs.{needs}
@@ -15,7 +16,7 @@ returns c =
     let at-is-list = c .before in
     let start = at-is-list .before .before .before .before in
     let a = start .args in
-    no-list (a .list .now) (a .tiles .now) (a .pits .now) (a .sure .now) (a .had) _ (at-is-list .is-list .result) (at-is-list .is-list .ensures) (not-true _ (c .if1 .taken)) refl
+    no-list (a .list .now) (setsOf (a .tiles .now) (a .pits .now) (a .sure .now)) (a .had) _ (at-is-list .is-list .result) (at-is-list .is-list .ensures) (not-true _ (c .if1 .taken)) refl
 
 enter-list-requires : tie.Need-enter-list-requires
 enter-list-requires c κs = search needs
@@ -43,8 +44,8 @@ returns-2 c =
     let at-is-list = at-if1 .before in
     let start = at-is-list .before .before .before .before in
     let a = start .args in
-    is-list (a .list .now) (a .tiles .now) (a .pits .now) (a .sure .now) (a .had) _ (at-is-list .is-list .result) (at-is-list .is-list .ensures) (not-false _ (at-if1 .if1 .left))
-    _ _ _ (at-enter-list .enter-list .result) (at-enter-list .enter-list .ensures) (ap lookedBy (sym (at-taken .taken .given .1)))
+    is-list (a .list .now) (setsOf (a .tiles .now) (a .pits .now) (a .sure .now)) (a .had) _ (at-is-list .is-list .result) (at-is-list .is-list .ensures) (not-false _ (at-if1 .if1 .left))
+    _ (at-enter-list .enter-list .result) (at-enter-list .enter-list .ensures) (ap lookedBy (sym (at-taken .taken .given .1)))
 
 same-length-4 : tie.Need-same-length-4
 same-length-4 c = search needs
@@ -63,8 +64,8 @@ returns-3 c =
     let at-is-list = at-if1 .before in
     let start = at-is-list .before .before .before .before in
     let a = start .args in
-    is-list (a .list .now) (a .tiles .now) (a .pits .now) (a .sure .now) (a .had) _ (at-is-list .is-list .result) (at-is-list .is-list .ensures) (not-false _ (at-if1 .if1 .left))
-    _ _ _ (at-enter-list .enter-list .result) (at-enter-list .enter-list .ensures) (ap lookedBy (sym (at-taken2 .taken2 .given .1)))
+    is-list (a .list .now) (setsOf (a .tiles .now) (a .pits .now) (a .sure .now)) (a .had) _ (at-is-list .is-list .result) (at-is-list .is-list .ensures) (not-false _ (at-if1 .if1 .left))
+    _ (at-enter-list .enter-list .result) (at-enter-list .enter-list .ensures) (ap lookedBy (sym (at-taken2 .taken2 .given .1)))
 
 pub enter-numbers-spec : {M : Type 1} → statement M
 enter-numbers-spec =

@@ -1,6 +1,7 @@
 -- By what the reader answers. Assumes nothing.
 use mathlib.Core.Path.{_≡_, sym}
 use lib.Seq.{length-take-le}
+use Rattle.pit_marks.specs.Sets.{setsOf}
 use Rattle.pit_payloads.proofs.Cases.{fewer, payload-read-to, payload-unread-to}
 use borrow.Author.Needs.{needs}
 use Rattle.pit_payloads.proofs.take_payload.Statement.{statement}
@@ -59,7 +60,7 @@ returns c =
     let start = at-read .before .before .before .before .before .before in
     let a = start .args in
     payload-read-to (a .payload .now) (a .numbers .now) _ (at-read .read-message .result) (at-read .read-message .ensures)
-    (a .tiles .now) (a .pits .now) (a .sure .now) (a .had) _ _ (at-found .found .given .1) _ _ _ (at-enter .enter-numbers .ensures)
+    (setsOf (a .tiles .now) (a .pits .now) (a .sure .now)) (a .had) _ _ (at-found .found .given .1) _ (at-enter .enter-numbers .ensures)
 
 same-length-5 : tie.Need-same-length-5
 same-length-5 c = search needs
@@ -71,7 +72,7 @@ returns-2 c =
     let start = at-read .before .before .before .before .before .before in
     let a = start .args in
     payload-unread-to (a .payload .now) (a .numbers .now) _ (at-read .read-message .result) (at-read .read-message .ensures)
-    (a .tiles .now) (a .pits .now) (a .sure .now) (a .had) _ _ (at-found .found2 .given .1) (c .unread .ensures)
+    (setsOf (a .tiles .now) (a .pits .now) (a .sure .now)) (a .had) _ _ (at-found .found2 .given .1) (c .unread .ensures)
 
 pub take-payload-spec : {M : Type 1} → statement M
 take-payload-spec =
