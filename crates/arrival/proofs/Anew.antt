@@ -1,27 +1,25 @@
 -- A message whose key is neither open nor remembered is accepted, and so promised: an emptied message that is sent again is delivered.
 use mathlib.Core.Path.{_≡_, refl, sym, ap, _∙_, subst}
-use mathlib.Core.Bool.{Bool, true, false}
+use mathlib.Core.Bool.{true, false}
 use mathlib.Core.Option.{Option, none, some}
-use mathlib.Core.List.{List}
-use Prim.Native.Nat.{ℕ, _<_}
+use Prim.Native.Nat.{ℕ}
 use lib.ListN.{length}
 use Rattle.wire.proofs.Choices.{never}
 use Rattle.datagram.specs.Limits.{maxFragments}
-use Rattle.datagram.specs.Said.{Said, Fragment, fragment, said}
-use Rattle.steps.specs.Limits.{ledgerLength, slotSizeOf}
-use Rattle.steps.specs.declared.Key.{Key}
+use Rattle.datagram.specs.Said.{Fragment, said}
+use Rattle.steps.specs.Limits.{slotSizeOf}
 use Rattle.steps.specs.declared.Emptied.the-variants.{Nobody}
 use Rattle.steps.specs.Memory.{keyOf, isRemembered}
 use Rattle.steps.specs.Slots.{findOpen}
-use Rattle.steps.specs.Receive.{Machine, After, stay, receive, step}
-use Rattle.steps.specs.Runs.{World, Arrival, call, worldOf}
-use Rattle.steps.specs.Reach.{Reached, receives, found, isStored, isAccepted}
+use Rattle.steps.specs.Receive.{Machine, After, stay, receive}
+use Rattle.steps.specs.Runs.{World, Arrival, call}
+use Rattle.steps.specs.Reach.{receives, found, isStored}
 use Rattle.steps.proofs.Branches.{Course, unmoved, given, joined, begun, course, step-sound, fragment-begin, step5-stores}
 use Rattle.steps.proofs.Quick.{step5-ledger}
 use Rattle.steps.proofs.Reaches.{Good, good-sound, reached-good}
 use Rattle.steps.proofs.Emptying.{emptied-unknown}
-use Rattle.arrival.specs.Demand.{Message, key, parts, datagram}
-use Rattle.arrival.specs.Strangers.{Start, part, Begins, Promised, ComesAnew, nextAfter, Empties, SentAgain}
+use Rattle.arrival.specs.Demand.{Message, key, datagram}
+use Rattle.arrival.specs.Strangers.{Start, part, Begins, Promised, ComesAnew, nextAfter, SentAgain}
 use Rattle.arrival.proofs.Pieces.{piece, Cut, cut-within}
 use Rattle.arrival.proofs.Watched.{step5-store, stored-accepted}
 use Rattle.arrival.proofs.Strangers.{strangers}

@@ -1,15 +1,15 @@
 -- The invariant between the receiver and the feed, and that every arrival keeps it and is answered as demanded.
 use mathlib.Core.Path.{_≡_, refl, sym, ap, _∙_, subst}
-use mathlib.Core.Logic.{_≢_, _⊎_, inl, inr}
-use mathlib.Core.Bool.{Bool, true, false, not, _&&_, _||_}
+use mathlib.Core.Logic.{inl, inr}
+use mathlib.Core.Bool.{Bool, true, false, not, _&&_}
 use mathlib.Core.Option.{Option, none, some, Option·map}
-use mathlib.Core.List.{List, [], _∷_, _++_, map, append-nil}
-use Prim.Native.Nat.{ℕ, zero, suc, _+_, _-_, _*_, _≤_, _<_, zero-le, suc-le-suc}
+use mathlib.Core.List.{List, [], _∷_, _++_, append-nil}
+use Prim.Native.Nat.{ℕ, zero, suc, _+_, _-_, _*_, _≤_, _<_}
 use native.Mathlib.Nat.{suc-inj}
 use native.Mathlib.Omega.{arith}
 use native.Mathlib.Decide.{ℕ-discrete}
-use lib.Dec.{eqb, leb}
-use lib.ListN.{length, getD, set, take, drop, replicate, length-replicate, getD-replicate}
+use lib.Dec.{eqb}
+use lib.ListN.{length, set, take, drop, replicate, length-replicate, getD-replicate}
 use lib.Seq.{take-length, take-append-seam}
 use borrow.Author.Tests.{eq-eqb, le-leb}
 use Rattle.wire.specs.Choice.{pick}
@@ -25,10 +25,10 @@ use Rattle.steps.specs.declared.Emptied.the-variants.{Nobody}
 use Rattle.steps.specs.declared.Answer.the-variants.{Refused, Repeat}
 use Rattle.steps.specs.Limits.{slotCount, ledgerLength, slotSizeOf}
 use Rattle.steps.specs.Search.{allBelow, count}
-use Rattle.steps.specs.Memory.{keyOf, Memory, isRemembered, remember, rememberAll, memoryOk, Lately, among}
+use Rattle.steps.specs.Memory.{keyOf, Memory, isRemembered, remember, rememberAll, memoryOk}
 use Rattle.steps.specs.Slots.{Slot, busy, noSlot, slotAt, padded, findOpen, findFree, opening}
 use Rattle.steps.specs.Receive.{Machine, After, opened, stay, step3, step5, act, deliveredSmall, receive, slotOk, sound, step, sequenceOf}
-use Rattle.steps.specs.Answers.{Reply, refusedBy, kept, repeat, delivered, reply, emptiedKey}
+use Rattle.steps.specs.Answers.{refusedBy, kept, repeat, delivered, reply, emptiedKey}
 use Rattle.steps.specs.Runs.{World, worldOf, fresh, keyIn, run}
 use Rattle.steps.proofs.Running.{left-more}
 use Rattle.steps.proofs.Tables.{all-at, all-of, count-flip, count-none, count-all}
@@ -43,7 +43,7 @@ use Rattle.arrival.proofs.Pieces.{piece, Cut, cut-of, payload-fits, few
 use Rattle.arrival.proofs.Joining.{Holds, holds-open, arrives-again, arrives-new}
 use Rattle.arrival.proofs.Sitting.{Owner, Placed, Slots, slots-same, owner-holds}
 use Rattle.arrival.proofs.Storing.{storedOut, stored-slots, stored-is, stored-bytes}
-use Rattle.arrival.proofs.Track.{Lawful, MayArrive, Arrives, Fair, got-own, got-other, got-again, begun-own, begun-other, not-begun, done-other, done-stays, done-again, live-other, completes-yes, completes-not, completes-past, completed-none, completed-some, done-keys, ended-dead}
+use Rattle.arrival.proofs.Track.{Lawful, MayArrive, Arrives, Fair, got-own, got-other, got-again, begun-other, not-begun, done-stays, done-again, live-other, completes-yes, completes-not, completes-past, completed-none, completed-some, done-keys, ended-dead}
 
 -- The invariant: the slots are those of the unfinished messages, and the memory is that of the completed ones.
 pub record Inv (σ : Scene) (f : Feed) (w : World) : Type 0 where

@@ -1,14 +1,13 @@
 -- A message cut by our cutter, for datagrams of any size, is one of the lawful messages of demand 3.
 use mathlib.Core.Path.{_≡_, refl, sym, ap, _∙_, subst}
 use mathlib.Core.Bool.{Bool, true, false, not}
-use mathlib.Core.List.{List, [], _∷_}
+use mathlib.Core.List.{List, []}
 use Prim.Native.Nat.{ℕ, zero, suc, _+_, _^_, _≤_, _<_, suc-le-suc, zero-le}
 use native.Mathlib.Nat.{not-suc-le-zero, le-of-suc-le-suc}
-use native.Mathlib.Omega.{arith}
-use lib.ListN.{length, getD, take}
+use lib.ListN.{length, getD}
 use Rattle.wire.specs.Choice.{pick}
 use Rattle.datagram.specs.Limits.{maxPayload, maxFragments}
-use Rattle.datagram.specs.Said.{fragment, small, said}
+use Rattle.datagram.specs.Said.{fragment, said}
 use Rattle.cutter.specs.declared.Cut.the-variants.{Made}
 use Rattle.cutter.specs.Cut.{CutTo, isSmall, countOf, beginsAt, datagramOf, pieceOf}
 use Rattle.cutter.specs.Trip.{Cuttable, cutFragment, joined}

@@ -1,14 +1,13 @@
 -- A run of calls is a run of `step`: demand 3 for the code.
 use mathlib.Core.Path.{_≡_, refl, sym, ap, _∙_, subst}
-use mathlib.Core.Bool.{Bool, true, false, _&&_}
+use mathlib.Core.Bool.{Bool, true, false}
 use mathlib.Core.Option.{Option, none, some, Option·some-ne-none}
-use mathlib.Core.List.{List, [], _∷_, map}
+use mathlib.Core.List.{List}
 use Prim.Native.Nat.{ℕ}
-use lib.Dec.{eqb}
 use lib.ListN.{length}
 use Rattle.wire.specs.Choice.{pick}
-use Rattle.steps.specs.Receive.{Machine, After, opened, step}
-use Rattle.steps.specs.Answers.{Reply, reply}
+use Rattle.steps.specs.Receive.{After, opened, step}
+use Rattle.steps.specs.Answers.{reply}
 use Rattle.steps.specs.Runs.{World, keyIn, run, heard}
 use Rattle.receiver.specs.declared.Outcome.{Outcome}
 use Rattle.receiver.specs.declared.Call.{Call}
@@ -16,7 +15,7 @@ use Rattle.receiver_state.specs.View.{view, shaped}
 use Rattle.receiver.specs.Lent.{Lent, lent}
 use Rattle.receiver.specs.Calls.{refusalOf, Receives, received, told}
 use Rattle.open_and_payload.specs.Ends.{Opens}
-use Rattle.arrival.specs.Demand.{Scene, slotBytes, Event, Feed, start, _▹_, senderOf, bytesOf, arrival, Delivery, nameIn, handedBy, handed, push, call, after, own, completed, delivery, deliveries, Supposed, Promised, AllAnswered}
+use Rattle.arrival.specs.Demand.{Scene, slotBytes, Event, Feed, start, _▹_, senderOf, bytesOf, arrival, nameIn, handedBy, push, call, after, delivery, deliveries, Supposed, AllAnswered}
 use Rattle.arrival.specs.Runs.{Calls, opens, calls, turns-away, handsOver, handedOver, EachCall, CodePromised}
 use Rattle.arrival.proofs.Takings.{takes-are, turned-same}
 use Rattle.arrival.proofs.Track.{Lawful, fair-of}

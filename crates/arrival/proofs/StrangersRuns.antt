@@ -1,11 +1,10 @@
 -- The promise with strangers about, for calls of the code: each is the step list's, by its contract.
 use mathlib.Core.Path.{_≡_, refl, sym, ap, _∙_, subst}
-use mathlib.Core.Bool.{Bool, true, false}
-use mathlib.Core.Option.{Option, none, some, Option·some-ne-none}
+use mathlib.Core.Bool.{Bool, true}
 use mathlib.Core.List.{List}
 use Prim.Native.Nat.{ℕ}
 use Rattle.wire.specs.Choice.{pick}
-use Rattle.steps.specs.Receive.{Machine, After, opened, step, stepWithin, forget}
+use Rattle.steps.specs.Receive.{After, opened, step, stepWithin, forget}
 use Rattle.steps.proofs.Limited.{within-reached}
 use Rattle.steps.specs.Answers.{reply}
 use Rattle.steps.specs.Runs.{World, lending, worldOf, Arrival, keyIn, call}
@@ -14,10 +13,10 @@ use Rattle.receiver.specs.declared.Outcome.{Outcome}
 use Rattle.receiver.specs.declared.Call.{Call}
 use Rattle.receiver_state.specs.View.{view, shaped}
 use Rattle.receiver.specs.Lent.{Lent, lent}
-use Rattle.receiver.specs.Calls.{refusalOf, Receives, received, Forgets, forgotten}
+use Rattle.receiver.specs.Calls.{Receives, received, Forgets, forgotten}
 use Rattle.arrival.specs.Demand.{Message, datagram, handedBy, nameIn}
 use Rattle.arrival.specs.Runs.{handsOver}
-use Rattle.arrival.specs.Strangers.{Start, part, Begins, Feed, begun, _▹_, comes, after, its}
+use Rattle.arrival.specs.Strangers.{Start, part, Begins, Feed, after}
 use Rattle.arrival.specs.Strangers as strange
 use Rattle.arrival.specs.StrangersRuns.{Led, by-open, by-receive, by-within, by-forget, shown, startOf, Calls, begins, takes, drops, turns-away, hands, CodeBegins, CodePromised, CodeStrangers}
 use Rattle.arrival.specs.Takes.{receivedWithin}

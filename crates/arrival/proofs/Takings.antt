@@ -1,5 +1,5 @@
 -- A call of `receive_within` whose limits let the datagram through is a call of `receive`; one that refuses leaves all as it was.
-use mathlib.Core.Path.{_≡_, refl, sym, ap, _∙_, subst}
+use mathlib.Core.Path.{_≡_, ap, subst}
 use Prim.Native.Nat.{ℕ}
 use Rattle.wire.specs.Choice.{pick}
 use Rattle.steps.specs.declared.Answer.the-variants.{Refused}

@@ -1,6 +1,6 @@
 -- What an arrival does to the book-keeping of a feed: what has come, what is done, in which order. Nothing here knows of the receiver.
 use mathlib.Core.Path.{_≡_, refl, sym, ap, _∙_, subst}
-use mathlib.Core.Logic.{_≢_, _⊎_, inl, inr}
+use mathlib.Core.Logic.{_≢_, inl, inr}
 use mathlib.Core.Bool.{Bool, true, false, not, _&&_, _||_, or-true}
 use mathlib.Core.Option.{Option, none, some}
 use mathlib.Core.List.{List, [], _∷_, map}
@@ -15,8 +15,8 @@ use Rattle.wire.specs.Choice.{pick}
 use Rattle.wire.proofs.Choices.{either, never, or-of-right}
 use Rattle.steps.specs.declared.Key.{Key}
 use Rattle.steps.specs.Limits.{slotCount, ledgerLength}
-use Rattle.steps.specs.Search.{allBelow, one, count}
-use Rattle.steps.specs.Memory.{sameKey, among, Lately, FewSenders, Recent}
+use Rattle.steps.specs.Search.{one, count}
+use Rattle.steps.specs.Memory.{sameKey, among, FewSenders, Recent}
 use Rattle.steps.proofs.Tables.{or-not, or-yes, all-at, all-of, all-not, all-cong}
 use Rattle.steps.proofs.Memories.{same-key, key-same}
 use Rattle.arrival.specs.Demand.{Message, Scene, nobody, Distinct, EachSent, SentCut, SentSmall, Sent, key, parts, size, message, slotBytes, Event, part, noise, Feed, start, _▹_, RefusedForForm, MayCome, Mixture, NeverOverEight, AtMost16Senders, StillKnown, NeverTooLate, got, begun, done, completes, completed, keysOf, unfinished, push}

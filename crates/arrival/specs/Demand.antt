@@ -9,7 +9,7 @@ use lib.ListN.{length, getD, take}
 use Rattle.wire.specs.Choice.{pick}
 use Rattle.datagram.specs.Limits.{maxPayload, maxFragments}
 use Rattle.datagram.specs.Name.{untilZero}
-use Rattle.datagram.specs.Said.{Fragment, Said, refused, small, fragment, said}
+use Rattle.datagram.specs.Said.{Said, refused, small, fragment, said}
 use Rattle.datagram.specs.Lawful.{LawfullyCut}
 use Rattle.cutter.specs.Trip.{joined}
 use Rattle.steps.specs.Limits.{slotCount, ledgerLength, slotSizeOf}

@@ -1,8 +1,8 @@
 -- What demand 3 gives for the code: calls of `open`, `receive` and `receive_within`, one after another, over lent memory that nobody else changes. Definitions only.
 use mathlib.Core.Path.{_≡_}
 use mathlib.Core.Option.{Option, none}
-use mathlib.Core.List.{List, [], _∷_, map}
-use Prim.Native.Nat.{ℕ, _<_}
+use mathlib.Core.List.{List, [], map}
+use Prim.Native.Nat.{ℕ}
 use lib.ListN.{length}
 use Rattle.steps.specs.Answers.{reply}
 use Rattle.steps.specs.Runs.{Arrival, keyIn}

@@ -1,6 +1,5 @@
 -- Calls to an arrival, of `receive` and of `receive_within`: of each only its contract is known. Definitions only.
 use mathlib.Core.Path.{_≡_}
-use mathlib.Core.List.{List}
 use Prim.Native.Nat.{ℕ, min}
 use Rattle.wire.specs.Choice.{pick}
 use Rattle.datagram.specs.Limits.{maxFragments}

@@ -13,9 +13,8 @@ use Rattle.names.specs.Name.{goodName}
 use Rattle.datagram.specs.Name.{untilZero, nameLength}
 use Rattle.datagram.specs.Read.{readSmall, goodForm, formed, readFragment, readDatagram}
 use Rattle.datagram.specs.Said.{said}
-use Rattle.cutter.specs.Trip.{joined}
 use Rattle.steps.specs.Held.{noneHeld, isHeld, hold}
-use Rattle.steps.specs.Memory.{among, emptyMemory, isRemembered, remember, placeFor, withKey, memoryOk, forgetKeys, since}
+use Rattle.steps.specs.Memory.{among, emptyMemory, isRemembered, remember, placeFor, withKey, memoryOk, forgetKeys}
 use Rattle.steps.specs.Slots.{oldest, openCount, lower, release, releaseOf, seat, opening, filled}
 use Rattle.steps.specs.Receive.{opened, stay, sameFragment, agrees, step3, decide, step5, act, receive, sound, step, forget}
 use Rattle.steps.specs.Runs.{World, Arrival, from, call, run, leftBy}
@@ -26,11 +25,11 @@ use Rattle.steps.specs.Worked.{inFours, A-of, B-of, begunBelow}
 use borrow.Author.Tests.{ltb-true}
 use Rattle.steps.proofs.Tables.{not-true}
 use Rattle.steps.proofs.Reaches.{reached-in-order}
-use Rattle.arrival.specs.Demand.{InFragments, key, parts, done, unfinished, completes, completed}
+use Rattle.arrival.specs.Demand.{InFragments, key, parts}
 use Rattle.arrival_cases.specs.Worked.{small-of, A-gap, B-gap, paperScene, paperFeed, singleScene, singleFeed}
-use Rattle.arrival.specs.Strangers.{Start, part, Begins, Feed, begun, after, noForeign, openings, complete, Supposed, its, handsOver, nextAfter, Empties}
+use Rattle.arrival.specs.Strangers.{Start, part, Begins, Feed, begun, after, noForeign, openings, complete, Supposed, its, handsOver, Empties}
 use Rattle.arrival_cases.specs.StrangersWorked.{ours, startAfter, freshStart, fullStart, A, begins, sevenFeed, floodFeed, singleStart, bareStart, sevenMore, eighthMore, againStart, oddStart, Asked, asked, allMet, AllAsked, EachNeeded}
-use Rattle.arrival.proofs.Tests.{tests, allPass, tested}
+use Rattle.arrival.proofs.Tests.{tested}
 use Rattle.arrival_cases.proofs.Works.{paper-meets, single-meets}
 use Rattle.arrival.proofs.Anew.{sent-again}
 use Rattle.arrival.proofs.Strangers.{strangers}

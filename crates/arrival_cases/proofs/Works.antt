@@ -1,7 +1,6 @@
 -- The premises of demand 3 can be met: worked scenes and feeds that meet them, by computation.
 use mathlib.Core.Path.{_≡_, refl}
 use mathlib.Core.Bool.{false}
-use mathlib.Core.List.{List, [], _∷_}
 use lib.Dec.{lit<}
 use Rattle.wire.specs.Bytes.{be}
 use Rattle.names.specs.Name.{goodName}

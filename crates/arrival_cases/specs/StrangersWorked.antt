@@ -13,7 +13,7 @@ use Rattle.steps.specs.Slots.{Slot, noSlot, noName}
 use Rattle.steps.specs.Runs.{World, lending, fresh, Arrival, from, call, run, leftBy}
 use Rattle.steps.specs.Reach.{isOpen, isAccepted}
 use Rattle.steps.specs.Worked.{inFours, headOf, A-of, B-of, begunBelow}
-use Rattle.arrival.specs.Demand.{Message, key, Delivery}
+use Rattle.arrival.specs.Demand.{Message, key}
 use Rattle.arrival_cases.specs.Worked.{small-of, A-gap, B-gap, inTwo, inSingle}
 use Rattle.arrival.specs.Strangers.{Start, part, comes, forgets, Feed, begun, _▹_, after, noForeign, openings, complete, notForgotten, its, handsOver, nextAfter}
 

@@ -1,7 +1,7 @@
 -- Worked feeds: the paper's B, A, B; nine messages with eight open at once; a mast beside a tile; 16 senders; feeds at the edge of a phrase; and for each premise a
 -- feed without it. Definitions only.
 use mathlib.Core.Path.{_≡_}
-use mathlib.Core.Bool.{Bool, true, false}
+use mathlib.Core.Bool.{true, false}
 use mathlib.Core.List.{List, [], _∷_}
 use Prim.Native.Nat.{ℕ, zero, suc, _+_}
 use lib.ListN.{length, replicate}
@@ -9,7 +9,7 @@ use Rattle.steps.specs.Limits.{ledgerLength}
 use Rattle.steps.specs.Receive.{Machine, After, opened, step, forget}
 use Rattle.steps.specs.Answers.{Reply, refusedBy, kept, delivered, reply}
 use Rattle.steps.specs.Worked.{headOf, A-of, B-of}
-use Rattle.arrival.specs.Demand.{Message, Scene, Event, part, noise, Feed, start, _▹_, Promised}
+use Rattle.arrival.specs.Demand.{Message, Scene, part, noise, Feed, start, _▹_, Promised}
 use Rattle.arrival.specs.Ours.{table}
 
 -- a store of 32 bytes, slots of 4

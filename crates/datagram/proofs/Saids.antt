@@ -15,7 +15,7 @@ use Rattle.datagram.specs.Limits.{maxDatagram}
 use Rattle.names.specs.Name.{goodName}
 use Rattle.forms.specs.Form.{goodStart}
 use Rattle.datagram.specs.Read.{goodForm, readDatagram, partOf}
-use Rattle.datagram.specs.Said.{Fragment, Said, refused, small, fragment, fragmentIn, says, said, Reads}
+use Rattle.datagram.specs.Said.{Fragment, refused, small, fragment, fragmentIn, says, said, Reads}
 use Rattle.datagram.specs.declared.Header.{Header}
 use Rattle.datagram.specs.declared.Read.{Read}
 use Rattle.datagram.specs.declared.Read.the-variants.{Good, Refused}

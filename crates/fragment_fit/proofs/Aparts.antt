@@ -1,6 +1,6 @@
 -- Laws of `fits_all`: one fragment after the other; a run of fragments whose bits stand in one word; and what decides. Assumes nothing.
 use mathlib.Core.Path.{_≡_, refl, sym, _∙_, ap}
-use mathlib.Core.Logic.{_⊎_, inl, inr}
+use mathlib.Core.Logic.{inl, inr}
 use mathlib.Core.Bool.{Bool, true, false, not, _&&_, _||_}
 use mathlib.Core.List.{List}
 use Prim.Native.Nat.{ℕ, suc, _+_, _-_, _*_, _/_, _%_, _^_, _≤_, _<_}
@@ -11,7 +11,6 @@ use native.Mathlib.Omega.{arith}
 use lib.Dec.{eqb, leb, ltb}
 use lib.ListN.{getD}
 use borrow.Author.Tests.{eq-eqb, ne-eqb, lt-ltb, le-ltb, lt-leb, le-leb, eqb-true, leb-false}
-use Rattle.wire.specs.Choice.{pick}
 use Rattle.wire.proofs.Choices.{either, and-l, and-r, and-true, or-l, or-r}
 use Rattle.steps.specs.Search.{allBelow}
 use Rattle.steps.specs.Held.{isHeld}
@@ -20,7 +19,7 @@ use Rattle.steps.proofs.Tables.{and-none, all-of, all-not, all-none, all-cong}
 use Rattle.held_bits.proofs.Runs.{all-split}
 use Rattle.held_bits.proofs.Bits.{held-bit}
 use Rattle.fragment_fit.specs.Fits.{fitsIn}
-use Rattle.fragment_fit.specs.Apart.{crosses, apartAt, nearFit}
+use Rattle.fragment_fit.specs.Apart.{apartAt, nearFit}
 use Rattle.fragment_fit.specs.Inside.{apartIn}
 
 -- ---- tests that a number passes

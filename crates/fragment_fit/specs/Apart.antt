@@ -6,7 +6,6 @@ use lib.Dec.{leb, ltb}
 use lib.ListN.{getD}
 use Rattle.wire.specs.Choice.{pick}
 use Rattle.steps.specs.Held.{isHeld}
-use Rattle.held_bits.specs.Bits.{bitIn}
 use Rattle.fragment_fit.specs.Fits.{fitsIn}
 
 -- d bytes from o on, and e bytes from p on, which are the lower where they are below: the lower reach past where the higher begin

@@ -1,14 +1,10 @@
 -- INSIDE: what only private contracts use. Definitions only; no promise of a public function rests on them.
-use mathlib.Core.Bool.{Bool, not, _&&_, _||_}
+use mathlib.Core.Bool.{Bool, not, _&&_}
 use mathlib.Core.List.{List}
-use Prim.Native.Nat.{ℕ, _+_, _-_, _*_}
-use lib.Dec.{leb, ltb}
+use Prim.Native.Nat.{ℕ, _+_, _*_}
 use lib.ListN.{getD}
-use Rattle.wire.specs.Choice.{pick}
-use Rattle.steps.specs.Held.{isHeld}
 use Rattle.held_bits.specs.Bits.{bitIn}
-use Rattle.fragment_fit.specs.Fits.{fitsIn}
-use Rattle.fragment_fit.specs.Apart.{crosses, apartAt, nearFit}
+use Rattle.fragment_fit.specs.Apart.{crosses}
 
 -- fragment b of a run, whose bit is bit b of a word, and whose entry stands b entries after a place, is not held or does not cross
 abbrev pub apartIn : ℕ → List ℕ → ℕ → Bool → ℕ → ℕ → ℕ → Bool

@@ -17,7 +17,7 @@ use Rattle.moss.specs.Answers.{headersOf}
 use Rattle.moss.specs.declared.Header.{Header}
 use Rattle.moss.proofs.Walks.{messages-next, messages-cut, messages-none}
 use Rattle.moss.proofs.Packets.{Good, packet-good}
-use Rattle.gauge_watch.proofs.Hears.{Headed, headed, not-read}
+use Rattle.gauge_watch.proofs.Hears.{headed, not-read}
 use Rattle.text.specs.Text.{decimal}
 use Rattle.output.specs.Output.{Pours}
 use Rattle.gauge.specs.Lines.{notedText, spaced, lengthsIn, lengthsOf, messagesText, line}

@@ -2,7 +2,7 @@
 use mathlib.Core.Path.{_≡_, refl, ap, sym, _∙_, subst}
 use mathlib.Core.Bool.{true}
 use mathlib.Core.List.{List, [], _∷_, map}
-use Prim.Native.Nat.{ℕ, zero, suc, _+_, _-_, _%_, _^_, _≤_, _<_}
+use Prim.Native.Nat.{ℕ, zero, suc, _+_, _%_, _^_}
 use native.Mathlib.Omega.{arith}
 use lib.ListN.{length, replicate}
 use Rattle.wire.specs.Same.{same}
@@ -13,11 +13,11 @@ use Rattle.watch.specs.Watching.{moves}
 use Rattle.watch.specs.Difference.{difference, told}
 use Rattle.watch.proofs.Tells.{restarted-number}
 use Rattle.watch.proofs.Runs.{step-told, forward-distance, cons-eq}
-use Rattle.moss.specs.Packet.{Given, gives, refuses, Packet, packetOf}
+use Rattle.moss.specs.Packet.{gives, Packet, packetOf}
 use Rattle.gauge_watch.specs.declared.Gauge.{Gauge}
-use Rattle.gauge_watch.specs.Heard.{silent, notedOf, movedTo, asked, after}
+use Rattle.gauge_watch.specs.Heard.{notedOf, movedTo, asked, after}
 use Rattle.gauge_watch.specs.Runs.{notedAll, Expects, Follows, nextAfter, LeavesOut, done, next, Carries, none, more}
-use Rattle.gauge_watch.proofs.Hears.{noted-silent, noted-other, noted-same, after-moves}
+use Rattle.gauge_watch.proofs.Hears.{noted-same, after-moves}
 
 -- ---- one packet
 

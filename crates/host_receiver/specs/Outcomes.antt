@@ -2,7 +2,6 @@
 use mathlib.Core.Path.{_≡_}
 use mathlib.Core.List.{List, [], _∷_, _++_}
 use Prim.Native.Nat.{ℕ}
-use lib.ListN.{length}
 use Rattle.wire.specs.Overlay.{overlay}
 use Rattle.steps.specs.declared.PayloadAt.{PayloadAt}
 use Rattle.steps.specs.declared.PayloadAt.the-variants.{InDatagram, InStore}

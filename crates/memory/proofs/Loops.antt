@@ -1,7 +1,7 @@
 -- Laws of the definitions, one turn at a time, as the loops use them.
 use mathlib.Core.Path.{_≡_, refl, sym, _∙_, ap}
 use mathlib.Core.Bool.{Bool, true, false, not, _&&_, _||_, or-true}
-use mathlib.Core.Option.{Option, none, some, Option·map}
+use mathlib.Core.Option.{Option, none, some}
 use mathlib.Core.List.{List, [], _∷_, _++_}
 use Prim.Native.Nat.{ℕ, zero, suc, _+_, _%_, _≤_, _<_, min}
 use native.Mathlib.Numerals.{add-one}
@@ -10,12 +10,11 @@ use native.Mathlib.Omega.{arith}
 use borrow.Author.Tests.{eq-eqb, ne-eqb, eqb-false, le-leb}
 use lib.Bits.{bitOr, or-add-and, and-le-l, and-le-r}
 use lib.Dec.{eqb, leb}
-use lib.ListN.{length, getD, set, take, drop, length-set, length-take, length-drop}
-use lib.Seq.{take-suc, take-all, take-take, getD-take, getD-drop, length-take-le}
-use Rattle.wire.specs.Choice.{pick}
+use lib.ListN.{length, getD, set, take, length-set}
+use lib.Seq.{take-suc, take-all}
 use Rattle.wire.proofs.Choices.{and-false, pick-all}
 use Rattle.words.specs.Builds.{build}
-use Rattle.words.proofs.Builds.{length-build, getD-build, build-is}
+use Rattle.words.proofs.Builds.{length-build, getD-build}
 use Rattle.steps.specs.Limits.{sendersMost, keysEach}
 use Rattle.steps.specs.Search.{allBelow, first}
 use Rattle.steps.proofs.Tables.{all-cong, all-of}

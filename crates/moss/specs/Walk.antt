@@ -1,19 +1,12 @@
 -- The walk over message blocks, as the code makes it: for the contracts of private functions only. Definitions only.
-use mathlib.Core.Option.{Option, none, some}
 use mathlib.Core.List.{List, [], _∷_}
 use Prim.Native.Nat.{ℕ, _+_}
 use lib.Dec.{eqb, ltb}
 use lib.ListN.{length}
 use Rattle.wire.specs.Choice.{pick}
-use Rattle.moss.specs.Limits.{headLength}
-use Rattle.moss.specs.Packet.{Given, gives, refuses, Packet}
+use Rattle.moss.specs.Packet.{Given, gives, refuses}
 use Rattle.moss.specs.Message.{Part}
-use Rattle.moss.specs.Answers.{headerOf}
 use Rattle.moss.specs.declared.Trail.{Trail}
-use Rattle.moss.specs.declared.Walked.{Walked}
-use Rattle.moss.specs.declared.Walked.the-variants.{Filled, Broken}
-use Rattle.moss.specs.declared.Looked.{Looked}
-use Rattle.moss.specs.declared.Looked.the-variants.{Good, Refused}
 
 abbrev pub start : Trail
 start = record { count = 0; at = 0; len = 0 }

@@ -1,9 +1,9 @@
 -- Laws of the scan of a name: where it can go from where. Assumes nothing.
 use mathlib.Core.Path.{_≡_, refl, ap, sym, _∙_}
-use mathlib.Core.Bool.{Bool, true, false, _&&_}
-use mathlib.Core.Logic.{_⊎_, inl, inr}
+use mathlib.Core.Bool.{true, false}
+use mathlib.Core.Logic.{inl, inr}
 use mathlib.Core.List.{List, [], _∷_}
-use Prim.Native.Nat.{ℕ, _+_, _-_, _≤_, _<_}
+use Prim.Native.Nat.{ℕ, _+_, _≤_, _<_}
 use native.Mathlib.Omega.{arith}
 use native.Mathlib.Numerals.{add-one}
 use native.Mathlib.Decide.{ℕ-discrete}
@@ -11,9 +11,8 @@ use lib.Dec.{eqb, leb}
 use lib.ListN.{length, getD, drop, drop-of-length-le}
 use lib.Seq.{drop-cons}
 use borrow.Author.Tests.{le-leb, lt-leb, leb-true, eq-eqb, ne-eqb, eqb-true}
-use Rattle.wire.specs.Choice.{pick}
-use Rattle.wire.proofs.Choices.{never, and-l, and-r, and-of, and-false, either, pick-all}
-use Rattle.names.specs.Scan.{within, tails, start, bad, lowAfter, highAfter, after, first, next, scan}
+use Rattle.wire.proofs.Choices.{and-l, and-r, and-of, and-false, either, pick-all}
+use Rattle.names.specs.Scan.{within, start, bad, lowAfter, highAfter, next, scan}
 use Rattle.names.specs.declared.Scan.{Scan}
 
 -- ---- within

@@ -17,7 +17,7 @@ use Rattle.steps.specs.declared.Emptied.the-variants.{Nobody, Was}
 use Rattle.steps.specs.declared.PayloadAt.the-variants.{InStore}
 use Rattle.steps.specs.declared.Answer.the-variants.{Kept, Delivered}
 use Rattle.steps.specs.Memory.{keyOf, remember}
-use Rattle.steps.specs.Slots.{Slot, slotAt, oldest, noName, filled, allHeld, opening, release, seat}
+use Rattle.steps.specs.Slots.{Slot, slotAt, oldest, noName, filled, allHeld, opening, release}
 use Rattle.steps.specs.Slots as step
 use Rattle.steps.specs.Receive.{Machine, After, withSlots, row, storeWith, ledgerWith, step5}
 use Rattle.steps.proofs.Branches.{step5-delivered, step5-kept}

@@ -17,7 +17,6 @@ use Rattle.steps.specs.declared.Answer.{Answer}
 use Rattle.steps.specs.declared.Answer.the-variants.{Refused, Repeat, Delivered}
 use Rattle.steps.specs.Memory.{keyOf, remember}
 use Rattle.steps.specs.Slots.{Slot, slotAt, release, releaseOne, releaseOf, seat, opening, filled, noName, padded}
-use Rattle.steps.specs.Slots as step
 use Rattle.steps.specs.Receive.{Machine, After, withSlots, stay, storeWith, ledgerWith, step5, deliveredSmall, beginAt}
 use Rattle.receiver_state.specs.View.{roomWord, slotsOf, memoryOf, view}
 use Rattle.receiver_state.specs.Inside.{Ready, Told, Shows, Remembers}

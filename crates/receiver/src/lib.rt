@@ -11,7 +11,7 @@ ghost use mathlib.Core.Path.{_≡_};
 ghost use mathlib.Core.Bool.{true};
 ghost use mathlib.Core.List.{List};
 ghost use Prim.Native.Nat.{ℕ, _+_, _<_, _≤_};
-ghost use lib.ListN.{length, getD, replicate};
+ghost use lib.ListN.{length, replicate};
 ghost use Rattle.wire.specs.Overlay.{overlay};
 ghost use Rattle.wire.specs.Slices.{buffer};
 ghost use Rattle.datagram.specs.Limits.{maxName, maxPayload};

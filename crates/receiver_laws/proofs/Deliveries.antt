@@ -1,7 +1,6 @@
 -- What a call delivers lies in what holds it: place and length stay within the datagram, or within the store as the call left it, and as many bytes are handed over.
 use mathlib.Core.Path.{_≡_, refl, sym, _∙_, ap, subst}
 use mathlib.Core.Logic.{inl, inr}
-use mathlib.Core.Bool.{true, false}
 use mathlib.Core.List.{List}
 use Prim.Native.Nat.{ℕ}
 use native.Mathlib.Omega.{arith}

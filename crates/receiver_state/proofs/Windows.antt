@@ -1,12 +1,12 @@
 -- A window of a list, n elements from a place on, after numbers were written at another place.
-use mathlib.Core.Path.{_≡_, refl, sym, _∙_, ap}
-use mathlib.Core.Logic.{_⊎_, inl, inr, ⊎-elim}
-use mathlib.Core.List.{List, [], _∷_, _++_, append-assoc}
-use Prim.Native.Nat.{ℕ, _+_, _-_, _≤_, _<_, min}
+use mathlib.Core.Path.{_≡_, sym, _∙_, ap}
+use mathlib.Core.Logic.{_⊎_, ⊎-elim}
+use mathlib.Core.List.{List, _++_, append-assoc}
+use Prim.Native.Nat.{ℕ, _+_, _-_, _≤_, _<_}
 use native.Mathlib.Decide.{decLe}
 use native.Mathlib.Omega.{arith}
-use lib.ListN.{length, getD, set, take, drop, length-take, length-drop}
-use lib.Seq.{getD-take, getD-drop, ext-getD, take-all, drop-drop, length-take-le}
+use lib.ListN.{length, getD, take, drop, length-take, length-drop}
+use lib.Seq.{getD-take, getD-drop, ext-getD, drop-drop, length-take-le}
 use Rattle.wire.specs.Overlay.{overlay}
 use Rattle.wire.proofs.Overlays.{length-overlay, overlay-eq}
 use Rattle.steps.proofs.Stores.{write-in, write-out}

@@ -7,14 +7,13 @@ use mathlib.Core.List.{List}
 use Prim.Native.Nat.{ℕ}
 use native.Mathlib.Omega.{arith}
 use lib.ListN.{length, set}
-use Rattle.wire.specs.Choice.{pick}
 use Rattle.wire.proofs.Choices.{either, never}
 use Rattle.datagram.specs.Limits.{maxFragments}
 use Rattle.datagram.specs.Said.{Said, refused, small, fragment, Fragment, said}
 use Rattle.steps.specs.Held.{isHeld}
 use Rattle.steps.specs.Memory.{keyOf, isRemembered}
-use Rattle.steps.specs.Slots.{Slot, slotAt, findOpen, findFree, oldest, release, seat, seatAt, opening, filled, allHeld, Emptied, Nobody, Was}
-use Rattle.steps.specs.Receive.{Machine, After, Answer, Refused, Kept, Repeat, stay, Verdict, refuse, again, deliver, join, begin, sameMessage, sameFragment, agreesWithAll, step3, decide, deliveredFrom, keptIn, step5, storeWith, ledgerWith, deliveredSmall, beginAt, act, receive, sound, step}
+use Rattle.steps.specs.Slots.{Slot, slotAt, findOpen, findFree, oldest, release, seat, opening, filled, allHeld, Emptied, Nobody, Was}
+use Rattle.steps.specs.Receive.{Machine, After, Answer, Refused, Repeat, stay, Verdict, refuse, again, join, sameMessage, sameFragment, agreesWithAll, step3, decide, deliveredFrom, keptIn, step5, storeWith, ledgerWith, deliveredSmall, beginAt, act, receive, sound, step}
 use Rattle.steps.specs.Reach.{isAccepted, isStored}
 use Rattle.steps.proofs.Seats.{seat-free, seat-full}
 

@@ -1,22 +1,22 @@
 -- WHERE A DELIVERED PAYLOAD LIES, for any state of eight slots and all input: inside the datagram, or inside the store as the call left it.
 use mathlib.Core.Path.{_≡_, refl, sym, ap, _∙_, subst, subst₂}
 use mathlib.Core.Logic.{inl, inr}
-use mathlib.Core.Bool.{Bool, true, false, not, _&&_, _||_}
+use mathlib.Core.Bool.{Bool, true, false, not, _&&_}
 use mathlib.Core.List.{List}
 use Prim.Native.Nat.{ℕ, _+_, _*_, _≤_, _<_}
 use native.Mathlib.Omega.{arith}
 use lib.Dec.{eqb, leb}
-use lib.ListN.{length, set, take, drop, length-take, length-drop}
+use lib.ListN.{length, set, drop, length-take, length-drop}
 use borrow.Author.Tests.{eqb-true, leb-true}
 use Rattle.wire.proofs.Choices.{either, and-l, and-r}
 use Rattle.wire.proofs.Overlays.{length-overlay}
 use Rattle.datagram.specs.Limits.{maxFragments}
-use Rattle.datagram.specs.Said.{Said, fragment, Fragment, said}
-use Rattle.datagram.proofs.Saids.{Formed, fragment-formed, small-read}
+use Rattle.datagram.specs.Said.{Fragment, said}
+use Rattle.datagram.proofs.Saids.{fragment-formed, small-read}
 use Rattle.steps.specs.Limits.{slotCount, ledgerLength, slotSizeOf}
 use Rattle.steps.specs.Search.{allBelow}
 use Rattle.steps.specs.Memory.{Key, keyOf, memoryOk}
-use Rattle.steps.specs.Slots.{Slot, busy, slotAt, oldest, release, opening, filled, allHeld, Seat, seat, Emptied, Nobody}
+use Rattle.steps.specs.Slots.{Slot, slotAt, oldest, release, opening, filled, allHeld, Seat, seat, Emptied, Nobody}
 use Rattle.steps.specs.Receive.{Machine, After, Answer, PayloadAt, InDatagram, InStore, Refused, Kept, Delivered, stay, placeOf, storeWith, step5, slotOk, sound, step}
 use Rattle.steps.specs.Reach.{isAccepted}
 use Rattle.steps.specs.Answers.{holder, beginsAt}

@@ -1,7 +1,7 @@
 -- AN EMPTIED KEY IS NOT REMEMBERED: after the call that empties it, from any state that calls can reach, it is neither open nor remembered.
 use mathlib.Core.Path.{_≡_, refl, sym, ap, _∙_, subst}
 use mathlib.Core.Logic.{_≢_, inl, inr}
-use mathlib.Core.Bool.{Bool, true, false}
+use mathlib.Core.Bool.{true, false}
 use mathlib.Core.Option.{Option, none, some}
 use mathlib.Core.List.{List}
 use Prim.Native.Nat.{ℕ, _<_}
@@ -10,10 +10,10 @@ use lib.ListN.{length, set}
 use lib.Seq.{getD-set-other}
 use Rattle.wire.proofs.Choices.{either}
 use Rattle.datagram.specs.Limits.{maxFragments}
-use Rattle.datagram.specs.Said.{fragment, Fragment, said}
+use Rattle.datagram.specs.Said.{Fragment, said}
 use Rattle.datagram.proofs.Saids.{Formed}
 use Rattle.steps.specs.Limits.{slotCount, slotSizeOf}
-use Rattle.steps.specs.Memory.{Key, keyOf, sameKey, isRemembered, remember}
+use Rattle.steps.specs.Memory.{Key, keyOf, isRemembered, remember}
 use Rattle.steps.specs.Slots.{Slot, busy, noSlot, slotAt, findOpen, oldest, opening, filled, allHeld, Seat, seat, Nobody}
 use Rattle.steps.specs.Receive.{Machine, After, stay, step5, step}
 use Rattle.steps.specs.Answers.{emptiedKey}

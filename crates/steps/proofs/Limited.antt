@@ -11,13 +11,12 @@ use Rattle.wire.proofs.Choices.{either}
 use Rattle.datagram.specs.Limits.{maxFragments}
 use Rattle.datagram.specs.Read.{readDatagram}
 use Rattle.datagram.specs.Said.{Said, refused, says, said}
-use Rattle.datagram.specs.declared.Header.{Header}
 use Rattle.datagram.specs.declared.Read.{Read}
 use Rattle.datagram.specs.declared.Read.the-variants as read
 use Rattle.datagram.proofs.Larger.{larger}
 use Rattle.steps.specs.Receive.{Machine, After, Refused, stay, receive, sound, step, stepWithin}
 use Rattle.steps.specs.Reach.{Reached, receives}
-use Rattle.steps.proofs.Branches.{receive-refused, step-unsound}
+use Rattle.steps.proofs.Branches.{receive-refused}
 
 module _ (payload fragments : ℕ) (m : Machine) (store ledger : List ℕ) (sender : ℕ) (d : List ℕ) where
   abbrev within : After

@@ -1,23 +1,23 @@
 -- Laws of the memory of keys. Nothing else opens its definitions: another memory shows these laws again.
-use mathlib.Core.Path.{_≡_, refl, ap, _∙_, sym, subst}
-use mathlib.Core.Logic.{_≢_, _⊎_, inl, inr}
-use mathlib.Core.Bool.{Bool, true, false, not, _&&_, _||_, or-assoc, or-false, or-comm}
-use mathlib.Core.Option.{Option, none, some, Option·map}
+use mathlib.Core.Path.{_≡_, refl, ap, _∙_, sym}
+use mathlib.Core.Logic.{_≢_, inl, inr}
+use mathlib.Core.Bool.{Bool, true, false, not, _||_, or-assoc, or-false, or-comm}
+use mathlib.Core.Option.{Option, none, some}
 use mathlib.Core.List.{List, [], _∷_, _++_, map, reverse, reverse-cons, reverse-append}
-use Prim.Native.Nat.{ℕ, zero, suc, _+_, _-_, _≤_, _<_, zero-le, suc-le-suc}
+use Prim.Native.Nat.{ℕ, zero, suc, _-_, _≤_, _<_, zero-le}
 use lib.Dec.{eqb, leb, ltb, lit≤}
 use native.Mathlib.Nat.{le-refl, le-of-suc-le-suc, not-suc-le-zero}
 use native.Mathlib.Omega.{arith}
 use native.Mathlib.Decide.{decLe, ℕ-discrete}
-use lib.ListN.{length, getD, set, take, drop, replicate, length-take, length-set, length-drop, length-append, length-map, length-replicate, getD-replicate}
+use lib.ListN.{length, getD, set, take, drop, length-take, length-set, length-drop, length-append, length-map, getD-replicate}
 use lib.Seq.{take-suc-set, take-all, take-suc, getD-set-same, getD-set-other}
 use borrow.Author.Tests.{eqb-true, eq-eqb, ne-eqb, lt-ltb, le-ltb, le-leb}
 use Rattle.wire.specs.Choice.{pick}
-use Rattle.wire.proofs.Choices.{either, never, and-l, and-r, and-of, or-l, or-r, pick-all, and-false}
+use Rattle.wire.proofs.Choices.{either, never, and-l, and-r, or-l, or-r, pick-all, and-false}
 use Rattle.steps.specs.Limits.{sendersMost, keysEach}
-use Rattle.steps.specs.Search.{allBelow, first}
-use Rattle.steps.specs.Memory.{Key, keyOf, sameKey, among, Place, noPlace, vacant, isOf, remembered, has, Memory, emptyMemory, placeAt, keptAt, isRemembered, furthestBack, orElse, placeFor, countOf, pushed, withKey, sunk, remember, freed, forgetKeys, memoryOk, rememberAll, without}
-use Rattle.steps.proofs.Tables.{or-not, or-yes, or-none, not-true, not-false, all-of, First, first-some, first-none}
+use Rattle.steps.specs.Search.{first}
+use Rattle.steps.specs.Memory.{Key, sameKey, among, Place, noPlace, vacant, isOf, remembered, has, Memory, emptyMemory, placeAt, keptAt, isRemembered, furthestBack, orElse, placeFor, countOf, withKey, sunk, remember, freed, forgetKeys, memoryOk, rememberAll, without}
+use Rattle.steps.proofs.Tables.{or-not, or-none, not-true, all-of, First, first-some, first-none}
 
 -- ---- keys
 

@@ -6,14 +6,14 @@ use mathlib.Core.Option.{Option, none, some}
 use mathlib.Core.List.{List}
 use Prim.Native.Nat.{ℕ, _+_, _≤_, _<_}
 use native.Mathlib.Omega.{arith}
-use lib.Dec.{eqb, leb, ltb, lit<, lit≤}
+use lib.Dec.{eqb, leb, ltb, lit≤}
 use lib.ListN.{length, drop}
 use Rattle.wire.specs.Choice.{pick}
 use Rattle.wire.proofs.Choices.{either, and-false, or-l, or-r, pick-all}
 use borrow.Author.Tests.{leb-false, lt-leb, eqb-false, ne-eqb, not-false}
 use Rattle.datagram.specs.Limits.{maxDatagram, maxFragments}
 use Rattle.datagram.specs.Name.{nameLength}
-use Rattle.datagram.specs.Read.{magicIn, smallMagic, fragmentMagic, sizeIn, numberIn, countIn, place, smallHeader, goodForm, fragmentHeader, formed, zeroTo, smallTo, readSmall, readFragment, readDatagram, partOf}
+use Rattle.datagram.specs.Read.{magicIn, smallMagic, fragmentMagic, sizeIn, numberIn, countIn, place, goodForm, fragmentHeader, formed, zeroTo, smallTo, readSmall, readFragment, readDatagram, partOf}
 use Rattle.datagram.specs.Said.{Fragment, Said, refused, small, fragment, fragmentIn, says, said}
 use Rattle.datagram.specs.declared.Named.{Named}
 use Rattle.datagram.specs.declared.Named.the-variants.{Nameless, Long}
@@ -25,7 +25,7 @@ use Rattle.steps.specs.Limits.{slotCount, sendersMost, keysEach, ledgerL
 use Rattle.steps.specs.Search.{allBelow}
 use Rattle.steps.specs.Held.{isHeld}
 use Rattle.steps.specs.Memory.{Key, keyOf, Memory, placeAt, isRemembered, memoryOk}
-use Rattle.steps.specs.Slots.{Slot, busy, slotAt, findOpen, seat, filled, allHeld, Emptied, Nobody}
+use Rattle.steps.specs.Slots.{Slot, busy, slotAt, findOpen, filled, allHeld, Emptied, Nobody}
 use Rattle.steps.specs.Receive.{Machine, After, Answer, Refused, Kept, Repeat, Delivered, stay, Verdict, refuse, again, deliver, join, begin, sameMessage, sameFragment, agreesWithAll, step2, step3, step3or4, decide, step5, act, receive, slotOk, sound, step, forget}
 use Rattle.steps.specs.Promises.{Crowded, by-senders, by-keys, Unfit, by-store, by-ledger, by-slot-size, by-slot, by-memory}
 use Rattle.steps.proofs.Tables.{and-no, and-none, all-none, all-not, clash-none}

@@ -1,15 +1,14 @@
 -- Every state that calls can reach is in order; and what forget leaves of one.
 use mathlib.Core.Path.{_≡_, refl, sym, ap, _∙_, subst}
-use mathlib.Core.Logic.{_≢_, _⊎_, inl, inr}
-use mathlib.Core.Bool.{Bool, true, false, not, _&&_, _||_, or-true}
+use mathlib.Core.Logic.{_≢_, inl, inr}
+use mathlib.Core.Bool.{true, false, not, or-true}
 use mathlib.Core.Option.{none}
 use mathlib.Core.List.{List}
-use Prim.Native.Nat.{ℕ, suc, _+_, _≤_, _<_}
+use Prim.Native.Nat.{ℕ, _≤_, _<_}
 use native.Mathlib.Nat.{le-refl}
 use native.Mathlib.Omega.{arith}
 use native.Mathlib.Decide.{ℕ-discrete}
-use lib.Dec.{eqb, leb}
-use lib.ListN.{length, getD, set, length-set, length-replicate, getD-replicate, replicate}
+use lib.ListN.{length, set, length-set, length-replicate, getD-replicate, replicate}
 use lib.Seq.{getD-set-other}
 use borrow.Author.Tests.{eq-eqb, le-leb}
 use Rattle.wire.proofs.Choices.{either, never, and-five}
@@ -18,7 +17,7 @@ use Rattle.datagram.specs.Said.{fragment, Fragment, said}
 use Rattle.datagram.proofs.Saids.{Formed, fragment-formed}
 use Rattle.steps.specs.Limits.{slotCount, ledgerLength, slotSizeOf}
 use Rattle.steps.specs.Search.{allBelow}
-use Rattle.steps.specs.Memory.{Key, keyOf, sameKey, Memory, isRemembered, remember, memoryOk}
+use Rattle.steps.specs.Memory.{Key, keyOf, sameKey, Memory, isRemembered, remember}
 use Rattle.steps.specs.Slots.{Slot, busy, noSlot, slotAt, findOpen, release, releaseOf, opening, filled, allHeld, seat, Emptied, Nobody}
 use Rattle.steps.specs.Receive.{Machine, After, stay, opened, step5, beginAt, slotOk, sound, step, forget}
 use Rattle.steps.specs.Reach.{Reached, opens, receives, forgets, InOrder}

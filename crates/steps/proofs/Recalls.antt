@@ -1,16 +1,14 @@
 -- WHAT IS REMEMBERED, OVER ANY RUN OF CALLS, forgets included: the memory is that of the calls' deliveries and forgettings, in their order.
 use mathlib.Core.Path.{_≡_, refl, sym, ap, _∙_, subst}
 use mathlib.Core.Logic.{inl, inr}
-use mathlib.Core.Bool.{Bool, true, false}
-use mathlib.Core.Option.{none, some}
-use mathlib.Core.List.{List, [], _∷_}
-use Prim.Native.Nat.{ℕ, _<_}
-use lib.ListN.{length, set}
-use Rattle.wire.specs.Choice.{pick}
+use mathlib.Core.Bool.{false}
+use mathlib.Core.List.{List}
+use Prim.Native.Nat.{ℕ}
+use lib.ListN.{set}
 use Rattle.wire.proofs.Choices.{either, never}
 use Rattle.datagram.specs.Limits.{maxFragments}
 use Rattle.datagram.specs.Said.{Said, Fragment, said}
-use Rattle.steps.specs.Memory.{Key, keyOf, Memory, isRemembered, remember, forgetKeys, Deed, delivery, forgetting, memoryAfter, amongLast}
+use Rattle.steps.specs.Memory.{Key, keyOf, Memory, isRemembered, remember, forgetKeys, Deed, memoryAfter, amongLast}
 use Rattle.steps.specs.Slots.{Slot, slotAt, opening, filled, allHeld, seat, Emptied, Nobody}
 use Rattle.steps.specs.Receive.{Machine, After, Answer, Refused, Kept, Repeat, Delivered, opened, stay, step5, step, forget, sequenceOf}
 use Rattle.steps.specs.Runs.{from, keyIn}

@@ -11,7 +11,7 @@ use Rattle.wire.specs.Choice.{pick}
 use Rattle.steps.specs.Limits.{slotCount, ledgerLength}
 use Rattle.steps.specs.Memory.{Key, sameKey, isRemembered, Deed, delivery, forgetting}
 use Rattle.steps.specs.Slots.{busy, slotAt, findOpen, openCount}
-use Rattle.steps.specs.Receive.{Machine, PayloadAt, InDatagram, InStore, Answer, Refused, Kept, Repeat, Delivered, opened, step, forget, sound}
+use Rattle.steps.specs.Receive.{Machine, InDatagram, InStore, Answer, Refused, Kept, Repeat, Delivered, opened, step, forget, sound}
 use Rattle.steps.specs.Answers.{emptiedKey}
 use Rattle.steps.specs.Runs.{World, lending, Arrival, from, keyIn, call}
 

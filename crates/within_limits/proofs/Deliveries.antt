@@ -1,15 +1,14 @@
 -- A call within a log's limits is the step list's within them; what it delivers lies in what holds it; and it leads to no state that other calls do not reach.
 use mathlib.Core.Path.{_≡_, refl, sym, ap, subst, _∙_}
 use mathlib.Core.Logic.{inl, inr}
-use mathlib.Core.Bool.{true, false}
+use mathlib.Core.Bool.{true}
 use mathlib.Core.List.{List}
 use Prim.Native.Nat.{ℕ}
-use Rattle.wire.specs.Choice.{pick}
 use Rattle.wire.proofs.Choices.{either}
 use Rattle.datagram.specs.Said.{said}
 use Rattle.steps.specs.declared.PayloadAt.{PayloadAt}
 use Rattle.steps.specs.declared.Answer.the-variants.{Refused, Delivered}
-use Rattle.steps.specs.Receive.{Machine, After, stay, step}
+use Rattle.steps.specs.Receive.{Machine, After, stay}
 use Rattle.steps.specs.Receive as steps
 use Rattle.steps.specs.Promises.{Lies}
 use Rattle.steps.specs.Reach.{Reached}

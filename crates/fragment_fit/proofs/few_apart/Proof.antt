@@ -10,12 +10,6 @@ use Rattle.fragment_fit.proofs.Aparts.{few-below, few-all, zero-apart}
 use Rattle.fragment_fit.proofs.few_apart.Statement.{statement}
 use Rattle.fragment_fit.proofs.few_apart.Tie as tie
 
-word-requires : tie.Need-word-requires
-word-requires c κs = search needs
-
-run-apart-requires : tie.Need-run-apart-requires
-run-apart-requires c κs = search needs
-
 returns : tie.Need-returns
 returns c =
     let word = c .before .before in
@@ -23,9 +17,6 @@ returns c =
     let a = start .args in
     let e = rw (word .word .ensures) at (sym (c .before .run-apart .ensures) ∙ not-true _ (c .if1 .taken)) in
     sym (few-below (a .held .now) (a .ledger .now) (a .n) (a .k) (a .offset) (a .len) (start .pre .0) (start .pre .1) e)
-
-shr-above : tie.Need-shr-above
-shr-above c = search needs
 
 -- none below crosses: those above decide
 those-above : (c : tie.Else1)
@@ -44,19 +35,10 @@ returns-2 c =
     let a = c .before .before .before .before .before .before .args in
     sym (zero-apart _ (a .n - a .k) (a .ledger .now) (2 * a .k) false (a .offset) (a .len) (c .if2 .taken)) ∙ those-above (c .before)
 
-mul-run-apart : tie.Need-mul-run-apart
-mul-run-apart c = search needs
-
-sub-run-apart : tie.Need-sub-run-apart
-sub-run-apart c = search needs
-
-run-apart-requires-2 : tie.Need-run-apart-requires-2
-run-apart-requires-2 c κs = search needs
-
 returns-3 : tie.Need-returns-3
 returns-3 c = c .run-apart2 .ensures ∙ those-above (c .before .before)
 
 pub few-apart-spec : {M : Type 1} → statement M
 few-apart-spec =
     tie.close
-    (tie.spec word-requires run-apart-requires returns shr-above returns-2 mul-run-apart sub-run-apart run-apart-requires-2 returns-3)
+    (tie.spec (λ c κs. search needs) (λ c κs. search needs) returns (λ c. search needs) returns-2 (λ c. search needs) (λ c. search needs) (λ c κs. search needs) returns-3)

@@ -11,19 +11,10 @@ use Rattle.fragment_fit.proofs.Aparts.{near-missed, near-apart}
 use Rattle.fragment_fit.proofs.fits_apart.Statement.{statement}
 use Rattle.fragment_fit.proofs.fits_apart.Tie as tie
 
-near-fit-requires : tie.Need-near-fit-requires
-near-fit-requires c κs = search needs
-
 returns : tie.Need-returns
 returns c =
     let a = c .before .before .before .before .args in
     sym (near-missed (a .held .now) (a .ledger .now) (a .n) (a .k) (a .offset) (a .len) (omega arith) (sym (c .before .near-fit .ensures) ∙ not-true _ (c .if1 .taken)))
-
-as-size-requires : tie.Need-as-size-requires
-as-size-requires c κs = search needs
-
-few-apart-requires : tie.Need-few-apart-requires
-few-apart-requires c κs = search needs
 
 -- it agrees with its neighbours: that none crosses it decides
 beside : (c : tie.After-as-size)
@@ -39,13 +30,10 @@ beside c =
 returns-2 : tie.Need-returns-2
 returns-2 c = c .few-apart .ensures ∙ beside (c .before .before)
 
-all-apart-requires : tie.Need-all-apart-requires
-all-apart-requires c κs = search needs
-
 returns-3 : tie.Need-returns-3
 returns-3 c = c .all-apart .ensures ∙ beside (c .before .before)
 
 pub fits-apart-spec : {M : Type 1} → statement M
 fits-apart-spec =
     tie.close
-    (tie.spec near-fit-requires returns as-size-requires few-apart-requires returns-2 all-apart-requires returns-3)
+    (tie.spec (λ c κs. search needs) returns (λ c κs. search needs) (λ c κs. search needs) returns-2 (λ c κs. search needs) returns-3)

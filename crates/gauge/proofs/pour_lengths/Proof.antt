@@ -1,7 +1,7 @@
 -- Lengths, each after a space. The loop's invariant: what went out and the lengths of the blocks that are left are those of all. Assumes nothing.
 use mathlib.Core.Path.{_≡_, refl, sym, ap, _∙_}
 use mathlib.Core.List.{List, [], _∷_, _++_, append-nil, append-assoc}
-use Prim.Native.Nat.{ℕ, _+_, _-_, _≤_}
+use Prim.Native.Nat.{ℕ, _+_, _-_}
 use native.Mathlib.Omega.{arith}
 use lib.ListN.{length, drop}
 use Rattle.moss.specs.Blocks.{messagesIn}
@@ -26,15 +26,6 @@ loop-holds c =
     let s = c .before .before in
     let a = s .args in
     (s .pre, refl, record { text = []; gone = λ l h. sends-none (a .out .now) (a .at) h; whole = refl })
-
-number-requires : tie.Need-number-requires Inv-loop μ-loop
-number-requires c κs = search needs
-
-slice-aggregate-pour-counted : tie.Need-slice-aggregate-pour-counted Inv-loop μ-loop
-slice-aggregate-pour-counted c = search needs
-
-pour-counted-requires : tie.Need-pour-counted-requires Inv-loop μ-loop
-pour-counted-requires c κs = search needs
 
 add-block : tie.Need-add-block Inv-loop μ-loop
 add-block c = omega (arith, c .before .before .before .before .before .number .ensures .fits)
@@ -73,9 +64,6 @@ loop-again c =
       },
     )
 
-same-length : tie.Need-same-length Inv-loop μ-loop
-same-length c = search needs
-
 returns : tie.Need-returns Inv-loop μ-loop
 returns c =
     let l = c .before in
@@ -93,12 +81,12 @@ pour-lengths-spec =
     Inv-loop
     μ-loop
     loop-holds
-    number-requires
-    slice-aggregate-pour-counted
-    pour-counted-requires
+    (λ c κs. search needs)
+    (λ c. search needs)
+    (λ c κs. search needs)
     add-block
     add-block-2
     loop-less
     loop-again
-    same-length
+    (λ c. search needs)
     returns)

@@ -11,20 +11,11 @@ use borrow.Author.Needs.{needs}
 use Rattle.gauge.proofs.pour_messages.Statement.{statement}
 use Rattle.gauge.proofs.pour_messages.Tie as tie
 
-slice-aggregate-pour : tie.Need-slice-aggregate-pour
-slice-aggregate-pour c = search needs
-
-pour-requires : tie.Need-pour-requires
-pour-requires c κs = search needs
-
 pour-lengths-requires : tie.Need-pour-lengths-requires
 pour-lengths-requires c κs =
     let t = c .before .before .before .before .before .before in
     let s = t .before .before .before .before in
     blocks-filled (s .args .p .now) (s .args .header) (s .pre) (t .if1 .taken)
-
-same-length : tie.Need-same-length
-same-length c = search needs
 
 returns : tie.Need-returns
 returns c =
@@ -46,9 +37,9 @@ pub pour-messages-spec : {M : Type 1} → statement M
 pour-messages-spec =
     tie.close
     (tie.spec
-    slice-aggregate-pour
-    pour-requires
+    (λ c. search needs)
+    (λ c κs. search needs)
     pour-lengths-requires
-    same-length
+    (λ c. search needs)
     returns
     returns-2)

@@ -1,11 +1,11 @@
 -- `memory::each_in_order` meets its contract. The loop's invariant: the i places passed have not over 32 sequences. Assumes nothing.
-use mathlib.Core.Path.{_≡_, refl, sym, _∙_, ap}
+use mathlib.Core.Path.{_≡_, refl, sym, _∙_}
 use mathlib.Core.Bool.{true}
-use Prim.Native.Nat.{ℕ, _+_, _-_, _≤_, _<_}
+use Prim.Native.Nat.{_-_, _≤_}
 use native.Mathlib.Omega.{arith}
 use borrow.Author.Needs.{needs}
 use borrow.Author.Tests.{lt-leb, le-leb}
-use Rattle.steps.specs.Limits.{sendersMost, keysEach}
+use Rattle.steps.specs.Limits.{sendersMost}
 use Rattle.steps.specs.Search.{allBelow}
 use Rattle.steps.proofs.Tables.{all-not}
 use Rattle.memory.proofs.Loops.{fewAt, ok-is, all-more}
@@ -21,24 +21,12 @@ abbrev μ-loop : tie.MeasureT-loop
 loop-holds : tie.Need-loop-holds Inv-loop μ-loop
 loop-holds c = (omega arith, refl)
 
-add-word : tie.Need-add-word Inv-loop μ-loop
-add-word c = search needs
-
-word-requires : tie.Need-word-requires Inv-loop μ-loop
-word-requires c κs = search needs
-
 returns : tie.Need-returns Inv-loop μ-loop
 returns c =
     let start = c .before .before .before in
     let w = start .before .before .args .memory .now in
     let l = start .loop in
     sym (ok-is w ∙ all-not sendersMost (fewAt w) (l .i) (omega arith) (lt-leb _ _ (rw (c .before .word .ensures) at (c .if1 .taken))))
-
-add-i : tie.Need-add-i Inv-loop μ-loop
-add-i c = search needs
-
-loop-less : tie.Need-loop-less Inv-loop μ-loop
-loop-less c = search needs
 
 loop-again : tie.Need-loop-again Inv-loop μ-loop
 loop-again c =
@@ -59,10 +47,10 @@ each-in-order-spec =
     Inv-loop
     μ-loop
     loop-holds
-    add-word
-    word-requires
+    (λ c. search needs)
+    (λ c κs. search needs)
     returns
-    add-i
-    loop-less
+    (λ c. search needs)
+    (λ c. search needs)
     loop-again
     returns-2)

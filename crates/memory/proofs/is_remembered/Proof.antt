@@ -6,12 +6,6 @@ use Rattle.memory.proofs.Views.{known-there, known-nowhere}
 use Rattle.memory.proofs.is_remembered.Statement.{statement}
 use Rattle.memory.proofs.is_remembered.Tie as tie
 
-own-place-requires : tie.Need-own-place-requires
-own-place-requires c κs = search needs
-
-may-have-requires : tie.Need-may-have-requires
-may-have-requires c κs = search needs
-
 returns : tie.Need-returns
 returns c =
     let there = c .before .before .before in
@@ -19,9 +13,6 @@ returns c =
     let a = own .before .before .args in
     known-there (a .memory .now) (a .sender) (a .sequence) _ _ (own .own-place .ensures) (there .if1 .taken)
     (sym (c .before .may-have .ensures (not-true _ (c .if3 .taken))))
-
-has-key-requires : tie.Need-has-key-requires
-has-key-requires c κs = search needs
 
 returns-2 : tie.Need-returns-2
 returns-2 c =
@@ -38,4 +29,4 @@ returns-3 c =
 pub is-remembered-spec : {M : Type 1} → statement M
 is-remembered-spec =
     tie.close
-    (tie.spec own-place-requires may-have-requires returns has-key-requires returns-2 returns-3)
+    (tie.spec (λ c κs. search needs) (λ c κs. search needs) returns (λ c κs. search needs) returns-2 returns-3)

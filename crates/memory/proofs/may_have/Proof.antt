@@ -18,35 +18,8 @@ Inv-loop memory i sequence a low seen₀ j₀ seen j =
 abbrev μ-loop : tie.MeasureT-loop
 μ-loop memory i sequence a low seen₀ j₀ seen j = keysEach - j
 
-mul-a : tie.Need-mul-a Inv-loop μ-loop
-mul-a c = search needs
-
-add-a : tie.Need-add-a Inv-loop μ-loop
-add-a c = search needs
-
-low-of-requires : tie.Need-low-of-requires Inv-loop μ-loop
-low-of-requires c κs = search needs
-
 loop-holds : tie.Need-loop-holds Inv-loop μ-loop
 loop-holds c = (omega arith, λ e k h. absurd (omega arith))
-
-add-low-of : tie.Need-add-low-of Inv-loop μ-loop
-add-low-of c = search needs
-
-mul-low-of : tie.Need-mul-low-of Inv-loop μ-loop
-mul-low-of c = search needs
-
-shared-slice-read-low-of : tie.Need-shared-slice-read-low-of Inv-loop μ-loop
-shared-slice-read-low-of c = search needs
-
-low-of-requires-2 : tie.Need-low-of-requires-2 Inv-loop μ-loop
-low-of-requires-2 c κs = search needs
-
-add-j : tie.Need-add-j Inv-loop μ-loop
-add-j c = search needs
-
-loop-less : tie.Need-loop-less Inv-loop μ-loop
-loop-less c = search needs
 
 loop-again : tie.Need-loop-again Inv-loop μ-loop
 loop-again c =
@@ -68,15 +41,15 @@ may-have-spec =
     (tie.spec
     Inv-loop
     μ-loop
-    mul-a
-    add-a
-    low-of-requires
+    (λ c. search needs)
+    (λ c. search needs)
+    (λ c κs. search needs)
     loop-holds
-    add-low-of
-    mul-low-of
-    shared-slice-read-low-of
-    low-of-requires-2
-    add-j
-    loop-less
+    (λ c. search needs)
+    (λ c. search needs)
+    (λ c. search needs)
+    (λ c κs. search needs)
+    (λ c. search needs)
+    (λ c. search needs)
     loop-again
     returns)

@@ -22,29 +22,11 @@ loop-holds c =
     let a = c .args in
     (omega arith, (refl, sym (overlay-nil (a .state .now) (a .b))))
 
-add-state : tie.Need-add-state Inv-loop μ-loop
-add-state c = search needs
-
-mul-state : tie.Need-mul-state Inv-loop μ-loop
-mul-state c = search needs
-
-slice-write-state : tie.Need-slice-write-state Inv-loop μ-loop
-slice-write-state c = search needs
-
-add-i : tie.Need-add-i Inv-loop μ-loop
-add-i c = search needs
-
-loop-less : tie.Need-loop-less Inv-loop μ-loop
-loop-less c = search needs
-
 loop-again : tie.Need-loop-again Inv-loop μ-loop
 loop-again c =
     let l = c .before .loop in
     let a = c .before .before .args in
     (omega arith, cleared-more (a .state .now) (a .b) (l .i) (l .state) (l .inv .1))
-
-same-length : tie.Need-same-length Inv-loop μ-loop
-same-length c = search needs
 
 returns : tie.Need-returns Inv-loop μ-loop
 returns c =
@@ -56,4 +38,4 @@ returns c =
 pub clear-block-spec : {M : Type 1} → statement M
 clear-block-spec =
     tie.close
-    (tie.spec Inv-loop μ-loop loop-holds add-state mul-state slice-write-state add-i loop-less loop-again same-length returns)
+    (tie.spec Inv-loop μ-loop loop-holds (λ c. search needs) (λ c. search needs) (λ c. search needs) (λ c. search needs) (λ c. search needs) loop-again (λ c. search needs) returns)

@@ -22,26 +22,11 @@ loop-holds c =
     let a = c .args in
     (omega arith, (refl, sym (overlay-nil (a .names .now) (a .a))))
 
-add-names : tie.Need-add-names Inv-loop μ-loop
-add-names c = search needs
-
-slice-write-names : tie.Need-slice-write-names Inv-loop μ-loop
-slice-write-names c = search needs
-
-add-i : tie.Need-add-i Inv-loop μ-loop
-add-i c = search needs
-
-loop-less : tie.Need-loop-less Inv-loop μ-loop
-loop-less c = search needs
-
 loop-again : tie.Need-loop-again Inv-loop μ-loop
 loop-again c =
     let l = c .before .loop in
     let a = c .before .before .args in
     (omega arith, cleared-more (a .names .now) (a .a) (l .i) (l .names) (l .inv .1))
-
-same-length : tie.Need-same-length Inv-loop μ-loop
-same-length c = search needs
 
 returns : tie.Need-returns Inv-loop μ-loop
 returns c =
@@ -53,4 +38,4 @@ returns c =
 pub clear-name-spec : {M : Type 1} → statement M
 clear-name-spec =
     tie.close
-    (tie.spec Inv-loop μ-loop loop-holds add-names slice-write-names add-i loop-less loop-again same-length returns)
+    (tie.spec Inv-loop μ-loop loop-holds (λ c. search needs) (λ c. search needs) (λ c. search needs) (λ c. search needs) loop-again (λ c. search needs) returns)

@@ -19,17 +19,8 @@ abbrev μ-loop : tie.MeasureT-loop
 loop-holds : tie.Need-loop-holds Inv-loop μ-loop
 loop-holds c = (omega arith, λ j h. absurd (omega arith))
 
-at-requires : tie.Need-at-requires Inv-loop μ-loop
-at-requires c κs = search needs
-
 returns : tie.Need-returns Inv-loop μ-loop
 returns c = λ e. absurd (let z : _≡_ {A = ℕ} 0 1 = cc in omega arith)
-
-add-i : tie.Need-add-i Inv-loop μ-loop
-add-i c = search needs
-
-loop-less : tie.Need-loop-less Inv-loop μ-loop
-loop-less c = search needs
 
 loop-again : tie.Need-loop-again Inv-loop μ-loop
 loop-again c =
@@ -50,9 +41,9 @@ none-above-spec =
     Inv-loop
     μ-loop
     loop-holds
-    at-requires
+    (λ c κs. search needs)
     returns
-    add-i
-    loop-less
+    (λ c. search needs)
+    (λ c. search needs)
     loop-again
     returns-2)
