@@ -8,7 +8,7 @@ here = os.path.dirname(os.path.abspath(__file__))
 sys.path += [os.path.join(here, "..", "log"), os.path.join(here, "..", "lmcp")]
 import messages  # noqa: E402
 from log import STORE, entries_in, first_log_of, limits_in, log_of  # noqa: E402
-from receiver import MAX_PAYLOAD, Receiver, cut, fragment, small  # noqa: E402
+from receiver import Receiver, cut, fragment, small  # noqa: E402
 
 HOLDS = 2097152
 NUMBERS = 262144
@@ -102,11 +102,6 @@ def told(found):
 def count_pits(log):
     """What the program writes."""
     return told(count(log)) if len(log) <= HOLDS else f"longer than {HOLDS} bytes\n"
-
-
-def qm_count(log):
-    """What `qm count` writes: it has no longest log, and lends slots of the largest payload and room for the longest message."""
-    return told(count(log, store=8 * MAX_PAYLOAD, room=messages.LIMIT))
 
 
 # ---- survey messages, as a camera or its partner makes them
