@@ -2,8 +2,7 @@
 
 #include "qm.h"
 
-/* A decimal number of at most `most`. */
-static int is_number(const char *text, qm_u64 most, qm_u64 *number) {
+int is_number(const char *text, qm_u64 most, qm_u64 *number) {
     qm_u64 n = 0;
     if (!*text) return 0;
     for (; *text; text++) {
@@ -21,7 +20,6 @@ static int run(unsigned i, int option, char **word) {
     case LIST: return list_command(word[0]);
     case REPLAY: return replay_command(word[0], option);
     case GAPS: return gaps_command(word[0]);
-    case COUNT: return count_command(word[0]);
     case INDEX: return index_command(word[0]);
     case KEEP: return keep_command(word[0], option);
     default:
@@ -30,15 +28,22 @@ static int run(unsigned i, int option, char **word) {
     }
 }
 
+/* A command that reads its words itself has said which is wrong. */
+static int run_any(unsigned i, int words, char **word) {
+    int status = i == COUNT ? count_command(words, word) : strays_command(words, word);
+    return status == USAGE ? command_usage(stderr, i, USAGE) : status;
+}
+
 int main(int words, char **word) {
     static char buffer[1 << 18];
     if (words == 2 && strcmp(word[1], "--help") == 0) return usage(stdout, DONE);
     for (unsigned i = 0; words > 1 && i < COMMANDS; i++) {
         if (strcmp(word[1], commands[i].name) != 0) continue;
         if (words == 3 && strcmp(word[2], "--help") == 0) return command_usage(stdout, i, DONE);
+        setvbuf(stdout, buffer, WHOLE_BUFFERS, sizeof buffer);
+        if (commands[i].operands == ANY) return run_any(i, words - 2, word + 2);
         int option = words > 2 && commands[i].option && strcmp(word[2], commands[i].option) == 0;
         if (words != 2 + option + commands[i].operands) return command_usage(stderr, i, USAGE);
-        setvbuf(stdout, buffer, WHOLE_BUFFERS, sizeof buffer);
         return run(i, option, word + 2 + option);
     }
     return usage(stderr, USAGE);

@@ -11,12 +11,15 @@ enum {
     DONE = 0,
     FAILED = 1,    /* the system refused: a file, the output */
     USAGE = 2,     /* called otherwise than --help says */
-    REFUSED = 3    /* the log was refused, by the number printed */
+    REFUSED = 3    /* a log was refused: it is not whole, or what was asked for does not fit */
 };
 
 /* ---- how it is called */
 
-enum { LIST, REPLAY, GAPS, COUNT, INDEX, FIND, KEEP, COMMANDS };
+enum { LIST, REPLAY, GAPS, COUNT, STRAYS, INDEX, FIND, KEEP, COMMANDS };
+
+/* Options of its own and any number of logs: the command reads its words itself. */
+enum { ANY = -1 };
 
 struct command {
     const char *name, *takes, *does, *option, *says;
@@ -80,14 +83,19 @@ int walk_end(struct walk *w);
 int working(const char *command, const char *path, qm_size length);
 void worked(int shown);
 
+/* Whether a text is a decimal number of at most `most`, and which. */
+int is_number(const char *text, qm_u64 most, qm_u64 *number);
+
 /* ---- the commands: each prints what it has to say and answers the status */
 
 int list_command(const char *path);
 int replay_command(const char *path, int large);
 int gaps_command(const char *path);
-int count_command(const char *path);
 int index_command(const char *path);
 int find_command(const char *path, qm_u64 sender, qm_u64 sequence);
 int keep_command(const char *path, int synced);
+/* these read the words of the command line themselves, and say which is wrong */
+int count_command(int words, char **word);
+int strays_command(int words, char **word);
 
 #endif

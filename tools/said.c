@@ -21,9 +21,6 @@ static const char *meaning(qm_u32 number) {
     case QM_LOG_CUT: return "empty, or it ends inside an entry: the writing was cut off";
     case QM_LOG_LIMIT: return "its payload limit is over 1,048,576: damaged on disk, or from a newer program";
     case QM_INDEX_FULL: return "more than 4,096 entries with a key: an index takes no more";
-    case QM_TOO_MANY_TILES: return "more than 256 tiles";
-    case QM_TOO_MANY_PITS: return "more than 8,192 pits";
-    case QM_TOO_MANY_ENTRIES: return "more than 4,096 entries: a count takes no more";
     default: return "docs/REFUSALS.md says why";
     }
 }

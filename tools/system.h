@@ -23,17 +23,22 @@ int setvbuf(FILE *file, char *buffer, int how, unsigned long length);
 enum { WHOLE_BUFFERS = 0 };
 
 int strcmp(const char *a, const char *b);
+char *strchr(const char *text, int byte);
 unsigned long strlen(const char *text);
 long atol(const char *text);
 
 /* ---- memory */
 
 void *malloc(unsigned long length);
+void *realloc(void *at, unsigned long length);
+void *calloc(unsigned long many, unsigned long size);
 void free(void *at);
 void *memcpy(void *to, const void *from, unsigned long length);
 void *memmove(void *to, const void *from, unsigned long length);
 void *memset(void *to, int byte, unsigned long length);
 int memcmp(const void *a, const void *b, unsigned long length);
+void qsort(void *at, unsigned long many, unsigned long size, int (*compare)(const void *, const void *));
+unsigned long getauxval(unsigned long what);
 
 void *mmap(void *at, unsigned long length, int allowed, int flags, int file, long offset);
 int munmap(void *at, unsigned long length);

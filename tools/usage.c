@@ -12,9 +12,22 @@ const struct command commands[COMMANDS] = {
     [GAPS] = {"gaps", "LOG", "a line an entry: what the sequence watch notes of its sender's number", 0,
               "Prints `1 first`, `2 forward 3` (so many numbers are missing before it), `3 same`, `4 late 2`, `5 restarted 7` or `6 refused 4` for each entry,\n"
               "then `end N` or `refused R after N`. The watch has room for 16 senders; those of a 17th are `refused 14`.\n", 1},
-    [COUNT] = {"count", "LOG", "entries by their answers, and for each tile its pits and how many of them are sure", 0,
-               "Prints `entries E`, `kept K`, `repeated R`, `delivered D`, `refused N C` for each number that occurred, `lists L`, then `tile 9 pits 14 sure 11`\n"
-               "for each tile, rising; or the one line `refused R`.\n", 1},
+    [COUNT] = {"count", "[--whole] [--senders] [--from SENDER].. [--forget-at SENDER:ENTRY].. LOG..",
+               "entries by their answers, and for each tile its pits and how many of them are sure, of one flight or of a season", 0,
+               "Each log is a flight, of any length, through a fresh receiver; all flights make one map, whatever their order, and a flight that is given twice adds no\n"
+               "pit. Prints `entries E`, `kept K`, `repeated R`, `delivered D`, `refused N C` for each number that occurred and `lists L`, over all logs, then\n"
+               "`tile 9 pits 14 sure 11` for each tile, rising; or the one line `refused 60` or `refused 61` where there are more than 65,536 tiles or pits.\n"
+               "A log that is not whole counts up to the entry that is refused, and standard error says so.\n"
+               "  --whole        where a log is not whole, only the line `refused R` of the first such log\n"
+               "  --senders      after `lists` a line `sender 7 lists 12` for each sender that brought one, rising\n"
+               "  --from SENDER  counts the entries of this sender alone, or of these, where it stands more than once: a stranger's list makes no pit\n"
+               "  --forget-at SENDER:ENTRY\n"
+               "                 of one log: the sender is forgotten right before that entry, the first being 1, since it began anew there\n"
+               "Where a camera began anew under old numbers, its tiles are taken for late copies: standard error says how many, and `qm strays` lists them.\n", ANY},
+    [STRAYS] = {"strays", "LOG..", "repeats that are no copies: what a camera sent after it began anew under old numbers, and nobody counted", 0,
+                "Prints `log LOG sender 7 entry 120 tick 99 sequence 500` for each entry that a fresh receiver answers Repeat, though no earlier entry of that sender in\n"
+                "that log has its bytes; then `end N`, over all logs. A log that is not whole is looked through up to the entry that is refused.\n"
+                "`qm count --forget-at 7:120 LOG` counts such a flight with the sender forgotten right before that entry.\n", ANY},
     [INDEX] = {"index", "LOG", "a line for each entry that has a key: sender, sequence, and its place in the log, sorted", 0,
                "Prints `sender 7 sequence 12 place 1` for each entry that the datagram reader accepts within the log's limits, sorted by sender, sequence and\n"
                "place, then `end N`; or the one line `refused R`. The place is that of the entry's first byte.\n", 1},

@@ -100,11 +100,6 @@ def count_pits(log):
     return told(count(log)) if len(log) <= HOLDS else f"longer than {HOLDS} bytes\n"
 
 
-def qm_count(log):
-    """What `qm count` writes: it has no longest log, and lends slots of the largest payload and room for the longest message."""
-    return told(count(log, store=8 * MAX_PAYLOAD, room=messages.LIMIT))
-
-
 # ---- survey messages, as a camera or its partner makes them
 
 def mark(pit, sure, version=1, place=True):
