@@ -13,8 +13,6 @@ MOST = 8  # arguments
 OVER = {
     "lmcp Marked",
     "lmcp Sofar",
-    "pit_marks Lays",
-    "pit_payloads Looks",
 }
 # files of specs/ with definitions that nothing public reaches
 NOT_INSIDE = {
@@ -24,7 +22,6 @@ NOT_INSIDE = {
     "gauge/Lines",
     "index_lines/Lines",
     "lmcp_bytes/Lines",
-    "lmcp_reader/Steps",
     "lmcp_writer/Steps",
     "log_write/Kept",
     "pit_marks/Enters",

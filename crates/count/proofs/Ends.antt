@@ -4,7 +4,7 @@ use mathlib.Core.Bool.{Bool, true, false}
 use mathlib.Core.List.{List, []}
 use Prim.Native.Nat.{ℕ, suc, _≤_, min}
 use native.Mathlib.Omega.{arith}
-use lib.Dec.{eqb, ltb}
+use lib.Dec.{ltb}
 use lib.IntN.{ℤ}
 use lib.ListN.{length}
 use borrow.Author.Tests.{eq-eqb, ne-eqb, le-ltb, ltb-false}
@@ -27,16 +27,14 @@ use Rattle.sorted_set.specs.Halving.{held}
 use Rattle.count_rules.specs.Marks.{PitList}
 use Rattle.count_rules.specs.Report.{report}
 use Rattle.count_rules.specs.Run.{payloads, listsRead}
-use Rattle.count_rules.specs.Count.{maxEntries, maxTiles, maxPits, firstFault, reportOf, Outcome, reported, noReport, answersTo, unless, countEntries, countListed, countLog}
+use Rattle.count_rules.specs.Count.{maxEntries, maxTiles, firstFault, reportOf, Outcome, reported, noReport, answersTo, unless, countEntries, countListed, countLog}
 use Rattle.count_rules.specs.Walk.{Held, seenAfter, atFirst, walk, walkEntries, leftAfter, heldBy}
 use Rattle.count_rules.proofs.Seen.{seen-report}
 use Rattle.count_rules.proofs.Walks.{walk-agrees}
 use Rattle.pit_marks.specs.declared.Sizes.{Sizes}
 use Rattle.pit_marks.specs.Sets.{Sets, rooms, heldIn, Has}
 use Rattle.pit_marks.proofs.Told.{has-none}
-use Rattle.stretch.specs.declared.Stop.{Stop}
 use Rattle.stretch.specs.declared.Stop.the-variants as stop
-use Rattle.stretch.specs.declared.Totals.{Totals}
 use Rattle.stretch.specs.declared.Stretch.{Stretch}
 use Rattle.stretch.specs.Stretch.{Desk, Kit, kitOf, inShape, Stretched, stretch, Clean, stopFault, entriesOf, totalsOf, stretchOf, CountsOn}
 use Rattle.stretch.proofs.Laws.{clean-zero, clean-answers, refused-some}

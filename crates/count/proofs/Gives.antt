@@ -1,10 +1,10 @@
 -- The report in the struct is the report of the lists seen. Assumes nothing.
-use mathlib.Core.Path.{_≡_, refl, sym, ap, _∙_, subst}
+use mathlib.Core.Path.{_≡_, refl, sym, ap, _∙_}
 use mathlib.Core.List.{List, [], _∷_, _++_, map}
 use Prim.Native.Nat.{ℕ, zero, suc, _+_, _-_, _≤_}
 use native.Mathlib.Nat.{sub-zero, suc-sub-suc, zero-sub}
 use native.Mathlib.Omega.{arith}
-use lib.ListN.{length, drop, replicate, length-map, length-replicate}
+use lib.ListN.{length, drop, length-map, length-replicate}
 use Rattle.wire.specs.Overlay.{overlay}
 use Rattle.wire.proofs.Overlays.{overlay-eq}
 use Rattle.sorted_set.proofs.Sets.{as-many}

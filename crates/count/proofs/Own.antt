@@ -1,9 +1,8 @@
 -- In sets of the count's own words, what stands against a payload is what the count says. Assumes nothing.
-use mathlib.Core.Path.{_≡_, refl, sym, ap, _∙_, subst}
+use mathlib.Core.Path.{_≡_, sym, ap, _∙_, subst}
 use mathlib.Core.Logic.{inl, inr}
-use mathlib.Core.Bool.{Bool, true, false}
-use mathlib.Core.List.{List, [], _∷_, _++_, map}
-use Prim.Native.Nat.{ℕ, _≤_, _<_}
+use mathlib.Core.List.{List, _++_, map}
+use Prim.Native.Nat.{ℕ, _≤_}
 use native.Mathlib.Omega.{arith}
 use lib.Dec.{ltb}
 use lib.ListN.{length}
@@ -15,7 +14,7 @@ use Rattle.lmcp.specs.Lists.{readList}
 use Rattle.sorted_set.specs.Lists.{In, gather, rising}
 use Rattle.sorted_set.proofs.Members.{gather-in, gather-from, Source, map-in, map-from, Origin, in-either}
 use Rattle.sorted_set.proofs.Rises.{distinct-fewer}
-use Rattle.count_rules.specs.Marks.{Mark, PitList, listIn}
+use Rattle.count_rules.specs.Marks.{PitList, listIn}
 use Rattle.count_rules.specs.Report.{tiles, pitOf, pitIfSure}
 use Rattle.count_rules.specs.Count.{maxTiles, maxPits, pitsInAll, tooLong, fault}
 use Rattle.count_rules.specs.Keys.{pitKey, pitKeys, sureKeys, AllWithin}

@@ -1,9 +1,9 @@
 -- A stretch through the count's own sets is the count's walk: what it finds, what it leaves, and what the sets hold. Assumes nothing.
 use mathlib.Core.Path.{_≡_, refl, sym, ap, _∙_, subst}
-use mathlib.Core.Logic.{inl, inr}
+use mathlib.Core.Logic.{inl}
 use mathlib.Core.Bool.{Bool, true, false}
-use mathlib.Core.List.{List, [], _∷_, _++_, append-nil}
-use Prim.Native.Nat.{ℕ, zero, suc, _+_}
+use mathlib.Core.List.{List, [], _∷_, append-nil}
+use Prim.Native.Nat.{ℕ, zero, suc}
 use native.Mathlib.Omega.{arith}
 use lib.Dec.{eqb}
 use lib.ListN.{length}
@@ -22,13 +22,12 @@ use Rattle.sorted_set.specs.Lists.{In}
 use Rattle.sorted_set.proofs.Members.{in-left, in-right}
 use Rattle.count_rules.specs.Marks.{PitList, listIn}
 use Rattle.count_rules.specs.Run.{answerTo, payloadIn, payloads, listsRead}
-use Rattle.count_rules.specs.Walk.{faultAt, seenAt, Held, Walked, heldAfter, seenAfter, walk}
+use Rattle.count_rules.specs.Walk.{faultAt, seenAt, Held, Walked, seenAfter, walk}
 use Rattle.pit_marks.specs.Sets.{rooms, Has}
 use Rattle.pit_payloads.specs.Took.{faultIn, listsIn, faultOver, Took}
 use Rattle.pit_payloads.proofs.Takes.{takes}
-use Rattle.stretch.specs.declared.Stop.{Stop}
 use Rattle.stretch.specs.declared.Stop.the-variants as stop
-use Rattle.stretch.specs.Stretch.{Kit, calledOn, lookedAt, kitWith, Entered, enterOn, Stretched, here, byStep, stretch, Clean, stopFault, entriesOf}
+use Rattle.stretch.specs.Stretch.{Kit, calledOn, lookedAt, kitWith, enterOn, Stretched, here, byStep, stretch, Clean, stopFault, entriesOf}
 use Rattle.stretch.proofs.Laws.{list-long, seen-then, lists-both, clean-ok, entries-after}
 use Rattle.count.specs.Inside.{own}
 use Rattle.count.proofs.Own.{fault-own}

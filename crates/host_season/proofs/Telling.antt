@@ -1,15 +1,15 @@
 -- Both ways in which a stretch and the tile lines are told; no second answer. Assumes nothing.
 use mathlib.Core.Path.{_≡_, refl, sym, ap, _∙_, subst}
 use mathlib.Core.Logic.{inl, inr}
-use mathlib.Core.Bool.{Bool, true, false, _||_}
+use mathlib.Core.Bool.{Bool, true, false}
 use mathlib.Core.List.{List, _++_}
-use Prim.Native.Nat.{ℕ, _+_, _≤_, _<_}
+use Prim.Native.Nat.{ℕ, _≤_, _<_}
 use native.Mathlib.Omega.{arith}
 use lib.Dec.{ltb}
 use lib.ListN.{length, length-append}
 use borrow.Author.Tests.{lt-ltb, le-ltb}
 use Rattle.wire.specs.Overlay.{overlay}
-use Rattle.wire.specs.Slices.{Buffer, _⇒_}
+use Rattle.wire.specs.Slices.{_⇒_}
 use Rattle.wire.proofs.Overlays.{overlay-next}
 use Rattle.wire.proofs.Choices.{either, never}
 use Rattle.pit_marks.specs.declared.Sizes.{Sizes}
@@ -19,7 +19,7 @@ use Rattle.pit_marks.proofs.Once.{lines-once}
 use Rattle.stretch.specs.declared.Stretch.{Stretch}
 use Rattle.stretch.specs.declared.Stop.{Stop}
 use Rattle.stretch.specs.declared.Stop.the-variants.{Taken, End, Broken, Refused}
-use Rattle.stretch.specs.Stretch.{Desk, Kit, kitOf, CountsOn}
+use Rattle.stretch.specs.Stretch.{Desk, kitOf, CountsOn}
 use Rattle.stretch.proofs.Once.{count-on-once}
 use Rattle.host_season.specs.Numbers.{stretchLength, stopNumbers, stretchNumbers}
 use Rattle.host_season.specs.Told.{StretchTold, lacking, LinesTold}

@@ -6,7 +6,7 @@ use mathlib.Core.List.{List, [], _∷_, _++_}
 use Prim.Native.Nat.{ℕ, zero, suc, _+_, _*_}
 use lib.Dec.{eqb}
 use lib.ListN.{getD, take, drop}
-use Rattle.wire.specs.Choice.{pick}
+use Rattle.wire.specs.Choice.{pick, _when_else_}
 use Rattle.lmcp.specs.declared.Row.{Row}
 use Rattle.lmcp.specs.Table.{unsignedKind, signedKind, boolKind, objectKind, typesOf, beginnings, second}
 
@@ -33,13 +33,9 @@ runBool (f ∷ fs) = pick (plain f) (runBool fs) (pick (single f) 1 0)
 -- kind and width in one
 abbrev pub code : Row → ℕ
 code f =
-    pick (eqb (f .kind) objectKind) 6
-    (pick (eqb (f .kind) signedKind) (pick (eqb (f .arg) 2) 3 (pick (eqb (f .arg) 4) 4 5))
-    (pick (eqb (f .arg) 1) 0 (pick (eqb (f .arg) 2) 1 2)))
-
--- the bytes of a code
-abbrev pub widthOf : ℕ → ℕ
-widthOf c = pick (eqb c 0) 1 (pick (eqb c 1) 2 (pick (eqb c 2) 4 (pick (eqb c 3) 2 (pick (eqb c 4) 4 8))))
+    6 when eqb (f .kind) objectKind else
+    pick (eqb (f .arg) 2) 3 (pick (eqb (f .arg) 4) 4 5) when eqb (f .kind) signedKind else
+    pick (eqb (f .arg) 1) 0 (pick (eqb (f .arg) 2) 1 2)
 
 abbrev pub atLeast1 : ℕ → ℕ
 atLeast1 zero = 1

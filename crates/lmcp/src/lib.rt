@@ -1,7 +1,7 @@
 // Survey messages: the message table of series PITSURV, and what the reader and the writer answer.
 ghost use mathlib.Core.Path.{_≡_};
 ghost use Prim.Native.Nat.{_-_, _*_, _^_, _<_, min};
-ghost use lib.ListN.{length, getD};
+ghost use lib.ListN.{getD};
 ghost use lib.Signed.{mag};
 ghost use Rattle.lmcp.specs.Table.{pitsurv, rowsOf, startsOf, nothing};
 ghost use Rattle.lmcp.specs.Packed.{packedOf, cell};

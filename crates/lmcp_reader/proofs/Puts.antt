@@ -27,7 +27,8 @@ use Rattle.lmcp_check.proofs.Goes.{then-nil, repeat-same}
 use Rattle.lmcp.proofs.Heads.{read-headed, read-some}
 use Rattle.lmcp.proofs.Codes.{Is-value, put-of, is-object, is-value}
 use Rattle.lmcp_check.proofs.Cases.{number-is, count-short, count-good, value-short, value-bad, value-good, head-short, head-null, head-known, root-some}
-use Rattle.lmcp.specs.Packed.{packedOf, cell, widthOf}
+use Rattle.lmcp.specs.Packed.{packedOf, cell}
+use Rattle.lmcp.specs.InsidePacked.{widthOf}
 use Rattle.lmcp_reader.specs.InsidePuts.{Ahead, Few0, Lays, coded, codedAll}
 
 -- ---- what is got of two is got of each

@@ -6,7 +6,7 @@ use Prim.Native.Nat.{ℕ, zero, suc, _+_, _≤_}
 use lib.IntN.{ℤ, pos}
 use lib.ListN.{length, drop}
 use lib.Dec.{leb, eqb}
-use Rattle.wire.specs.Choice.{pick}
+use Rattle.wire.specs.Choice.{_when_else_}
 use Rattle.wire.specs.Bytes.{be}
 use Rattle.wire.specs.Signed.{signed}
 use Rattle.lmcp.specs.Run.{got}
@@ -30,12 +30,12 @@ Lays s list to W p q list' = Sofar Few0 s list to W (got []) p q list'
 -- the number of a code at the front of bytes
 abbrev pub coded : ℕ → List ℕ → ℤ
 coded c l =
-    pick (eqb c 0) (pos (be 1 l))
-    (pick (eqb c 1) (pos (be 2 l))
-    (pick (eqb c 2) (pos (be 4 l))
-    (pick (eqb c 3) (signed 16 (be 2 l))
-    (pick (eqb c 4) (signed 32 (be 4 l))
-    (signed 64 (be 8 l))))))
+    pos (be 1 l) when eqb c 0 else
+    pos (be 2 l) when eqb c 1 else
+    pos (be 4 l) when eqb c 2 else
+    signed 16 (be 2 l) when eqb c 3 else
+    signed 32 (be 4 l) when eqb c 4 else
+    signed 64 (be 8 l)
 
 abbrev pub codedAll : ℕ → ℕ → ℕ → List ℕ → List ℤ
 codedAll zero c w l = []

@@ -7,7 +7,6 @@ use lib.Dec.{eqb}
 use lib.IntN.{ℤ}
 use lib.ListN.{length, drop}
 use borrow.Author.Tests.{eq-eqb, ne-eqb}
-use Rattle.wire.specs.Choice.{pick}
 use Rattle.lmcp.specs.Table.{second}
 use Rattle.sorted_set.specs.declared.Entered.{Entered}
 use Rattle.sorted_set.specs.declared.Entered.the-variants.{Now, Full}
@@ -16,7 +15,7 @@ use Rattle.count_rules.specs.Marks.{Mark, at, markAt, marksIn}
 use Rattle.pit_marks.specs.declared.Sizes.{Sizes}
 use Rattle.pit_marks.specs.declared.Taken.{Taken}
 use Rattle.pit_marks.specs.declared.Taken.the-variants as taken
-use Rattle.pit_marks.specs.Enters.{keyIn, Pitted, pitted, sureEntered, ifSure, pitEntered, EntersSure, enterPit, onward, followed, enterMarks, withTiles, withPits, withSure, Leaves, Listed, tileEntered, elementsOf, enterList, EntersList}
+use Rattle.pit_marks.specs.Enters.{keyIn, Pitted, pitted, sureEntered, pitEntered, EntersSure, enterPit, onward, followed, enterMarks, withTiles, withPits, withSure, Leaves, Listed, tileEntered, elementsOf, enterList, EntersList}
 use Rattle.pit_marks.specs.Sets.{Sets, setsOf}
 
 -- ---- a sure pit

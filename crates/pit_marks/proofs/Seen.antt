@@ -3,7 +3,7 @@
 use mathlib.Core.Path.{_≡_, refl, sym, ap, _∙_, subst}
 use mathlib.Core.Logic.{inl, inr}
 use mathlib.Core.Bool.{Bool, true, false}
-use mathlib.Core.List.{List, [], _∷_, _++_, map, append-assoc, append-nil}
+use mathlib.Core.List.{List, [], _∷_, _++_, append-assoc, append-nil}
 use Prim.Native.Nat.{ℕ, _+_, _%_, _≤_, _<_}
 use native.Mathlib.Omega.{arith}
 use lib.Dec.{ltb}
@@ -12,15 +12,14 @@ use lib.ListN.{length}
 use borrow.Author.Tests.{ltb-true, ltb-false, lt-ltb, le-ltb}
 use Rattle.wire.specs.Choice.{pick}
 use Rattle.wire.proofs.Choices.{either}
-use Rattle.sorted_set.specs.declared.Entered.{Entered}
 use Rattle.sorted_set.specs.declared.Entered.the-variants.{Now, Full}
-use Rattle.sorted_set.specs.Lists.{In, gather, enter, rising}
+use Rattle.sorted_set.specs.Lists.{In, enter, rising}
 use Rattle.sorted_set.specs.Halving.{held, inserted, rankIn, isThere, noRoom, entered, wordsWith, Holds}
 use Rattle.sorted_set.proofs.Members.{in-left, in-right, in-either}
 use Rattle.sorted_set.proofs.Sets.{as-many, words-long, entered-is, entered-holds}
 use Rattle.count_rules.specs.Marks.{Mark, PitList, at}
 use Rattle.count_rules.specs.Report.{tiles, pitOf, pitIfSure}
-use Rattle.count_rules.specs.Keys.{span, pitKey, pitKeys, sureKeys, Within, AllWithin}
+use Rattle.count_rules.specs.Keys.{span, pitKey, pitKeys, sureKeys, Within}
 use Rattle.count_rules.proofs.Steps.{listOf, pits-more, sure-more, unsure-stay, keys-fewer}
 use Rattle.pit_marks.specs.declared.Sizes.{Sizes}
 use Rattle.pit_marks.specs.declared.Taken.{Taken}

@@ -2,16 +2,16 @@
 use mathlib.Core.Path.{_≡_, refl, sym, ap, _∙_, subst}
 use mathlib.Core.Logic.{inl, inr}
 use mathlib.Core.List.{List, [], map}
-use Prim.Native.Nat.{ℕ, suc, _+_, _-_, _%_, _≤_, _<_}
+use Prim.Native.Nat.{ℕ, suc, _+_, _%_, _≤_, _<_}
 use native.Mathlib.Omega.{arith}
 use lib.Dec.{ltb}
 use lib.ListN.{length, getD, length-map, List·getD-map}
-use borrow.Author.Tests.{ltb-true, ltb-false}
+use borrow.Author.Tests.{ltb-false}
 use Rattle.wire.proofs.Choices.{either}
 use Rattle.words.specs.Builds.{build}
 use Rattle.words.proofs.Builds.{build-is}
 use Rattle.sorted_set.specs.Lists.{In, rising, below}
-use Rattle.sorted_set.specs.Halving.{held, rankIn, Holds}
+use Rattle.sorted_set.specs.Halving.{rankIn, Holds}
 use Rattle.sorted_set.proofs.Members.{in-at}
 use Rattle.sorted_set.proofs.Sets.{all-held, as-many, word-at, rank-below}
 use Rattle.count_rules.specs.Marks.{PitList}

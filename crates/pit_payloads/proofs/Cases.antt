@@ -26,7 +26,7 @@ use Rattle.pit_marks.specs.Sets.{Sets}
 use Rattle.pit_marks.specs.Enters.{EntersList}
 use Rattle.pit_payloads.specs.declared.Looked.{Looked}
 use Rattle.pit_payloads.specs.declared.Looked.the-variants as looked
-use Rattle.pit_payloads.specs.Looks.{Book, book, Left, left, lookedBy, inNumbers, inRead, Leaves, Looks}
+use Rattle.pit_payloads.specs.Looks.{book, Left, left, lookedBy, inNumbers, inRead, Leaves, Looks}
 use Rattle.pit_payloads.specs.Took.{unreadBy}
 
 -- ---- the numbers of a message, by whether they are a list's

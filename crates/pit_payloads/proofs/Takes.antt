@@ -2,7 +2,7 @@
 use mathlib.Core.Path.{_≡_, refl, sym, ap, _∙_, subst}
 use mathlib.Core.Bool.{Bool, true, false}
 use mathlib.Core.List.{List, [], _∷_, _++_}
-use Prim.Native.Nat.{ℕ, _≤_, _<_}
+use Prim.Native.Nat.{ℕ, _<_}
 use native.Mathlib.Omega.{arith}
 use lib.Dec.{eqb, ltb}
 use lib.IntN.{ℤ}
@@ -27,7 +27,6 @@ use Rattle.pit_marks.specs.Sets.{Sets, rooms, Has, over, Partly}
 use Rattle.pit_marks.specs.Enters.{faultOf, sizesOf, Listed, enterList, elementsOf}
 use Rattle.pit_marks.proofs.Seen.{Judged, list-judged}
 use Rattle.pit_marks.proofs.Proper.{Proper, proper, improper}
-use Rattle.pit_payloads.specs.declared.Looked.{Looked}
 use Rattle.pit_payloads.specs.declared.Looked.the-variants as looked
 use Rattle.pit_payloads.specs.Looks.{Left, left, lookedBy, withList, inNumbers, inRead}
 use Rattle.pit_payloads.specs.Took.{faultIn, listsIn, sizesIn, faultOver, Took}

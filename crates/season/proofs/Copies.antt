@@ -1,14 +1,14 @@
 -- LATE COPIES ADD NO PIT TO A SEASON: the lists of a flight that keeps a feed of messages are those of the messages, each once. Assumes nothing.
-use mathlib.Core.Path.{_≡_, sym, ap, subst}
-use mathlib.Core.List.{List, [], _∷_, _++_}
+use mathlib.Core.Path.{_≡_, sym, subst}
+use mathlib.Core.List.{List}
 use Prim.Native.Nat.{ℕ}
 use Rattle.arrival.specs.Demand.{Scene, Feed, Supposed}
 use Rattle.log.specs.Editions.{limitsIn}
 use Rattle.log.specs.Entries.{Entry}
-use Rattle.log.specs.Listed.{Listed, entriesIn}
-use Rattle.sorted_set.specs.Lists.{In, SameMembers}
+use Rattle.log.specs.Listed.{entriesIn}
+use Rattle.sorted_set.specs.Lists.{SameMembers}
 use Rattle.sorted_set.proofs.Members.{gather-same}
-use Rattle.count_rules.specs.Marks.{PitList, listIn}
+use Rattle.count_rules.specs.Marks.{listIn}
 use Rattle.count_rules.specs.Run.{payloads, listsRead}
 use Rattle.count_rules.specs.Count.{answersTo}
 use Rattle.count_rules.specs.Promise.{LogOf, payloadsOf, deliveredBy}

@@ -1,5 +1,5 @@
 -- THE SIZES NEVER GO BEYOND WHAT IS LENT, whatever the sets are. Assumes nothing.
-use mathlib.Core.Path.{_≡_, refl, sym, ap, _∙_, subst}
+use mathlib.Core.Path.{_≡_, refl, sym, subst}
 use mathlib.Core.Bool.{Bool, true, false}
 use mathlib.Core.List.{List, [], _∷_}
 use Prim.Native.Nat.{ℕ, zero, suc, _+_, _≤_, min}
@@ -28,13 +28,12 @@ use Rattle.pit_marks.specs.declared.Sizes.{Sizes}
 use Rattle.pit_marks.specs.declared.Taken.{Taken}
 use Rattle.pit_marks.specs.declared.Taken.the-variants as taken
 use Rattle.pit_marks.specs.Sets.{Sets, heldIn}
-use Rattle.pit_marks.specs.Enters.{keyIn, withPits, withTiles, sizesOf, Pitted, pitted, sureEntered, ifSure, pitEntered, enterPit, onward, enterMarks, Listed, tileEntered, elementsOf, enterList}
-use Rattle.pit_payloads.specs.declared.Looked.{Looked}
+use Rattle.pit_marks.specs.Enters.{keyIn, withPits, withTiles, sizesOf, Pitted, pitted, sureEntered, ifSure, pitEntered, enterPit, onward, enterMarks, tileEntered, elementsOf, enterList}
 use Rattle.pit_payloads.specs.declared.Looked.the-variants as looked
-use Rattle.pit_payloads.specs.Looks.{Left, left, lookedBy, withList, inNumbers, inRead}
+use Rattle.pit_payloads.specs.Looks.{Left, lookedBy, inRead}
 use Rattle.pit_payloads.specs.Took.{faultIn, sizesIn}
 use Rattle.stretch.specs.declared.Stop.the-variants as stop
-use Rattle.stretch.specs.Stretch.{Kit, lookedAt, kitWith, enterOn, Stretched, here, byStep, stretch}
+use Rattle.stretch.specs.Stretch.{Kit, lookedAt, kitWith, enterOn, here, byStep, stretch}
 
 pub record Fits (x : Sets) (had : Sizes) : Type 0 where
   pub tiles : had .tiles ≤ length (x .tiles)

@@ -16,7 +16,7 @@ use Rattle.receiver_state.specs.View.{stateWords, nameBytes, view, shaped}
 use Rattle.receiver.specs.declared.Call.{Call}
 use Rattle.receiver.specs.Lent.{lent}
 use Rattle.open_and_payload.specs.Ends.{Opens}
-use Rattle.log.specs.Editions.{Edition, headIn, limitsOf, limitsIn}
+use Rattle.log.specs.Editions.{Edition, headIn, limitsIn}
 use Rattle.log.specs.Entries.{Entry}
 use Rattle.log.specs.Listed.{entryIn}
 use Rattle.log.specs.declared.reader.Limits.{Limits}
@@ -25,11 +25,8 @@ use Rattle.log.specs.declared.reader.Step.{Step}
 use Rattle.log.specs.declared.reader.Step.the-variants.{Found, End, Refused}
 use Rattle.log.specs.Told.{firstOf, firstIn, entryAt, stepOf, stepIn, nextAt, entrySaid, fromFirst, readAt}
 use Rattle.log.proofs.Onward.{Found-at, found-at}
-use Rattle.pit_marks.specs.declared.Sizes.{Sizes}
-use Rattle.pit_marks.specs.Sets.{heldIn}
 use Rattle.pit_payloads.specs.Looks.{book}
 use Rattle.pit_payloads.specs.Took.{faultIn}
-use Rattle.stretch.specs.declared.Stop.{Stop}
 use Rattle.stretch.specs.declared.Stop.the-variants as stop
 use Rattle.stretch.specs.declared.Stretch.{Stretch}
 use Rattle.stretch.specs.Stretch.{Desk, desk, Kit, kitOf, inShape, Entered, enterOn, Stretched, here, byStep, stretch, toldOn, stretchOf, CountsOn}

@@ -6,7 +6,7 @@ use mathlib.Core.List.{List, [], _∷_, _++_}
 use Prim.Native.Nat.{ℕ, zero, suc, _+_}
 use native.Mathlib.Omega.{arith}
 use lib.Dec.{eqb}
-use lib.ListN.{length, length-append}
+use lib.ListN.{length-append}
 use Rattle.wire.specs.Choice.{pick}
 use Rattle.words.specs.Builds.{build}
 use Rattle.steps.specs.Answers.{Reply}
@@ -21,7 +21,6 @@ use Rattle.count_rules.proofs.Steps.{howMany-append}
 use Rattle.pit_marks.specs.declared.Sizes.{Sizes}
 use Rattle.pit_marks.specs.Sets.{heldIn}
 use Rattle.pit_payloads.specs.Took.{faultIn, listsIn}
-use Rattle.stretch.specs.declared.Stop.{Stop}
 use Rattle.stretch.specs.declared.Stop.the-variants as stop
 use Rattle.stretch.specs.declared.Stretch.{Stretch}
 use Rattle.stretch.specs.Stretch.{Desk, Kit, kitOf, inShape, Entered, enterOn, Stretched, here, before, byStep, stretch, totalsOf, toldOn, stretchOf, CountsOn}

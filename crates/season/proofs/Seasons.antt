@@ -1,26 +1,19 @@
 -- A FLIGHT AND A SEASON against which nothing stood: what the map holds, and its tile lines. Assumes nothing.
 use mathlib.Core.Path.{_≡_, refl, sym, ap, _∙_, subst}
 use mathlib.Core.Logic.{_⊎_, inl, inr}
-use mathlib.Core.Bool.{Bool, true, false}
+use mathlib.Core.Bool.{true}
 use mathlib.Core.List.{List, [], _∷_, _++_, map}
-use Prim.Native.Nat.{ℕ, zero, suc, _+_, _<_, _≤_}
-use native.Mathlib.Omega.{arith}
+use Prim.Native.Nat.{ℕ, suc}
 use lib.ListN.{length}
-use borrow.Author.Tests.{eq-eqb}
 use Rattle.wire.specs.Bytes.{Bytes}
 use Rattle.wire.specs.Overlay.{overlay}
 use Rattle.wire.specs.Slices.{Buffer}
 use Rattle.steps.specs.Answers.{Reply}
-use Rattle.steps.specs.Receive.{opened}
-use Rattle.steps.specs.Runs.{lending}
-use Rattle.receiver_state.specs.View.{view, shaped}
-use Rattle.receiver.specs.declared.Call.{Call}
-use Rattle.open_and_payload.specs.Ends.{Opens}
 use Rattle.log.specs.Editions.{limitsIn}
 use Rattle.log.specs.Listed.{Listed, entriesIn}
 use Rattle.log.specs.Told.{readAll}
 use Rattle.log.proofs.Onward.{read-all}
-use Rattle.sorted_set.specs.Lists.{In, SameMembers, gather}
+use Rattle.sorted_set.specs.Lists.{In, SameMembers}
 use Rattle.sorted_set.proofs.Members.{in-left, in-right, in-either, gather-same}
 use Rattle.count_rules.specs.Marks.{PitList, listIn}
 use Rattle.count_rules.specs.Report.{tiles, pits, surePits, Line, line, report}
@@ -33,7 +26,7 @@ use Rattle.pit_marks.specs.declared.Sizes.{Sizes}
 use Rattle.pit_marks.specs.Sets.{Sets, Has}
 use Rattle.pit_marks.specs.Lines.{Lays}
 use Rattle.pit_marks.proofs.Told.{tiles-told, pits-told, sure-told}
-use Rattle.stretch.specs.Stretch.{Stretched, stretch, Clean, entriesOf}
+use Rattle.stretch.specs.Stretch.{Clean, entriesOf}
 use Rattle.stretch.proofs.Laws.{clean-answers}
 use Rattle.season.specs.Season.{Map, mapOf, Shows, Flight, setOut, flown, season, listsOf, listsOfAll, Handed, Unrefused, Holds, SeasonHolds, LinesOf, SeasonLines, AnyOrder, WhicheverFirst, NoneLost}
 use Rattle.season.proofs.Went.{Went, stretch-went}

@@ -3,12 +3,11 @@ use mathlib.Core.Path.{_≡_, refl, sym, ap, _∙_, subst}
 use mathlib.Core.Logic.{inl, inr}
 use mathlib.Core.Bool.{Bool, true, false}
 use mathlib.Core.List.{List, [], _∷_, _++_, append-assoc, append-nil}
-use Prim.Native.Nat.{ℕ, zero, suc, _+_}
+use Prim.Native.Nat.{ℕ, zero, suc}
 use native.Mathlib.Omega.{arith}
 use lib.Dec.{eqb}
 use lib.ListN.{length}
 use borrow.Author.Tests.{eqb-true}
-use Rattle.wire.specs.Bytes.{Bytes}
 use Rattle.wire.specs.Choice.{pick}
 use Rattle.steps.specs.Answers.{Reply, refusedBy, kept, repeat, delivered}
 use Rattle.steps.specs.Runs.{World}
@@ -28,7 +27,7 @@ use Rattle.pit_payloads.proofs.Takes.{takes}
 use Rattle.stretch.specs.declared.Stop.{Stop}
 use Rattle.stretch.specs.declared.Stop.the-variants as stop
 use Rattle.stretch.specs.Stretch.{Kit, lookedAt, kitWith, Entered, enterOn, Stretched, here, before, byStep, stretch, Clean, stopFault}
-use Rattle.stretch.proofs.Laws.{list-long, seen-then, lists-both, clean-ok}
+use Rattle.stretch.proofs.Laws.{list-long, seen-then, lists-both}
 use Rattle.season.specs.Season.{Handed, firstOver}
 
 -- ---- parts of lists

@@ -2,7 +2,7 @@
 use mathlib.Core.Path.{_≡_}
 use mathlib.Core.Bool.{Bool, true}
 use mathlib.Core.List.{List, [], _∷_, _++_, map}
-use Prim.Native.Nat.{ℕ, suc, _+_, _≤_}
+use Prim.Native.Nat.{ℕ, suc, _+_}
 use lib.Dec.{eqb}
 use lib.IntN.{ℤ}
 use lib.ListN.{length}
@@ -20,7 +20,7 @@ use Rattle.count_rules.specs.Report.{pits, surePits, Line, report}
 use Rattle.count_rules.specs.Run.{payloads, listsRead}
 use Rattle.count_rules.specs.Count.{answersTo}
 use Rattle.pit_marks.specs.declared.Sizes.{Sizes}
-use Rattle.pit_marks.specs.Sets.{Sets, Has, Partly}
+use Rattle.pit_marks.specs.Sets.{Sets, Has}
 use Rattle.pit_marks.specs.Lines.{Lays}
 use Rattle.pit_payloads.specs.Took.{faultOver}
 use Rattle.stretch.specs.declared.Totals.{Totals}

@@ -1,21 +1,19 @@
 -- Where the first n words rise, halving finds how many of them are below x, and entering makes of them what `enter` makes. Assumes nothing.
 use mathlib.Core.Path.{_≡_, refl, sym, ap, _∙_, subst}
 use mathlib.Core.Logic.{inl, inr}
-use mathlib.Core.Bool.{Bool, true, false, _&&_}
+use mathlib.Core.Bool.{true, false}
 use mathlib.Core.List.{List, [], _∷_, _++_, append-assoc}
-use Prim.Native.Nat.{ℕ, zero, suc, _+_, _-_, _/_, _≤_, _<_, min}
+use Prim.Native.Nat.{ℕ, zero, suc, _+_, _-_, _≤_, _<_}
 use native.Mathlib.Nat.{sub-zero, zero-sub, suc-sub-suc}
 use native.Mathlib.Omega.{arith}
-use native.Mathlib.Numerals.{add-one}
 use lib.Dec.{ltb, eqb}
 use lib.ListN.{length, getD, take, drop, length-take, length-drop, length-append}
 use lib.Seq.{getD-take, take-take, length-take-le, take-at, take-nil}
 use borrow.Author.Tests.{ltb-true, ltb-false, eqb-true, eqb-false, lt-ltb, le-ltb, eq-eqb, ne-eqb}
 use Rattle.wire.specs.Choice.{pick}
 use Rattle.wire.proofs.Choices.{either, never, and-l, and-r, pick-all}
-use Rattle.sorted_set.specs.declared.Entered.{Entered}
 use Rattle.sorted_set.specs.declared.Entered.the-variants.{Now, Full}
-use Rattle.sorted_set.specs.Lists.{In, enter, Rising, below}
+use Rattle.sorted_set.specs.Lists.{In, enter, below}
 use Rattle.wire.specs.Halving.{middle, halve}
 use Rattle.wire.proofs.Halves.{done, turn, halve-most}
 use Rattle.sorted_set.specs.Halving.{held, smaller, rankIn, inserted, isThere, noRoom, entered, wordsWith, Holds}

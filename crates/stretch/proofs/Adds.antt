@@ -10,7 +10,7 @@ use Rattle.steps.specs.declared.Answer.the-variants.{Refused, Kept, Repeat, Del
 use Rattle.steps.specs.Search.{one}
 use Rattle.steps.specs.Answers.{Reply, refusedBy, kept, repeat, delivered, reply}
 use Rattle.words.specs.Builds.{build}
-use Rattle.count_rules.specs.Run.{isKept, isRepeat, isDelivered, isRefused, howMany, refusals, refusedIn}
+use Rattle.count_rules.specs.Run.{isKept, isRepeat, isDelivered, isRefused, howMany, refusals}
 use Rattle.count_rules.proofs.Steps.{howMany-more, refused-more, refused-stay}
 use Rattle.stretch.specs.declared.Totals.{Totals}
 use Rattle.stretch.specs.Stretch.{totalsOf}

@@ -3,13 +3,11 @@ use mathlib.Core.Path.{_≡_, refl, sym, ap, _∙_, subst}
 use mathlib.Core.Logic.{inl, inr}
 use mathlib.Core.Bool.{Bool, true, false}
 use mathlib.Core.List.{List, [], _∷_, _++_}
-use Prim.Native.Nat.{ℕ, _+_, _<_}
+use Prim.Native.Nat.{ℕ, _<_}
 use native.Mathlib.Omega.{arith}
 use lib.ListN.{length}
 use Rattle.wire.specs.Bytes.{Bytes}
-use Rattle.wire.specs.Choice.{pick}
-use Rattle.steps.specs.declared.Answer.{Answer}
-use Rattle.steps.specs.declared.Answer.the-variants.{Refused, Kept, Repeat, Delivered}
+use Rattle.steps.specs.declared.Answer.the-variants.{Refused}
 use Rattle.steps.specs.Receive.{After, stay}
 use Rattle.steps.specs.Answers.{Reply, refusedBy, kept, repeat, delivered, reply}
 use Rattle.steps.specs.Runs.{World}
@@ -25,9 +23,8 @@ use Rattle.count_rules.specs.Run.{called, refusals, payloadIn}
 use Rattle.count_rules.specs.Walk.{listAt}
 use Rattle.count_rules.proofs.Totals.{called-number}
 use Rattle.pit_marks.specs.declared.Sizes.{Sizes}
-use Rattle.pit_marks.specs.Sets.{Sets}
 use Rattle.pit_payloads.specs.Looks.{Book, Left, inRead, Leaves}
-use Rattle.pit_payloads.specs.Took.{faultIn, listsIn, sizesIn}
+use Rattle.pit_payloads.specs.Took.{listsIn}
 use Rattle.pit_payloads.proofs.Empty.{empty-read, empty-left}
 use Rattle.stretch.specs.declared.Totals.{Totals}
 use Rattle.stretch.specs.declared.Ran.{Ran}

@@ -1,9 +1,9 @@
 -- A stretch in the middle: what was taken so far, and what is still to come. Assumes nothing.
 use mathlib.Core.Path.{_≡_, refl, sym, ap, _∙_, subst}
 use mathlib.Core.Logic.{_⊎_, inl, inr}
-use mathlib.Core.Bool.{Bool, true, false, _&&_}
+use mathlib.Core.Bool.{Bool, _&&_}
 use mathlib.Core.List.{List, [], _∷_, _++_, append-nil, append-assoc}
-use Prim.Native.Nat.{ℕ, zero, suc, _+_, _-_, _^_, _≤_, _<_}
+use Prim.Native.Nat.{ℕ, suc, _+_, _-_, _^_, _≤_, _<_}
 use native.Mathlib.Omega.{arith}
 use lib.Dec.{eqb}
 use lib.ListN.{length, length-append}
@@ -25,11 +25,10 @@ use Rattle.pit_marks.specs.declared.Sizes.{Sizes}
 use Rattle.pit_marks.specs.Sets.{heldIn}
 use Rattle.pit_payloads.specs.declared.Looked.{Looked}
 use Rattle.pit_payloads.specs.declared.Looked.the-variants as looked
-use Rattle.pit_payloads.specs.Took.{faultIn, listsIn}
+use Rattle.pit_payloads.specs.Took.{listsIn}
 use Rattle.stretch.specs.declared.Stop.{Stop}
 use Rattle.stretch.specs.declared.Stop.the-variants as stop
 use Rattle.stretch.specs.declared.Stretch.{Stretch}
-use Rattle.stretch.specs.declared.Totals.{Totals}
 use Rattle.stretch.specs.declared.Ran.{Ran}
 use Rattle.stretch.specs.Stretch.{Desk, Kit, kitOf, inShape, Entered, enterOn, Stretched, here, before, taking, byStep, stretch, totalsOf, toldOn, CountsOn}
 use Rattle.stretch.specs.Inside.{Few, ran, noTotals, stopOf, stoppedAt, TakesEntry}

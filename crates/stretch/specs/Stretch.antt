@@ -1,7 +1,7 @@
 -- A STRETCH OF A LOG, from a place, over any receiver and any sets: what each entry is answered, where and why it stops, and what is then lent.
 -- Definitions only.
 use mathlib.Core.Path.{_≡_}
-use mathlib.Core.Bool.{Bool, true, false}
+use mathlib.Core.Bool.{Bool}
 use mathlib.Core.List.{List, [], _∷_, _++_}
 use Prim.Native.Nat.{ℕ, zero, suc, _+_}
 use lib.Dec.{eqb}
@@ -113,11 +113,13 @@ here s place k = record { stop = s; place = place; replies = []; lists = 0; kit 
 abbrev pub before : List Reply → ℕ → Stretched → Stretched
 before rs n x = record { stop = x .stop; place = x .place; replies = rs ++ x .replies; lists = n + x .lists; kit = x .kit }
 
--- an entry is taken; what stands against it ends the stretch behind it
+-- what stands against an entry ends the stretch behind it
+abbrev pub unlessRefused : Entered → ℕ → (ℕ → Kit → Stretched) → Stretched
+unlessRefused o next rest = pick (eqb (faultIn (o .looked)) 0) (rest next (o .kit)) (here (stop.Refused (faultIn (o .looked))) next (o .kit))
+
+-- an entry is taken
 abbrev pub taking : Entered → ℕ → (ℕ → Kit → Stretched) → Stretched
-taking o next rest =
-    before (o .reply ∷ []) (listsIn (o .looked))
-    (pick (eqb (faultIn (o .looked)) 0) (rest next (o .kit)) (here (stop.Refused (faultIn (o .looked))) next (o .kit)))
+taking o next rest = before (o .reply ∷ []) (listsIn (o .looked)) (unlessRefused o next rest)
 
 -- by what the log has there; its end and its own refusal leave all as it was
 abbrev pub byStep : Bool → Limits → List ℕ → ℕ → Kit → (ℕ → Kit → Stretched) → Step → Stretched

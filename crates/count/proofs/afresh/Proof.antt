@@ -1,5 +1,5 @@
 -- The stretch through a fresh receiver, into empty sets, and then its answer. Assumes nothing.
-use mathlib.Core.Path.{_≡_, sym, ap, _∙_}
+use mathlib.Core.Path.{_≡_, ap}
 use mathlib.Core.Logic.{inl, inr}
 use mathlib.Core.List.{[], _∷_}
 use Prim.Native.Nat.{ℕ}
@@ -7,7 +7,7 @@ use native.Mathlib.Omega.{arith}
 use types.Run.{OneOf}
 use denote.Enum.Declared.{tagOf}
 use Rattle.stretch.proofs.Stop.{the-type}
-use lib.ListN.{length, replicate, length-replicate}
+use lib.ListN.{replicate, length-replicate}
 use Rattle.wire.specs.Bytes.{Bytes}
 use Rattle.receiver_state.specs.View.{stateWords, nameBytes}
 use Rattle.count_rules.specs.Count.{maxTiles, maxPits}
@@ -30,48 +30,6 @@ not-three n e (inr (inr q)) = let z : ⊥ = omega arith in z
 empty-rooms : rooms (setsOf (replicate maxTiles 0) (replicate maxPits 0) (replicate maxPits 0)) ≡ own
 empty-rooms = λ i. record { tiles = length-replicate {A = ℕ} maxTiles 0 i; pits = length-replicate {A = ℕ} maxPits 0 i; sure = length-replicate {A = ℕ} maxPits 0 i }
 
-slice-aggregate-open : tie.Need-slice-aggregate-open
-slice-aggregate-open c = search needs
-
-slice-aggregate-open-2 : tie.Need-slice-aggregate-open-2
-slice-aggregate-open-2 c = search needs
-
-open-requires : tie.Need-open-requires
-open-requires c κs = search needs
-
-slice-aggregate-count-on : tie.Need-slice-aggregate-count-on
-slice-aggregate-count-on c = search needs
-
-slice-aggregate-count-on-2 : tie.Need-slice-aggregate-count-on-2
-slice-aggregate-count-on-2 c = search needs
-
-slice-aggregate-count-on-3 : tie.Need-slice-aggregate-count-on-3
-slice-aggregate-count-on-3 c = search needs
-
-slice-aggregate-count-on-4 : tie.Need-slice-aggregate-count-on-4
-slice-aggregate-count-on-4 c = search needs
-
-slice-aggregate-count-on-5 : tie.Need-slice-aggregate-count-on-5
-slice-aggregate-count-on-5 c = search needs
-
-count-on-requires : tie.Need-count-on-requires
-count-on-requires c κs = search needs
-
-enum-known-stop : tie.Need-enum-known-stop
-enum-known-stop c = search needs
-
-refused-requires : tie.Need-refused-requires
-refused-requires c κs = search needs
-
-same-length : tie.Need-same-length
-same-length c = search needs
-
-same-length-2 : tie.Need-same-length-2
-same-length-2 c = search needs
-
-same-length-3 : tie.Need-same-length-3
-same-length-3 c = search needs
-
 returns : tie.Need-returns
 returns c =
     let w = c .before .before .before .before .before .before .before .before .before .before .before .before .before .before in
@@ -81,27 +39,6 @@ returns c =
     let a = st .args in
     let b : Bytes (a .log .now) = λ i. at-log .shared-slice-known .given i .fits in
     refused-then (a .log .now) b (a .entries) (st .pre) (desk (lent _ _ _ _) (book _ (setsOf _ _ _))) _ _ (o .«open» .result) (o .«open» .ensures) (length-replicate {A = ℕ} stateWords 0) (length-replicate {A = ℕ} nameBytes 0) empty-rooms (w .count-on .result) (desk (lent _ _ _ _) (book _ (setsOf _ _ _))) (w .count-on .ensures) (c .before .before .stop .given .0 .0) (c .before .before .stop .given .1) _ (c .refused .ensures)
-
-slice-aggregate-given : tie.Need-slice-aggregate-given
-slice-aggregate-given c = search needs
-
-slice-aggregate-given-2 : tie.Need-slice-aggregate-given-2
-slice-aggregate-given-2 c = search needs
-
-slice-aggregate-given-3 : tie.Need-slice-aggregate-given-3
-slice-aggregate-given-3 c = search needs
-
-given-requires : tie.Need-given-requires
-given-requires c κs = search needs
-
-same-length-4 : tie.Need-same-length-4
-same-length-4 c = search needs
-
-same-length-5 : tie.Need-same-length-5
-same-length-5 c = search needs
-
-same-length-6 : tie.Need-same-length-6
-same-length-6 c = search needs
 
 returns-2 : tie.Need-returns-2
 returns-2 c =
@@ -117,26 +54,26 @@ pub afresh-spec : {M : Type 1} → statement M
 afresh-spec =
     tie.close
     (tie.spec
-    slice-aggregate-open
-    slice-aggregate-open-2
-    open-requires
-    slice-aggregate-count-on
-    slice-aggregate-count-on-2
-    slice-aggregate-count-on-3
-    slice-aggregate-count-on-4
-    slice-aggregate-count-on-5
-    count-on-requires
-    enum-known-stop
-    refused-requires
-    same-length
-    same-length-2
-    same-length-3
+    (λ c. search needs)
+    (λ c. search needs)
+    (λ c κs. search needs)
+    (λ c. search needs)
+    (λ c. search needs)
+    (λ c. search needs)
+    (λ c. search needs)
+    (λ c. search needs)
+    (λ c κs. search needs)
+    (λ c. search needs)
+    (λ c κs. search needs)
+    (λ c. search needs)
+    (λ c. search needs)
+    (λ c. search needs)
     returns
-    slice-aggregate-given
-    slice-aggregate-given-2
-    slice-aggregate-given-3
-    given-requires
-    same-length-4
-    same-length-5
-    same-length-6
+    (λ c. search needs)
+    (λ c. search needs)
+    (λ c. search needs)
+    (λ c κs. search needs)
+    (λ c. search needs)
+    (λ c. search needs)
+    (λ c. search needs)
     returns-2)

@@ -14,39 +14,6 @@ returns c =
     not-told (a .log .now) (a .place) (a .most) (desk (lent (a .state .now) (a .names .now) (a .store .now) (a .ledger .now)) (book (a .numbers .now) (setsOf (a .tiles .now) (a .pits .now) (a .sure .now))))
     (record { tiles = a .had-tiles; pits = a .had-pits; sure = a .had-sure }) (a .told .now) (c .if1 .taken)
 
-count-on-requires : tie.Need-count-on-requires
-count-on-requires c κs = search needs
-
-put-stretch-requires : tie.Need-put-stretch-requires
-put-stretch-requires c κs = search needs
-
-same-length : tie.Need-same-length
-same-length c = search needs
-
-same-length-2 : tie.Need-same-length-2
-same-length-2 c = search needs
-
-same-length-3 : tie.Need-same-length-3
-same-length-3 c = search needs
-
-same-length-4 : tie.Need-same-length-4
-same-length-4 c = search needs
-
-same-length-5 : tie.Need-same-length-5
-same-length-5 c = search needs
-
-same-length-6 : tie.Need-same-length-6
-same-length-6 c = search needs
-
-same-length-7 : tie.Need-same-length-7
-same-length-7 c = search needs
-
-same-length-8 : tie.Need-same-length-8
-same-length-8 c = search needs
-
-same-length-9 : tie.Need-same-length-9
-same-length-9 c = search needs
-
 returns-2 : tie.Need-returns-2
 returns-2 c =
     let done = c .before .before .before .before .before .before .before .before .before .before .before .before .before .before .before .before .before .before .before in
@@ -59,15 +26,15 @@ qm-count-on-spec =
     tie.close
     (tie.spec
     returns
-    count-on-requires
-    put-stretch-requires
-    same-length
-    same-length-2
-    same-length-3
-    same-length-4
-    same-length-5
-    same-length-6
-    same-length-7
-    same-length-8
-    same-length-9
+    (λ c κs. search needs)
+    (λ c κs. search needs)
+    (λ c. search needs)
+    (λ c. search needs)
+    (λ c. search needs)
+    (λ c. search needs)
+    (λ c. search needs)
+    (λ c. search needs)
+    (λ c. search needs)
+    (λ c. search needs)
+    (λ c. search needs)
     returns-2)

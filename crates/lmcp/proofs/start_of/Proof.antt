@@ -1,5 +1,5 @@
 -- `lmcp::start_of` meets its contract: the last two rows of the table are where the types begin and end.
-use mathlib.Core.Path.{_≡_, ap, sym, _∙_}
+use mathlib.Core.Path.{ap, sym, _∙_}
 use mathlib.Core.List.{List}
 use Prim.Native.Nat.{ℕ}
 use native.Mathlib.Omega.{arith}
@@ -11,20 +11,11 @@ use Rattle.lmcp.proofs.Codes.{begin-is, end-is, starts-end}
 use Rattle.lmcp.proofs.start_of.Statement.{statement}
 use Rattle.lmcp.proofs.start_of.Tie as tie
 
-table-requires : tie.Need-table-requires
-table-requires c κs = search needs
-
-entry-requires : tie.Need-entry-requires
-entry-requires c κs = search needs
-
 returns : tie.Need-returns
 returns c =
     let t = c .before .before .before in
     let a = t .before .args in
     c .entry .ensures ∙ ap (λ (y : List (List ℕ)). cell y 20 (a .t)) (t .table .ensures) ∙ begin-is (a .version) (a .t) (c .before .before .if1 .taken)
-
-entry-requires-2 : tie.Need-entry-requires-2
-entry-requires-2 c κs = search needs
 
 returns-2 : tie.Need-returns-2
 returns-2 c =
@@ -38,4 +29,4 @@ returns-3 c =
     starts-end (a .version) (a .t) (omega (arith, c .if2 .left, c .before .if1 .left))
 
 pub start-of-spec : {M : Type 1} → statement M
-start-of-spec = tie.close (tie.spec table-requires entry-requires returns entry-requires-2 returns-2 returns-3)
+start-of-spec = tie.close (tie.spec (λ c κs. search needs) (λ c κs. search needs) returns (λ c κs. search needs) returns-2 returns-3)

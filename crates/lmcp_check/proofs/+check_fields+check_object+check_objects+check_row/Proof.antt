@@ -111,12 +111,6 @@ check-fields-Inv-loop s at table version deep t p₀ i₀ end p i =
 abbrev check-fields-μ-loop : check-fields-lts.MeasureT-loop
 check-fields-μ-loop s at table version deep t p₀ i₀ end p i = end - i
 
-check-fields-entry-requires : (t : ℕ) → check-fields-lts.Need-entry-requires (check-fields-claims t) (check-fields-at t) check-fields.Post check-fields-Inv-loop check-fields-μ-loop
-check-fields-entry-requires t c κs = search needs
-
-check-fields-entry-requires-2 : (t : ℕ) → check-fields-lts.Need-entry-requires-2 (check-fields-claims t) (check-fields-at t) check-fields.Post check-fields-Inv-loop check-fields-μ-loop
-check-fields-entry-requires-2 t c κs = search needs
-
 check-fields-loop-holds : (t : ℕ) → check-fields-lts.Need-loop-holds (check-fields-claims t) (check-fields-at t) check-fields.Post check-fields-Inv-loop check-fields-μ-loop
 check-fields-loop-holds t c =
     let at-entry = c .before in
@@ -227,9 +221,6 @@ check-fields-returns-2 t c =
     let x = turn .loop in
     fields-done (a .version) (a .deep) (x .i) (at-entry2 .entry2 .result) (a .s .now) _ (x .p) (x .inv .1 .1) (start .pre .1 .0 .short) (c .loop-test .left) (x .inv .0)
 
-check-object-head-of-requires : (t : ℕ) → check-object-lts.Need-head-of-requires (check-object-claims t) (check-object-at t) check-object.Post
-check-object-head-of-requires t c κs = search needs
-
 check-object-returns : (t : ℕ) → check-object-lts.Need-returns (check-object-claims t) (check-object-at t) check-object.Post
 check-object-returns t c =
     let at-head = c .before in
@@ -311,12 +302,6 @@ check-objects-returns t c =
     let a = turn .before .before .args in
     items-stop (readObject (a .version) (a .deep) (a .declared)) (a .n) (x .k) (x .inv .1) (at-test .loop-test .taken) (at-object .check-object .result) (at-object .check-object .ensures) (c .if1 .taken)
 
-check-objects-add-k : (t : ℕ) → check-objects-lts.Need-add-k (check-objects-claims t) (check-objects-at t) check-objects.Post check-objects-Inv-loop check-objects-μ-loop
-check-objects-add-k t c = search needs
-
-check-objects-loop-less : (t : ℕ) → check-objects-lts.Need-loop-less (check-objects-claims t) (check-objects-at t) check-objects.Post check-objects-Inv-loop check-objects-μ-loop
-check-objects-loop-less t c = search needs
-
 check-objects-loop-again : (t : ℕ) → check-objects-lts.Need-loop-again (check-objects-claims t) (check-objects-at t) check-objects.Post check-objects-Inv-loop check-objects-μ-loop
 check-objects-loop-again t c =
     let at-object = c .before in
@@ -334,12 +319,6 @@ check-objects-returns-2 t c =
     let a = start .args in
     items-end (readObject (a .version) (a .deep) (a .declared)) (a .n) (x .k) (x .inv .1) (start .pre .1 .short) (c .loop-test .left)
 
-check-row-entry-requires : (t : ℕ) → check-row-lts.Need-entry-requires (check-row-claims t) (check-row-at t) check-row.Post
-check-row-entry-requires t c κs = search needs
-
-check-row-entry-requires-2 : (t : ℕ) → check-row-lts.Need-entry-requires-2 (check-row-claims t) (check-row-at t) check-row.Post
-check-row-entry-requires-2 t c κs = search needs
-
 check-row-check-run-requires : (t : ℕ) → check-row-lts.Need-check-run-requires (check-row-claims t) (check-row-at t) check-row.Post
 check-row-check-run-requires t c κs =
     let at-entry = c .before .before in
@@ -356,12 +335,6 @@ check-row-returns t c =
     let l = start .pre .1 .0 in
     step-run (a .version) (a .deep) (a .i) (start .pre .1 .1 .1) (a .s .now) (a .at) (l .short) (l .inside) (a .table .now) (l .packed) (at-entry .entry .result) (c .before .entry2 .result) (c .check-run .result) (at-entry .entry .ensures)
     (c .before .before .if1 .taken) (c .before .entry2 .ensures) (c .check-run .ensures)
-
-check-row-entry-requires-3 : (t : ℕ) → check-row-lts.Need-entry-requires-3 (check-row-claims t) (check-row-at t) check-row.Post
-check-row-entry-requires-3 t c κs = search needs
-
-check-row-entry-requires-4 : (t : ℕ) → check-row-lts.Need-entry-requires-4 (check-row-claims t) (check-row-at t) check-row.Post
-check-row-entry-requires-4 t c κs = search needs
 
 check-row-check-object-requires : (t : ℕ) → check-row-lts.Need-check-object-requires (check-row-claims t) (check-row-at t) check-row.Post
 check-row-check-object-requires t c κs =
@@ -381,12 +354,6 @@ check-row-returns-2 t c =
     step-object (a .version) (a .deep) (a .i) (start .pre .1 .1 .1) (a .s .now) (a .at) (l .short) (l .inside) (a .table .now) (l .packed) (at-entry .entry .result) (at3 .entry3 .result) (at-entry .entry .ensures) (at3 .before .if1 .left)
     (at3 .entry3 .ensures) (c .before .if2 .taken) (c .before .before .entry4 .result) (c .check-object .result) (c .before .before .entry4 .ensures) (c .check-object .ensures)
 
-check-row-sub-if3 : (t : ℕ) → check-row-lts.Need-sub-if3 (check-row-claims t) (check-row-at t) check-row.Post
-check-row-sub-if3 t c = search needs
-
-check-row-add-result : (t : ℕ) → check-row-lts.Need-add-result (check-row-claims t) (check-row-at t) check-row.Post
-check-row-add-result t c = search needs
-
 check-row-returns-3 : (t : ℕ) → check-row-lts.Need-returns-3 (check-row-claims t) (check-row-at t) check-row.Post
 check-row-returns-3 t c =
     let at-entry = c .before .before .before .before .before in
@@ -395,18 +362,6 @@ check-row-returns-3 t c =
     let l = start .pre .1 .0 in
     let at3 = c .before .before .before in
     step-cut (a .version) (a .deep) (a .i) (start .pre .1 .1 .1) (a .s .now) (a .at) (l .short) (l .inside) (a .table .now) (l .packed) (at-entry .entry .result) (at3 .entry3 .result) (at-entry .entry .ensures) (at3 .before .if1 .left) (at3 .entry3 .ensures) (c .before .if2 .left) (c .if3 .taken)
-
-check-row-number-requires : (t : ℕ) → check-row-lts.Need-number-requires (check-row-claims t) (check-row-at t) check-row.Post
-check-row-number-requires t c κs = search needs
-
-check-row-add-next : (t : ℕ) → check-row-lts.Need-add-next (check-row-claims t) (check-row-at t) check-row.Post
-check-row-add-next t c = search needs
-
-check-row-entry-requires-5 : (t : ℕ) → check-row-lts.Need-entry-requires-5 (check-row-claims t) (check-row-at t) check-row.Post
-check-row-entry-requires-5 t c κs = search needs
-
-check-row-cast-if4 : (t : ℕ) → check-row-lts.Need-cast-if4 (check-row-claims t) (check-row-at t) check-row.Post
-check-row-cast-if4 t c = search needs
 
 check-row-check-chars-requires : (t : ℕ) → check-row-lts.Need-check-chars-requires (check-row-claims t) (check-row-at t) check-row.Post
 check-row-check-chars-requires t c κs =
@@ -461,8 +416,8 @@ pub +check-fields+check-object+check-objects+check-row-spec : {M : Type 1} → s
     check-fields.Post
     check-fields-Inv-loop
     check-fields-μ-loop
-    (check-fields-entry-requires t)
-    (check-fields-entry-requires-2 t)
+    (λ c κs. search needs)
+    (λ c κs. search needs)
     (check-fields-loop-holds t)
     (check-fields-check-row-requires t)
     (check-fields-returns t)
@@ -474,7 +429,7 @@ pub +check-fields+check-object+check-objects+check-row-spec : {M : Type 1} → s
     (λ t. check-object-lts.spec (check-object-claims t)
     (check-object-at t)
     check-object.Post
-    (check-object-head-of-requires t)
+    (λ c κs. search needs)
     (check-object-returns t)
     (check-object-add-result t)
     (check-object-returns-2 t)
@@ -490,28 +445,28 @@ pub +check-fields+check-object+check-objects+check-row-spec : {M : Type 1} → s
     (check-objects-loop-holds t)
     (check-objects-check-object-requires t)
     (check-objects-returns t)
-    (check-objects-add-k t)
-    (check-objects-loop-less t)
+    (λ c. search needs)
+    (λ c. search needs)
     (check-objects-loop-again t)
     (check-objects-returns-2 t))
     λ t. check-row-lts.spec (check-row-claims t)
     (check-row-at t)
     check-row.Post
-    (check-row-entry-requires t)
-    (check-row-entry-requires-2 t)
+    (λ c κs. search needs)
+    (λ c κs. search needs)
     (check-row-check-run-requires t)
     (check-row-returns t)
-    (check-row-entry-requires-3 t)
-    (check-row-entry-requires-4 t)
+    (λ c κs. search needs)
+    (λ c κs. search needs)
     (check-row-check-object-requires t)
     (check-row-returns-2 t)
-    (check-row-sub-if3 t)
-    (check-row-add-result t)
+    (λ c. search needs)
+    (λ c. search needs)
     (check-row-returns-3 t)
-    (check-row-number-requires t)
-    (check-row-add-next t)
-    (check-row-entry-requires-5 t)
-    (check-row-cast-if4 t)
+    (λ c κs. search needs)
+    (λ c. search needs)
+    (λ c κs. search needs)
+    (λ c. search needs)
     (check-row-check-chars-requires t)
     (check-row-returns-4 t)
     (check-row-check-objects-requires t)

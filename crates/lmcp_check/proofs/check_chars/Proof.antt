@@ -27,9 +27,6 @@ abbrev μ-loop : tie.MeasureT-loop
 loop-holds : tie.Need-loop-holds Inv-loop μ-loop
 loop-holds c = let a = c .args in (search needs, begins (repeat (a .n - 0) (readValue charKind 1)) (a .at) (repeat-all (readValue charKind 1) (drop (a .at) (a .s .now)) (a .n)) (c .pre .0))
 
-add-result : tie.Need-add-result Inv-loop μ-loop
-add-result c = search needs
-
 returns : tie.Need-returns Inv-loop μ-loop
 returns c =
     let turn = c .before .before in
@@ -37,12 +34,6 @@ returns c =
     let a = turn .before .args in
     let b = drop (x .p) (a .s .now) in
     items-stop (readValue charKind 1) (a .n) (x .k) (x .inv .1) (c .before .loop-test .taken) (fault0 + 25) (stopped 25 (omega arith) (value-short charKind 1 b (rw length-drop (omega (arith, c .if1 .taken))))) (omega arith)
-
-shared-slice-read-if2 : tie.Need-shared-slice-read-if2 Inv-loop μ-loop
-shared-slice-read-if2 c = search needs
-
-add-result-2 : tie.Need-add-result-2 Inv-loop μ-loop
-add-result-2 c = search needs
 
 returns-2 : tie.Need-returns-2 Inv-loop μ-loop
 returns-2 c =
@@ -55,15 +46,6 @@ returns-2 c =
     let g : 127 < getD (a .s .now) (x .p) 0 = c .if2 .taken in
     items-stop (readValue charKind 1) (a .n) (x .k) (x .inv .1) (c .before .before .before .loop-test .taken) (fault0 + 27)
     (stopped 27 (omega arith) (value-bad charKind 1 b l (getD (a .s .now) (x .p) 0) 27 v (fault-char charKind _ refl g) (λ z. (let y : ⊥ = omega (arith, z) in y)))) (omega arith)
-
-add-p : tie.Need-add-p Inv-loop μ-loop
-add-p c = search needs
-
-add-k : tie.Need-add-k Inv-loop μ-loop
-add-k c = search needs
-
-loop-less : tie.Need-loop-less Inv-loop μ-loop
-loop-less c = search needs
 
 loop-again : tie.Need-loop-again Inv-loop μ-loop
 loop-again c =
@@ -97,13 +79,13 @@ check-chars-spec =
     Inv-loop
     μ-loop
     loop-holds
-    add-result
+    (λ c. search needs)
     returns
-    shared-slice-read-if2
-    add-result-2
+    (λ c. search needs)
+    (λ c. search needs)
     returns-2
-    add-p
-    add-k
-    loop-less
+    (λ c. search needs)
+    (λ c. search needs)
+    (λ c. search needs)
     loop-again
     returns-3)

@@ -24,9 +24,6 @@ M c = c .before .before .before .args .message .now
 within : (c : tie.Else1) → (12 ≤ length (M c)) × (length (M c) ≤ maxMessage)
 within c = frame-within (M c) (sym (c .before .frame-of .ensures) ∙ c .if1 .left)
 
-frame-of-requires : tie.Need-frame-of-requires
-frame-of-requires c κs = search needs
-
 returns : tie.Need-returns
 returns c = let f = c .before in wrong-frame (f .before .before .args .message .now) (f .frame-of .result) (f .frame-of .ensures) (c .if1 .taken)
 
@@ -38,12 +35,6 @@ sub-s c = omega (arith, within c .0)
 
 part-s-start : tie.Need-part-s-start
 part-s-start c = let k : 8 ≤ length (M c) - 4 = omega (arith, within c .0) in k
-
-part-s-end : tie.Need-part-s-end
-part-s-end c = search needs
-
-version-of-requires : tie.Need-version-of-requires
-version-of-requires c κs = search needs
 
 check-root-requires : tie.Need-check-root-requires
 check-root-requires c κs =
@@ -63,12 +54,12 @@ pub check-message-spec : {M : Type 1} → statement M
 check-message-spec =
     tie.close
     (tie.spec
-    frame-of-requires
+    (λ c κs. search needs)
     returns
     sub-end
     sub-s
     part-s-start
-    part-s-end
-    version-of-requires
+    (λ c. search needs)
+    (λ c κs. search needs)
     check-root-requires
     returns-2)

@@ -26,25 +26,10 @@ first c = be-one (S c) 0 _ (c .wide .ensures .0)
 returns : tie.Need-returns
 returns c = let a = c .before .before .args in empty-root (a .version) (a .s .now) (c .if1 .taken)
 
-shared-slice-read-wide : tie.Need-shared-slice-read-wide
-shared-slice-read-wide c = search needs
-
-wide-requires : tie.Need-wide-requires
-wide-requires c κs = search needs
-
 returns-2 : tie.Need-returns-2
 returns-2 c =
     let w = c .before in
     null-root (Version w) (S w) (omega (arith, w .before .before .if1 .left)) (sym (first w) ∙ c .if2 .taken)
-
-table-requires : tie.Need-table-requires
-table-requires c κs = search needs
-
-check-object-requires : tie.Need-check-object-requires
-check-object-requires c κs = search needs
-
-cast-result : tie.Need-cast-result
-cast-result c = search needs
 
 returns-3 : tie.Need-returns-3
 returns-3 c =
@@ -72,12 +57,12 @@ check-root-spec =
     tie.close
     (tie.spec
     returns
-    shared-slice-read-wide
-    wide-requires
+    (λ c. search needs)
+    (λ c κs. search needs)
     returns-2
-    table-requires
-    check-object-requires
-    cast-result
+    (λ c κs. search needs)
+    (λ c κs. search needs)
+    (λ c. search needs)
     returns-3
     returns-4
     returns-5)

@@ -51,12 +51,6 @@ sized c = c .if4 .left ∙ ap (λ (n : ℕ). 12 + n) (c .before .number .ensures
 returns : tie.Need-returns
 returns c = too-short _ (c .if1 .taken)
 
-slice-aggregate-same-at : tie.Need-slice-aggregate-same-at
-slice-aggregate-same-at c = search needs
-
-same-at-requires : tie.Need-same-at-requires
-same-at-requires c κs = search needs
-
 returns-2 : tie.Need-returns-2
 returns-2 c =
     let at-same-at = c .before in
@@ -65,12 +59,6 @@ returns-2 c =
 
 returns-3 : tie.Need-returns-3
 returns-3 c = let e = c .before in too-long (M (at2 e)) (long (at2 e)) (known e) (c .if3 .taken)
-
-number-requires : tie.Need-number-requires
-number-requires c κs = search needs
-
-add-if4 : tie.Need-add-if4
-add-if4 c = search needs
 
 returns-4 : tie.Need-returns-4
 unfolding be
@@ -81,12 +69,6 @@ returns-4 c =
     let e = place2 in
     not-length (M (at2 e)) (long (at2 e)) (known e) (short (place))
     (λ q. c .if4 .taken (q ∙ ap (λ (n : ℕ). 12 + n) (sym (at-number .number .ensures .value))))
-
-sub-end : tie.Need-sub-end
-sub-end c = search needs
-
-number-requires-2 : tie.Need-number-requires-2
-number-requires-2 c κs = search needs
 
 returns-5 : tie.Need-returns-5
 unfolding be
@@ -99,12 +81,6 @@ slice-aggregate-checksum : tie.Need-slice-aggregate-checksum
 slice-aggregate-checksum c =
     let m = M (at2 (at4 (at5 (c .before)))) in
     sym (length-take-le (length m - 4) m (omega arith))
-
-checksum-requires : tie.Need-checksum-requires
-checksum-requires c κs = search needs
-
-cast-if6 : tie.Need-cast-if6
-cast-if6 c = search needs
 
 returns-6 : tie.Need-returns-6
 unfolding be
@@ -134,18 +110,18 @@ frame-of-spec =
     tie.close
     (tie.spec
     returns
-    slice-aggregate-same-at
-    same-at-requires
+    (λ c. search needs)
+    (λ c κs. search needs)
     returns-2
     returns-3
-    number-requires
-    add-if4
+    (λ c κs. search needs)
+    (λ c. search needs)
     returns-4
-    sub-end
-    number-requires-2
+    (λ c. search needs)
+    (λ c κs. search needs)
     returns-5
     slice-aggregate-checksum
-    checksum-requires
-    cast-if6
+    (λ c κs. search needs)
+    (λ c. search needs)
     returns-6
     returns-7)

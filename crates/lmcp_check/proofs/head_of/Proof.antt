@@ -39,20 +39,8 @@ enough r = simp length-drop (r .before .before .if1 .left)
 byte : (r : tie.After-wide) → r .wide .result ≡ be 1 (B (start r))
 byte r = be-one (start r .args .s .now) (start r .args .at) _ (r .wide .ensures .0)
 
-sub-if1 : tie.Need-sub-if1
-sub-if1 c = search needs
-
-add-result : tie.Need-add-result
-add-result c = search needs
-
 returns : tie.Need-returns
 returns c = let s = c .before .before in refuses 25 (omega arith) (head-short (T s) (s .args .deep) (s .args .declared) (B s) (simp length-drop (c .if1 .taken)))
-
-shared-slice-read-wide : tie.Need-shared-slice-read-wide
-shared-slice-read-wide c = search needs
-
-wide-requires : tie.Need-wide-requires
-wide-requires c κs = search needs
 
 returns-2 : tie.Need-returns-2
 returns-2 c =
@@ -67,9 +55,6 @@ returns-2 c =
       small = omega arith;
     }
 
-add-result-2 : tie.Need-add-result-2
-add-result-2 c = search needs
-
 returns-3 : tie.Need-returns-3
 returns-3 c =
     let r = c .before .before in
@@ -77,9 +62,6 @@ returns-3 c =
     let a = s .args in
     let o : 1 < r .wide .result = omega (arith, c .if3 .taken, c .before .if2 .left) in
     refuses 23 (omega arith) (head-odd (T s) (a .deep) (a .declared) (B s) (enough r) (r .wide .result) (byte r) o)
-
-add-result-3 : tie.Need-add-result-3
-add-result-3 c = search needs
 
 returns-4 : tie.Need-returns-4
 returns-4 c =
@@ -89,12 +71,6 @@ returns-4 c =
     let o : r .wide .result ≤ 1 = omega (arith, c .before .if3 .left) in
     refuses 26 (omega arith) (head-deep (T s) (a .deep) (a .declared) (B s) (enough r) (r .wide .result) (byte r) o (c .before .before .if2 .left) (c .if4 .taken))
 
-add-cut : tie.Need-add-cut
-add-cut c = search needs
-
-sub-if5 : tie.Need-sub-if5
-sub-if5 c = search needs
-
 returns-5 : tie.Need-returns-5
 returns-5 c =
     let at3 = c .before .before in
@@ -103,18 +79,6 @@ returns-5 c =
     let a = s .args in
     let o : r .wide .result ≤ 1 = omega (arith, at3 .if3 .left) in
     refuses 25 (omega arith) (head-cut (T s) (a .deep) (a .declared) (B s) (enough r) (r .wide .result) (byte r) o (at3 .before .if2 .left) (c .before .if4 .left) (simp length-drop (c .if5 .taken)))
-
-add-known-at : tie.Need-add-known-at
-add-known-at c = search needs
-
-known-at-requires : tie.Need-known-at-requires
-known-at-requires c κs = search needs
-
-add-four : tie.Need-add-four
-add-four c = search needs
-
-four-requires : tie.Need-four-requires
-four-requires c κs = search needs
 
 returns-6 : tie.Need-returns-6
 returns-6 c =
@@ -144,9 +108,6 @@ returns-6 c =
       small = omega (arith, c .four .ensures .1);
     }
 
-add-result-4 : tie.Need-add-result-4
-add-result-4 c = search needs
-
 returns-7 : tie.Need-returns-7
 returns-7 c =
     let h = c .before .before in
@@ -163,23 +124,23 @@ pub head-of-spec : {M : Type 1} → statement M
 head-of-spec =
     tie.close
     (tie.spec
-    sub-if1
-    add-result
+    (λ c. search needs)
+    (λ c. search needs)
     returns
-    shared-slice-read-wide
-    wide-requires
+    (λ c. search needs)
+    (λ c κs. search needs)
     returns-2
-    add-result-2
+    (λ c. search needs)
     returns-3
-    add-result-3
+    (λ c. search needs)
     returns-4
-    add-cut
-    sub-if5
+    (λ c. search needs)
+    (λ c. search needs)
     returns-5
-    add-known-at
-    known-at-requires
-    add-four
-    four-requires
+    (λ c. search needs)
+    (λ c κs. search needs)
+    (λ c. search needs)
+    (λ c κs. search needs)
     returns-6
-    add-result-4
+    (λ c. search needs)
     returns-7)

@@ -1,6 +1,5 @@
 -- `lmcp_check::known_at` meets its contract.
 use mathlib.Core.Path.{_≡_, sym, ap, _∙_}
-use Prim.Native.Nat.{_-_}
 use lib.ListN.{drop}
 use lib.Seq.{drop-drop}
 use Rattle.wire.specs.Bytes.{be}
@@ -11,9 +10,6 @@ use borrow.Author.Needs.{needs}
 use Rattle.lmcp_check.proofs.known_at.Statement.{statement}
 use Rattle.lmcp_check.proofs.known_at.Tie as tie
 
-eight-requires : tie.Need-eight-requires
-eight-requires c κs = search needs
-
 returns : tie.Need-returns
 unfolding be
 returns c =
@@ -21,27 +17,12 @@ returns c =
     let a = at-n .before .before .args in
     not-series (pitsurv (a .version)) (a .declared) (drop (a .at) (a .s .now)) (λ e. c .if1 .taken (at-n .eight .ensures .0 ∙ e))
 
-add-two : tie.Need-add-two
-add-two c = search needs
-
-two-requires : tie.Need-two-requires
-two-requires c κs = search needs
-
 returns-2 : tie.Need-returns-2
 returns-2 c =
     let at-n = c .before in
     let a = at-n .before .before .before .before .args in
     not-version (pitsurv (a .version)) (a .declared) (drop (a .at) (a .s .now))
     (λ e. c .if2 .taken (at-n .two .ensures .0 ∙ ap (be 2) (sym (drop-drop 12 (a .at) (a .s .now))) ∙ e))
-
-add-four : tie.Need-add-four
-add-four c = search needs
-
-four-requires : tie.Need-four-requires
-four-requires c κs = search needs
-
-typed-in-requires : tie.Need-typed-in-requires
-typed-in-requires c κs = search needs
 
 returns-3 : tie.Need-returns-3
 unfolding be
@@ -62,12 +43,12 @@ pub known-at-spec : {M : Type 1} → statement M
 known-at-spec =
     tie.close
     (tie.spec
-    eight-requires
+    (λ c κs. search needs)
     returns
-    add-two
-    two-requires
+    (λ c. search needs)
+    (λ c κs. search needs)
     returns-2
-    add-four
-    four-requires
-    typed-in-requires
+    (λ c. search needs)
+    (λ c κs. search needs)
+    (λ c κs. search needs)
     returns-3)

@@ -116,12 +116,6 @@ put-fields-Inv-loop s p q table version deep t list₀ a₀ b₀ i₀ end list a
 abbrev put-fields-μ-loop : put-fields-lts.MeasureT-loop
 put-fields-μ-loop s p q table version deep t list₀ a₀ b₀ i₀ end list a b i = end - i
 
-put-fields-entry-requires : (t : ℕ) → put-fields-lts.Need-entry-requires (put-fields-claims t) (put-fields-at t) put-fields.Post put-fields-Inv-loop put-fields-μ-loop
-put-fields-entry-requires t c κs = search needs
-
-put-fields-entry-requires-2 : (t : ℕ) → put-fields-lts.Need-entry-requires-2 (put-fields-claims t) (put-fields-at t) put-fields.Post put-fields-Inv-loop put-fields-μ-loop
-put-fields-entry-requires-2 t c κs = search needs
-
 put-fields-loop-holds : (t : ℕ) → put-fields-lts.Need-loop-holds (put-fields-claims t) (put-fields-at t) put-fields.Post put-fields-Inv-loop put-fields-μ-loop
 put-fields-loop-holds t c =
     let at-entry = c .before in
@@ -142,12 +136,6 @@ put-fields-put-row-requires t c κs =
     let i : x .i < length (rowsOf (pitsurv (a .version))) = omega (arith, test .loop-test .taken, x .inv .1 .0) in
     let m = ahead-as (fields-more (reading (pitsurv (a .version))) (readObject (a .version) (a .deep)) (rowsOf (pitsurv (a .version))) (x .i) (at-entry2 .entry2 .result) (drop (x .a) (a .s .now)) (test .loop-test .taken) (x .inv .1 .0)) (x .inv .1 .1 .1 .1) in
     (omega (arith, start .pre .0), (record { short = start .pre .1 .0 .short; inside = x .inv .1 .1 .1 .0 .within; packed = start .pre .1 .0 .packed }, ((omega (arith, i, few-rows (a .version)), i), ahead-first _ _ m)))
-
-put-fields-add-i : (t : ℕ) → put-fields-lts.Need-add-i (put-fields-claims t) (put-fields-at t) put-fields.Post put-fields-Inv-loop put-fields-μ-loop
-put-fields-add-i t c = search needs
-
-put-fields-loop-less : (t : ℕ) → put-fields-lts.Need-loop-less (put-fields-claims t) (put-fields-at t) put-fields.Post put-fields-Inv-loop put-fields-μ-loop
-put-fields-loop-less t c = search needs
 
 put-fields-loop-again : (t : ℕ) → put-fields-lts.Need-loop-again (put-fields-claims t) (put-fields-at t) put-fields.Post put-fields-Inv-loop put-fields-μ-loop
 put-fields-loop-again t c =
@@ -177,9 +165,6 @@ put-fields-loop-again t c =
         ),
       ),
     )
-
-put-fields-same-length : (t : ℕ) → put-fields-lts.Need-same-length (put-fields-claims t) (put-fields-at t) put-fields.Post put-fields-Inv-loop put-fields-μ-loop
-put-fields-same-length t c = search needs
 
 put-fields-returns : (t : ℕ) → put-fields-lts.Need-returns (put-fields-claims t) (put-fields-at t) put-fields.Post put-fields-Inv-loop put-fields-μ-loop
 put-fields-returns t c =
@@ -214,12 +199,6 @@ put-object-shared-slice-read-wide t c =
     let start = c .before .before in
     first-inside (record { within = start .pre .1 .0 .inside; ahead = start .pre .1 .1 })
 
-put-object-wide-requires : (t : ℕ) → put-object-lts.Need-wide-requires (put-object-claims t) (put-object-at t) put-object.Post
-put-object-wide-requires t c κs = search needs
-
-put-object-put-requires : (t : ℕ) → put-object-lts.Need-put-requires (put-object-claims t) (put-object-at t) put-object.Post
-put-object-put-requires t c κs = search needs
-
 put-object-add-t17 : (t : ℕ) → put-object-lts.Need-add-t17 (put-object-claims t) (put-object-at t) put-object.Post
 put-object-add-t17 t c =
     let w = c .before .before .before .before in
@@ -229,9 +208,6 @@ put-object-add-t18 : (t : ℕ) → put-object-lts.Need-add-t18 (put-object-claim
 put-object-add-t18 t c =
     let w = c .before .before .before .before in
     omega (arith, null-room (object-here t w) (w .wide .result) (object-first t w) (c .before .before .before .if1 .taken))
-
-put-object-same-length : (t : ℕ) → put-object-lts.Need-same-length (put-object-claims t) (put-object-at t) put-object.Post
-put-object-same-length t c = search needs
 
 put-object-returns : (t : ℕ) → put-object-lts.Need-returns (put-object-claims t) (put-object-at t) put-object.Post
 put-object-returns t c =
@@ -251,9 +227,6 @@ put-object-four-requires t c κs =
 
 put-object-plain-of-requires : (t : ℕ) → put-object-lts.Need-plain-of-requires (put-object-claims t) (put-object-at t) put-object.Post
 put-object-plain-of-requires t c κs = omega (arith, c .before .four .ensures .1)
-
-put-object-put-requires-2 : (t : ℕ) → put-object-lts.Need-put-requires-2 (put-object-claims t) (put-object-at t) put-object.Post
-put-object-put-requires-2 t c κs = search needs
 
 put-object-add-put-fields : (t : ℕ) → put-object-lts.Need-add-put-fields (put-object-claims t) (put-object-at t) put-object.Post
 put-object-add-put-fields t c =
@@ -285,9 +258,6 @@ put-object-put-fields-requires t c κs =
         (some-typed H (w .wide .result) e z (f .four .result) (f .four .ensures .0), some-ahead H (w .wide .result) e z (f .four .result) (f .four .ensures .0) .1),
       ),
     )
-
-put-object-same-length-2 : (t : ℕ) → put-object-lts.Need-same-length-2 (put-object-claims t) (put-object-at t) put-object.Post
-put-object-same-length-2 t c = search needs
 
 put-object-returns-2 : (t : ℕ) → put-object-lts.Need-returns-2 (put-object-claims t) (put-object-at t) put-object.Post
 put-object-returns-2 t c =
@@ -323,12 +293,6 @@ put-objects-put-object-requires t c κs =
     let m = ahead-as (repeat-more (readObject (a .version) (a .deep) (a .declared)) (drop (x .a) (a .s .now)) (a .n) (x .k) (test .loop-test .taken)) (x .inv .1 .1 .1) in
     (omega (arith, start .pre .0), (record { short = start .pre .1 .0 .short; inside = x .inv .1 .1 .0 .within; packed = start .pre .1 .0 .packed }, ahead-first _ _ m))
 
-put-objects-add-k : (t : ℕ) → put-objects-lts.Need-add-k (put-objects-claims t) (put-objects-at t) put-objects.Post put-objects-Inv-loop put-objects-μ-loop
-put-objects-add-k t c = search needs
-
-put-objects-loop-less : (t : ℕ) → put-objects-lts.Need-loop-less (put-objects-claims t) (put-objects-at t) put-objects.Post put-objects-Inv-loop put-objects-μ-loop
-put-objects-loop-less t c = search needs
-
 put-objects-loop-again : (t : ℕ) → put-objects-lts.Need-loop-again (put-objects-claims t) (put-objects-at t) put-objects.Post put-objects-Inv-loop put-objects-μ-loop
 put-objects-loop-again t c =
     let at-object = c .before in
@@ -342,9 +306,6 @@ put-objects-loop-again t c =
     let out = at-object .put-object .last .1 .1 .1 .1 .1 .1 .1 .0 in
     let m = ahead-as (repeat-more f (drop (x .a) (a .s .now)) (a .n) (x .k) (test .loop-test .taken)) (x .inv .1 .1 .1) in
     (search needs, (at-object .put-object .kept .1 .1 .1 .1 .1 .1 .1 .0 ∙ x .inv .1 .0, (items-turn Few0 f (a .n) (x .k) (x .inv .1 .1 .0) (test .loop-test .taken) (To (r .p) (r .q)) out (at-object .put-object .ensures) (r .p) (r .q) refl, ahead-next _ _ m (at-object .put-object .ensures))))
-
-put-objects-same-length : (t : ℕ) → put-objects-lts.Need-same-length (put-objects-claims t) (put-objects-at t) put-objects.Post put-objects-Inv-loop put-objects-μ-loop
-put-objects-same-length t c = search needs
 
 put-objects-returns : (t : ℕ) → put-objects-lts.Need-returns (put-objects-claims t) (put-objects-at t) put-objects.Post put-objects-Inv-loop put-objects-μ-loop
 put-objects-returns t c =
@@ -388,15 +349,6 @@ row-counted t c =
     let v = c .before .plain-of in
     c .put2 .ensures ∙ ap (λ (z : ℤ). set (a .list .now) (a .q) z) (through (record { sfits = v .ok }) (v .ensures))
 
-put-row-entry-requires : (t : ℕ) → put-row-lts.Need-entry-requires (put-row-claims t) (put-row-at t) put-row.Post
-put-row-entry-requires t c κs = search needs
-
-put-row-entry-requires-2 : (t : ℕ) → put-row-lts.Need-entry-requires-2 (put-row-claims t) (put-row-at t) put-row.Post
-put-row-entry-requires-2 t c κs = search needs
-
-put-row-entry-requires-3 : (t : ℕ) → put-row-lts.Need-entry-requires-3 (put-row-claims t) (put-row-at t) put-row.Post
-put-row-entry-requires-3 t c κs = search needs
-
 put-row-put-object-requires : (t : ℕ) → put-row-lts.Need-put-object-requires (put-row-claims t) (put-row-at t) put-row.Post
 put-row-put-object-requires t c κs =
     let r = c .before .before .before in
@@ -404,17 +356,11 @@ put-row-put-object-requires t c κs =
     let start = r .before .before .before .before in
     (omega (arith, start .pre .0), (start .pre .1 .0, object-ahead H (c .before .before .if1 .taken) (c .before .if2 .taken)))
 
-put-row-same-length : (t : ℕ) → put-row-lts.Need-same-length (put-row-claims t) (put-row-at t) put-row.Post
-put-row-same-length t c = search needs
-
 put-row-returns : (t : ℕ) → put-row-lts.Need-returns (put-row-claims t) (put-row-at t) put-row.Post
 put-row-returns t c =
     let r = c .before .before .before .before .before in
     let H = row-here t r in
     object-laid H (c .before .before .before .before .if1 .taken) (c .before .before .before .if2 .taken) _ _ _ (c .before .put-object .ensures)
-
-put-row-entry-requires-4 : (t : ℕ) → put-row-lts.Need-entry-requires-4 (put-row-claims t) (put-row-at t) put-row.Post
-put-row-entry-requires-4 t c κs = search needs
 
 put-row-value-of-requires : (t : ℕ) → put-row-lts.Need-value-of-requires (put-row-claims t) (put-row-at t) put-row.Post
 put-row-value-of-requires t c κs =
@@ -426,9 +372,6 @@ put-row-value-of-requires t c κs =
     let n = f .entry4 .result in
     let ns = row-fixed t f in
     omega (arith, single-room H k z n ns (c .before .if3 .taken) .0, width-is H k)
-
-put-row-put-requires : (t : ℕ) → put-row-lts.Need-put-requires (put-row-claims t) (put-row-at t) put-row.Post
-put-row-put-requires t c κs = search needs
 
 put-row-add-t23 : (t : ℕ) → put-row-lts.Need-add-t23 (put-row-claims t) (put-row-at t) put-row.Post
 put-row-add-t23 t c =
@@ -451,9 +394,6 @@ put-row-add-t24 t c =
     let n = f .entry4 .result in
     let ns = row-fixed t f in
     omega (arith, single-room H k z n ns (c .before .before .before .before .if3 .taken) .1)
-
-put-row-same-length-2 : (t : ℕ) → put-row-lts.Need-same-length-2 (put-row-claims t) (put-row-at t) put-row.Post
-put-row-same-length-2 t c = search needs
 
 put-row-returns-2 : (t : ℕ) → put-row-lts.Need-returns-2 (put-row-claims t) (put-row-at t) put-row.Post
 put-row-returns-2 t c =
@@ -512,9 +452,6 @@ put-row-add-t30 t c =
     let ns = row-fixed t f in
     omega (arith, values-room H k z n ns .1)
 
-put-row-same-length-3 : (t : ℕ) → put-row-lts.Need-same-length-3 (put-row-claims t) (put-row-at t) put-row.Post
-put-row-same-length-3 t c = search needs
-
 put-row-returns-3 : (t : ℕ) → put-row-lts.Need-returns-3 (put-row-claims t) (put-row-at t) put-row.Post
 put-row-returns-3 t c =
     let r = c .before .before .before .before .before .before .before in
@@ -526,9 +463,6 @@ put-row-returns-3 t c =
     let ns = row-fixed t f in
     values-laid H k z n ns _ (c .before .put-values .ensures)
 
-put-row-number-requires : (t : ℕ) → put-row-lts.Need-number-requires (put-row-claims t) (put-row-at t) put-row.Post
-put-row-number-requires t c κs = search needs
-
 put-row-plain-of-requires : (t : ℕ) → put-row-lts.Need-plain-of-requires (put-row-claims t) (put-row-at t) put-row.Post
 put-row-plain-of-requires t c κs =
     let r = c .before .before .before in
@@ -539,9 +473,6 @@ put-row-plain-of-requires t c κs =
     let ns = m .number .ensures in
     let a = r .before .before .before .before .args in
     plain-small (H .count) n (few H z) (number-is (a .s .now) (a .p) (H .count) n (omega (arith, few H z)) ns .1)
-
-put-row-put-requires-2 : (t : ℕ) → put-row-lts.Need-put-requires-2 (put-row-claims t) (put-row-at t) put-row.Post
-put-row-put-requires-2 t c κs = search needs
 
 put-row-add-put-objects : (t : ℕ) → put-row-lts.Need-add-put-objects (put-row-claims t) (put-row-at t) put-row.Post
 put-row-add-put-objects t c =
@@ -574,9 +505,6 @@ put-row-put-objects-requires t c κs =
     let start = r .before .before .before .before in
     let l = start .pre .1 .0 in
     (omega (arith, start .pre .0), (record { short = l .short; inside = count-inside H z; packed = l .packed }, objects-ahead H z n ns (c .before .if4 .taken)))
-
-put-row-same-length-4 : (t : ℕ) → put-row-lts.Need-same-length-4 (put-row-claims t) (put-row-at t) put-row.Post
-put-row-same-length-4 t c = search needs
 
 put-row-returns-4 : (t : ℕ) → put-row-lts.Need-returns-4 (put-row-claims t) (put-row-at t) put-row.Post
 put-row-returns-4 t c =
@@ -669,9 +597,6 @@ put-row-add-t45 t c =
     let ns = m .number .ensures in
     omega (arith, chars-room H z n ns (c .before .before .before .if4 .left) .1)
 
-put-row-same-length-5 : (t : ℕ) → put-row-lts.Need-same-length-5 (put-row-claims t) (put-row-at t) put-row.Post
-put-row-same-length-5 t c = search needs
-
 put-row-returns-5 : (t : ℕ) → put-row-lts.Need-returns-5 (put-row-claims t) (put-row-at t) put-row.Post
 put-row-returns-5 t c =
     let r = c .before .before .before .before .before .before .before .before .before .before in
@@ -689,34 +614,34 @@ pub +put-fields+put-object+put-objects+put-row-spec : {M : Type 1} → statement
     put-fields.Post
     put-fields-Inv-loop
     put-fields-μ-loop
-    (put-fields-entry-requires t)
-    (put-fields-entry-requires-2 t)
+    (λ c κs. search needs)
+    (λ c κs. search needs)
     (put-fields-loop-holds t)
     (put-fields-put-row-requires t)
-    (put-fields-add-i t)
-    (put-fields-loop-less t)
+    (λ c. search needs)
+    (λ c. search needs)
     (put-fields-loop-again t)
-    (put-fields-same-length t)
+    (λ c. search needs)
     (put-fields-returns t))
     (λ t. put-object-lts.spec (put-object-claims t)
     (put-object-at t)
     put-object.Post
     (put-object-shared-slice-read-wide t)
-    (put-object-wide-requires t)
-    (put-object-put-requires t)
+    (λ c κs. search needs)
+    (λ c κs. search needs)
     (put-object-add-t17 t)
     (put-object-add-t18 t)
-    (put-object-same-length t)
+    (λ c. search needs)
     (put-object-returns t)
     (put-object-add-four t)
     (put-object-four-requires t)
     (put-object-plain-of-requires t)
-    (put-object-put-requires-2 t)
+    (λ c κs. search needs)
     (put-object-add-put-fields t)
     (put-object-add-put-fields-2 t)
     (put-object-sub-put-fields t)
     (put-object-put-fields-requires t)
-    (put-object-same-length-2 t)
+    (λ c. search needs)
     (put-object-returns-2 t))
     (λ t. put-objects-lts.spec (put-objects-claims t)
     (put-objects-at t)
@@ -725,40 +650,40 @@ pub +put-fields+put-object+put-objects+put-row-spec : {M : Type 1} → statement
     put-objects-μ-loop
     (put-objects-loop-holds t)
     (put-objects-put-object-requires t)
-    (put-objects-add-k t)
-    (put-objects-loop-less t)
+    (λ c. search needs)
+    (λ c. search needs)
     (put-objects-loop-again t)
-    (put-objects-same-length t)
+    (λ c. search needs)
     (put-objects-returns t))
     λ t. put-row-lts.spec (put-row-claims t)
     (put-row-at t)
     put-row.Post
-    (put-row-entry-requires t)
-    (put-row-entry-requires-2 t)
-    (put-row-entry-requires-3 t)
+    (λ c κs. search needs)
+    (λ c κs. search needs)
+    (λ c κs. search needs)
     (put-row-put-object-requires t)
-    (put-row-same-length t)
+    (λ c. search needs)
     (put-row-returns t)
-    (put-row-entry-requires-4 t)
+    (λ c κs. search needs)
     (put-row-value-of-requires t)
-    (put-row-put-requires t)
+    (λ c κs. search needs)
     (put-row-add-t23 t)
     (put-row-add-t24 t)
-    (put-row-same-length-2 t)
+    (λ c. search needs)
     (put-row-returns-2 t)
     (put-row-put-values-requires t)
     (put-row-mul-t28 t)
     (put-row-add-t29 t)
     (put-row-add-t30 t)
-    (put-row-same-length-3 t)
+    (λ c. search needs)
     (put-row-returns-3 t)
-    (put-row-number-requires t)
+    (λ c κs. search needs)
     (put-row-plain-of-requires t)
-    (put-row-put-requires-2 t)
+    (λ c κs. search needs)
     (put-row-add-put-objects t)
     (put-row-add-put-objects-2 t)
     (put-row-put-objects-requires t)
-    (put-row-same-length-4 t)
+    (λ c. search needs)
     (put-row-returns-4 t)
     (put-row-add-put-values t)
     (put-row-add-put-values-2 t)
@@ -768,5 +693,5 @@ pub +put-fields+put-object+put-objects+put-row-spec : {M : Type 1} → statement
     (put-row-add-t43 t)
     (put-row-add-t44 t)
     (put-row-add-t45 t)
-    (put-row-same-length-5 t)
+    (λ c. search needs)
     (put-row-returns-5 t)

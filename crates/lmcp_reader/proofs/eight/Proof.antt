@@ -1,25 +1,9 @@
 -- `lmcp_reader::eight` meets its contract.
-use Prim.Native.Nat.{_-_}
 use native.Mathlib.Omega.{arith}
 use Rattle.lmcp.proofs.Widths.{be-eight}
 use borrow.Author.Needs.{needs}
 use Rattle.lmcp_reader.proofs.eight.Statement.{statement}
 use Rattle.lmcp_reader.proofs.eight.Tie as tie
-
-four-requires : tie.Need-four-requires
-four-requires c κs = search needs
-
-mul-result : tie.Need-mul-result
-mul-result c = search needs
-
-add-four : tie.Need-add-four
-add-four c = search needs
-
-four-requires-2 : tie.Need-four-requires-2
-four-requires-2 c κs = search needs
-
-add-result : tie.Need-add-result
-add-result c = search needs
 
 returns : tie.Need-returns
 returns c =
@@ -29,4 +13,4 @@ returns c =
 
 pub eight-spec : {M : Type 1} → statement M
 eight-spec =
-    tie.close (tie.spec four-requires mul-result add-four four-requires-2 add-result returns)
+    tie.close (tie.spec (λ c κs. search needs) (λ c. search needs) (λ c. search needs) (λ c κs. search needs) (λ c. search needs) returns)

@@ -15,17 +15,11 @@ use Rattle.lmcp_reader.proofs.has_room.Tie as tie
 returns : tie.Need-returns
 returns c = let a = c .before .before .args in (refl, long-list (a .version) (a .s .now) (length (a .list .now)) (c .if1 .taken))
 
-slice-relend-prefix-put-object : tie.Need-slice-relend-prefix-put-object
-slice-relend-prefix-put-object c = search needs
-
 slice-aggregate-put-object : tie.Need-slice-aggregate-put-object
 slice-aggregate-put-object c = let l = c .before .before .before .args .list .now in sym (length-take-le _ l (omega arith))
 
 put-object-requires : tie.Need-put-object-requires
 put-object-requires c κs = c .before .before .before .pre
-
-same-length : tie.Need-same-length
-same-length c = search needs
 
 returns-2 : tie.Need-returns-2
 returns-2 c =
@@ -42,8 +36,8 @@ has-room-spec =
     tie.close
     (tie.spec
     returns
-    slice-relend-prefix-put-object
+    (λ c. search needs)
     slice-aggregate-put-object
     put-object-requires
-    same-length
+    (λ c. search needs)
     returns-2)

@@ -15,17 +15,11 @@ use Rattle.lmcp_reader.proofs.Roots.{root-ahead, list-short, list-good}
 use Rattle.lmcp_reader.proofs.put_list.Statement.{statement}
 use Rattle.lmcp_reader.proofs.put_list.Tie as tie
 
-table-requires : tie.Need-table-requires
-table-requires c κs = search needs
-
 has-room-requires : tie.Need-has-room-requires
 has-room-requires c κs =
     let start = c .before .before .before .before in
     let a = start .args in
     (record { short = start .pre .1 .0; inside = omega arith; packed = c .before .before .table .ensures }, root-ahead (a .version) (a .s .now) (start .pre .1 .1))
-
-same-length : tie.Need-same-length
-same-length c = search needs
 
 returns : tie.Need-returns
 returns c =
@@ -35,21 +29,12 @@ returns c =
     subst (ReadTo (prepend (pos (a .version) ∷ []) (whole (readRoot (a .version) (a .s .now)))) (a .list .now) (Refused 13)) (sym (h .ensures .0))
     (list-short (a .version) (a .s .now) (start .pre .1 .1) (a .list .now) (h .result) (h .ensures .1) (not-true _ (c .if1 .taken)))
 
-plain-of-requires : tie.Need-plain-of-requires
-plain-of-requires c κs = search needs
-
-put-requires : tie.Need-put-requires
-put-requires c κs = search needs
-
 put-object-requires : tie.Need-put-object-requires
 put-object-requires c κs =
     let t = c .before .before .before .before .before .before .before .before .before .before .before in
     let start = t .before .before in
     let a = start .args in
     (record { short = start .pre .1 .0; inside = omega arith; packed = t .table .ensures }, root-ahead (a .version) (a .s .now) (start .pre .1 .1))
-
-same-length-2 : tie.Need-same-length-2
-same-length-2 c = search needs
 
 returns-2 : tie.Need-returns-2
 returns-2 c =
@@ -67,12 +52,12 @@ pub put-list-spec : {M : Type 1} → statement M
 put-list-spec =
     tie.close
     (tie.spec
-    table-requires
+    (λ c κs. search needs)
     has-room-requires
-    same-length
+    (λ c. search needs)
     returns
-    plain-of-requires
-    put-requires
+    (λ c κs. search needs)
+    (λ c κs. search needs)
     put-object-requires
-    same-length-2
+    (λ c. search needs)
     returns-2)

@@ -48,9 +48,6 @@ value-of-requires c κs =
     let e = peel (start .args .n) (x .k) (start .args .w) (c .before .loop-test .taken) in
     omega (arith, x .inv .1 .1 .0, e, start .pre .1 .0)
 
-put-requires : tie.Need-put-requires Inv-loop μ-loop
-put-requires c κs = search needs
-
 add-at : tie.Need-add-at Inv-loop μ-loop
 add-at c =
     let turn = c .before .before .before .before .before in
@@ -60,12 +57,6 @@ add-at c =
     let test = c .before .before .before .before in
     let e = peel (a .n) (x .k) (a .w) (test .loop-test .taken) in
     omega (arith, x .inv .1 .1 .0, e, start .pre .1 .1)
-
-add-k : tie.Need-add-k Inv-loop μ-loop
-add-k c = search needs
-
-loop-less : tie.Need-loop-less Inv-loop μ-loop
-loop-less c = search needs
 
 loop-again : tie.Need-loop-again Inv-loop μ-loop
 loop-again c =
@@ -94,9 +85,6 @@ loop-again c =
       ),
     )
 
-same-length : tie.Need-same-length Inv-loop μ-loop
-same-length c = search needs
-
 returns : tie.Need-returns Inv-loop μ-loop
 returns c =
     let x = c .before .loop in
@@ -113,10 +101,10 @@ put-values-spec =
     loop-holds
     add-put
     value-of-requires
-    put-requires
+    (λ c κs. search needs)
     add-at
-    add-k
-    loop-less
+    (λ c. search needs)
+    (λ c. search needs)
     loop-again
-    same-length
+    (λ c. search needs)
     returns)

@@ -43,9 +43,6 @@ fine c = sym (c .if1 .left) ∙ c .before .check-message .ensures
 within : (c : tie.Else1) → (12 ≤ length (M c)) × (length (M c) ≤ maxMessage)
 within c = frame-within (M c) (good (M c) (fine c) .framed)
 
-check-message-requires : tie.Need-check-message-requires
-check-message-requires c κs = search needs
-
 returns : tie.Need-returns
 returns c =
     let k = c .before in
@@ -61,21 +58,12 @@ sub-s c = omega (arith, within c .0)
 part-s-start : tie.Need-part-s-start
 part-s-start c = let k : 8 ≤ length (M c) - 4 = omega (arith, within c .0) in k
 
-part-s-end : tie.Need-part-s-end
-part-s-end c = search needs
-
-version-of-requires : tie.Need-version-of-requires
-version-of-requires c κs = search needs
-
 put-list-requires : tie.Need-put-list-requires
 put-list-requires c κs =
     let v = c .before .version-of in
     let e = c .before .before .before in
     let n : length (root (M e)) ≤ length (M e) = rw (length-take, length-drop) (omega arith) in
     (version-small (root (M e)) (v .ensures), (omega (arith, n, within e .1), good-ahead (M e) (fine e) (root (M e)) (root-is (M e)) (v .result) (v .ensures)))
-
-same-length : tie.Need-same-length
-same-length c = search needs
 
 returns-2 : tie.Need-returns-2
 returns-2 c =
@@ -89,13 +77,13 @@ pub read-message-spec : {M : Type 1} → statement M
 read-message-spec =
     tie.close
     (tie.spec
-    check-message-requires
+    (λ c κs. search needs)
     returns
     sub-end
     sub-s
     part-s-start
-    part-s-end
-    version-of-requires
+    (λ c. search needs)
+    (λ c κs. search needs)
     put-list-requires
-    same-length
+    (λ c. search needs)
     returns-2)

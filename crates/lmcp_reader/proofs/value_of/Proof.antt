@@ -10,7 +10,7 @@ use Rattle.wire.specs.Bytes.{be}
 use Rattle.wire.specs.Signed.{signed}
 use Rattle.lmcp_reader.proofs.Cases.{through}
 use Rattle.lmcp_reader.specs.InsidePuts.{coded}
-use Rattle.lmcp.specs.Packed.{widthOf}
+use Rattle.lmcp.specs.InsidePacked.{widthOf}
 use Rattle.lmcp.proofs.Widths.{be-one}
 use borrow.Author.Needs.{needs}
 use Rattle.lmcp_reader.proofs.value_of.Statement.{statement}
@@ -26,12 +26,6 @@ module _ (c : ℕ) where
 shared-slice-read-wide : tie.Need-shared-slice-read-wide
 shared-slice-read-wide c = omega (arith, ap widthOf (c .before .if1 .taken), c .before .before .before .pre)
 
-wide-requires : tie.Need-wide-requires
-wide-requires c κs = search needs
-
-plain-of-requires : tie.Need-plain-of-requires
-plain-of-requires c κs = search needs
-
 returns : tie.Need-returns
 returns c =
     let a = c .before .before .before .before .before .args in
@@ -41,9 +35,6 @@ returns c =
 two-requires : tie.Need-two-requires
 two-requires c κs = omega (arith, ap widthOf (c .if2 .taken), c .before .before .before .pre)
 
-plain-of-requires-2 : tie.Need-plain-of-requires-2
-plain-of-requires-2 c κs = search needs
-
 returns-2 : tie.Need-returns-2
 returns-2 c =
     let a = c .before .before .before .before .before .args in
@@ -51,9 +42,6 @@ returns-2 c =
 
 four-requires : tie.Need-four-requires
 four-requires c κs = omega (arith, ap widthOf (c .if3 .taken), c .before .before .before .before .pre)
-
-plain-of-requires-3 : tie.Need-plain-of-requires-3
-plain-of-requires-3 c κs = search needs
 
 returns-3 : tie.Need-returns-3
 returns-3 c =
@@ -63,9 +51,6 @@ returns-3 c =
 two-requires-2 : tie.Need-two-requires-2
 two-requires-2 c κs = omega (arith, ap widthOf (c .if4 .taken), c .before .before .before .before .before .pre)
 
-signed-of-requires : tie.Need-signed-of-requires
-signed-of-requires c κs = search needs
-
 returns-4 : tie.Need-returns-4
 returns-4 c =
     let a = c .before .before .before .before .before .before .before .args in
@@ -73,9 +58,6 @@ returns-4 c =
 
 four-requires-2 : tie.Need-four-requires-2
 four-requires-2 c κs = omega (arith, ap widthOf (c .if5 .taken), c .before .before .before .before .before .before .pre)
-
-signed-of-requires-2 : tie.Need-signed-of-requires-2
-signed-of-requires-2 c κs = search needs
 
 returns-5 : tie.Need-returns-5
 returns-5 c =
@@ -90,9 +72,6 @@ eight-requires c κs = omega (
   c .before .before .before .before .before .before .pre,
 )
 
-signed-of-requires-3 : tie.Need-signed-of-requires-3
-signed-of-requires-3 c κs = search needs
-
 returns-6 : tie.Need-returns-6
 returns-6 c =
     let a = c .before .before .before .before .before .before .before .before .args in
@@ -105,21 +84,21 @@ value-of-spec =
     tie.close
     (tie.spec
     shared-slice-read-wide
-    wide-requires
-    plain-of-requires
+    (λ c κs. search needs)
+    (λ c κs. search needs)
     returns
     two-requires
-    plain-of-requires-2
+    (λ c κs. search needs)
     returns-2
     four-requires
-    plain-of-requires-3
+    (λ c κs. search needs)
     returns-3
     two-requires-2
-    signed-of-requires
+    (λ c κs. search needs)
     returns-4
     four-requires-2
-    signed-of-requires-2
+    (λ c κs. search needs)
     returns-5
     eight-requires
-    signed-of-requires-3
+    (λ c κs. search needs)
     returns-6)

@@ -1,14 +1,12 @@
 -- `sorted_set::insert` meets its contract. The loop's invariant: the words from i up to the n-th are moved up by one. Assumes nothing.
-use mathlib.Core.Path.{_≡_, refl, sym, _∙_}
-use Prim.Native.Nat.{_-_, _≤_}
+use mathlib.Core.Path.{_≡_, refl, sym}
+use Prim.Native.Nat.{_≤_}
 use native.Mathlib.Omega.{arith}
 use lib.ListN.{length, length-set}
 use borrow.Author.Needs.{needs}
 use Rattle.sorted_set.proofs.Moves.{moved, moved-none, moved-more, placed}
 use Rattle.sorted_set.proofs.insert.Statement.{statement}
 use Rattle.sorted_set.proofs.insert.Tie as tie
-use Rattle.sorted_set.proofs.insert.Reads as reads
-use Rattle.sorted_set.proofs.insert.Lts as lts
 
 abbrev Inv-loop : tie.InvT-loop
 Inv-loop w₀ at n x i₀ w i = (at ≤ i) × (i ≤ n) × (length w ≡ length w₀) × (w ≡ moved w₀ i n)

@@ -1,5 +1,5 @@
 -- `sorted_set::rank` meets its contract. The loop's invariant: between low and high x has the place that it has among all. Assumes nothing.
-use mathlib.Core.Path.{_≡_, refl, sym, _∙_}
+use mathlib.Core.Path.{_≡_, sym, _∙_}
 use mathlib.Core.List.{List}
 use Prim.Native.Nat.{ℕ, _-_, _≤_}
 use native.Mathlib.Omega.{arith}
@@ -11,9 +11,6 @@ use Rattle.wire.proofs.Halves.{goes-behind, goes-before, ends, starts}
 use Rattle.sorted_set.specs.Halving.{held, smaller, rankIn}
 use Rattle.sorted_set.proofs.rank.Statement.{statement}
 use Rattle.sorted_set.proofs.rank.Tie as tie
-use Rattle.sorted_set.proofs.rank.Reads as reads
-use Rattle.sorted_set.proofs.rank.Lts as lts
-use Rattle.wire.proofs.least.Reads as least-reads
 
 from-start : (w : List ℕ) (x n high : ℕ) → high ≡ held w n → halve (high - 0) (smaller w x) 0 high ≡ rankIn w n x
 unfolding rankIn

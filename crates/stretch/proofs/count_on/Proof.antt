@@ -2,7 +2,7 @@
 use mathlib.Core.Path.{_≡_, refl, sym, ap, _∙_, subst}
 use mathlib.Core.Logic.{inl, inr}
 use mathlib.Core.List.{List, [], _∷_}
-use Prim.Native.Nat.{ℕ, _+_, _-_, _<_}
+use Prim.Native.Nat.{ℕ, _-_}
 use native.Mathlib.Omega.{arith}
 use lib.IntN.{ℤ}
 use lib.ListN.{length}
@@ -41,15 +41,6 @@ Inv-loop log place most state₀ names₀ store₀ ledger₀ numbers₀ tiles₀
 abbrev μ-loop : tie.MeasureT-loop
 μ-loop log place most state₀ names₀ store₀ ledger₀ numbers₀ tiles₀ pits₀ sure₀ limits at₀ taken₀ done₀ state names store ledger numbers tiles pits sure at taken done = most - taken
 
-limits-in-requires : tie.Need-limits-in-requires Inv-loop μ-loop
-limits-in-requires c κs = search needs
-
-held-requires : tie.Need-held-requires Inv-loop μ-loop
-held-requires c κs = search needs
-
-nothing-requires : tie.Need-nothing-requires Inv-loop μ-loop
-nothing-requires c κs = search needs
-
 loop-holds : tie.Need-loop-holds Inv-loop μ-loop
 loop-holds c =
     let own = c .before .before .before .before .before in
@@ -65,42 +56,6 @@ loop-holds c =
       refl,
       refl,
     )
-
-read-on-requires : tie.Need-read-on-requires Inv-loop μ-loop
-read-on-requires c κs = search needs
-
-enum-known-step : tie.Need-enum-known-step Inv-loop μ-loop
-enum-known-step c = search needs
-
-stop-of-requires : tie.Need-stop-of-requires Inv-loop μ-loop
-stop-of-requires c κs = search needs
-
-stopped-requires : tie.Need-stopped-requires Inv-loop μ-loop
-stopped-requires c κs = search needs
-
-same-length : tie.Need-same-length Inv-loop μ-loop
-same-length c = search needs
-
-same-length-2 : tie.Need-same-length-2 Inv-loop μ-loop
-same-length-2 c = search needs
-
-same-length-3 : tie.Need-same-length-3 Inv-loop μ-loop
-same-length-3 c = search needs
-
-same-length-4 : tie.Need-same-length-4 Inv-loop μ-loop
-same-length-4 c = search needs
-
-same-length-5 : tie.Need-same-length-5 Inv-loop μ-loop
-same-length-5 c = search needs
-
-same-length-6 : tie.Need-same-length-6 Inv-loop μ-loop
-same-length-6 c = search needs
-
-same-length-7 : tie.Need-same-length-7 Inv-loop μ-loop
-same-length-7 c = search needs
-
-same-length-8 : tie.Need-same-length-8 Inv-loop μ-loop
-same-length-8 c = search needs
 
 returns : tie.Need-returns Inv-loop μ-loop
 returns c =
@@ -128,9 +83,6 @@ one-entry-requires c κs =
     let a = own .before .before .before .before .before .before .before .before .before .args in
     let D = lentOf (a .state .now) (a .names .now) (a .store .now) (a .ledger .now) (a .numbers .now) (a .tiles .now) (a .pits .now) (a .sure .now) in
     going-few (a .log .now) (own .limits-in .result) (a .most) (a .place) D (first .nothing .result .sizes) _ (l .loop .at) (l .loop .taken) (l .loop .done) (l .loop .inv .0) (c .before .before .before .before .before .before .before .before .before .before .before .before .before .before .loop-test .taken) (own .before .before .before .before .before .before .before .before .before .fits .most .fits)
-
-stopped-requires-2 : tie.Need-stopped-requires-2 Inv-loop μ-loop
-stopped-requires-2 c κs = search needs
 
 same-length-9 : tie.Need-same-length-9 Inv-loop μ-loop
 same-length-9 c = c .before .before .before .before .before .before .before .before .before .before .before .before .before .before .before .before .before .state .given ∙ c .before .before .before .before .before .before .before .before .before .before .before .before .before .before .before .before .before .before .before .before .before .before .before .before .before .before .before .before .before .before .before .before .before .before .loop .inv .1
@@ -195,33 +147,6 @@ loop-again c =
       c .before .before .before .sure .given ∙ l .loop .inv .8,
     )
 
-stopped-requires-3 : tie.Need-stopped-requires-3 Inv-loop μ-loop
-stopped-requires-3 c κs = search needs
-
-same-length-17 : tie.Need-same-length-17 Inv-loop μ-loop
-same-length-17 c = search needs
-
-same-length-18 : tie.Need-same-length-18 Inv-loop μ-loop
-same-length-18 c = search needs
-
-same-length-19 : tie.Need-same-length-19 Inv-loop μ-loop
-same-length-19 c = search needs
-
-same-length-20 : tie.Need-same-length-20 Inv-loop μ-loop
-same-length-20 c = search needs
-
-same-length-21 : tie.Need-same-length-21 Inv-loop μ-loop
-same-length-21 c = search needs
-
-same-length-22 : tie.Need-same-length-22 Inv-loop μ-loop
-same-length-22 c = search needs
-
-same-length-23 : tie.Need-same-length-23 Inv-loop μ-loop
-same-length-23 c = search needs
-
-same-length-24 : tie.Need-same-length-24 Inv-loop μ-loop
-same-length-24 c = search needs
-
 returns-3 : tie.Need-returns-3 Inv-loop μ-loop
 returns-3 c =
     let l = c .before .before in
@@ -238,26 +163,26 @@ count-on-spec =
     (tie.spec
     Inv-loop
     μ-loop
-    limits-in-requires
-    held-requires
-    nothing-requires
+    (λ c κs. search needs)
+    (λ c κs. search needs)
+    (λ c κs. search needs)
     loop-holds
-    read-on-requires
-    enum-known-step
-    stop-of-requires
-    stopped-requires
-    same-length
-    same-length-2
-    same-length-3
-    same-length-4
-    same-length-5
-    same-length-6
-    same-length-7
-    same-length-8
+    (λ c κs. search needs)
+    (λ c. search needs)
+    (λ c κs. search needs)
+    (λ c κs. search needs)
+    (λ c. search needs)
+    (λ c. search needs)
+    (λ c. search needs)
+    (λ c. search needs)
+    (λ c. search needs)
+    (λ c. search needs)
+    (λ c. search needs)
+    (λ c. search needs)
     returns
     add-taken
     one-entry-requires
-    stopped-requires-2
+    (λ c κs. search needs)
     same-length-9
     same-length-10
     same-length-11
@@ -269,13 +194,13 @@ count-on-spec =
     returns-2
     loop-less
     loop-again
-    stopped-requires-3
-    same-length-17
-    same-length-18
-    same-length-19
-    same-length-20
-    same-length-21
-    same-length-22
-    same-length-23
-    same-length-24
+    (λ c κs. search needs)
+    (λ c. search needs)
+    (λ c. search needs)
+    (λ c. search needs)
+    (λ c. search needs)
+    (λ c. search needs)
+    (λ c. search needs)
+    (λ c. search needs)
+    (λ c. search needs)
     returns-3)

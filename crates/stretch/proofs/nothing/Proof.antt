@@ -1,7 +1,6 @@
 -- Of no answers all totals are 0. Assumes nothing.
 use mathlib.Core.Path.{refl}
 use Rattle.count_rules.specs.Run.{howMany}
-use borrow.Author.Needs.{needs}
 use Rattle.stretch.proofs.nothing.Statement.{statement}
 use Rattle.stretch.proofs.nothing.Tie as tie
 

@@ -13,18 +13,6 @@ use borrow.Author.Needs.{needs}
 use Rattle.stretch.proofs.one_entry.Statement.{statement}
 use Rattle.stretch.proofs.one_entry.Tie as tie
 
-part-requires : tie.Need-part-requires
-part-requires c κs = search needs
-
-receive-within-requires : tie.Need-receive-within-requires
-receive-within-requires c κs = search needs
-
-told-requires : tie.Need-told-requires
-told-requires c κs = search needs
-
-payload-requires : tie.Need-payload-requires
-payload-requires c κs = search needs
-
 one-payload-requires : tie.Need-one-payload-requires
 one-payload-requires c κs =
     let at-told = c .before .before .before .before .before .before in
@@ -41,24 +29,6 @@ same-length-2 : tie.Need-same-length-2
 same-length-2 c =
     let at-names = c .before .before .before .before .before .before .before .before .before .before .before .before .before .before .before .before .before .before .before .before in
     at-names .names .given
-
-same-length-3 : tie.Need-same-length-3
-same-length-3 c = search needs
-
-same-length-4 : tie.Need-same-length-4
-same-length-4 c = search needs
-
-same-length-5 : tie.Need-same-length-5
-same-length-5 c = search needs
-
-same-length-6 : tie.Need-same-length-6
-same-length-6 c = search needs
-
-same-length-7 : tie.Need-same-length-7
-same-length-7 c = search needs
-
-same-length-8 : tie.Need-same-length-8
-same-length-8 c = search needs
 
 returns : tie.Need-returns
 returns c =
@@ -77,17 +47,17 @@ pub one-entry-spec : {M : Type 1} → statement M
 one-entry-spec =
     tie.close
     (tie.spec
-    part-requires
-    receive-within-requires
-    told-requires
-    payload-requires
+    (λ c κs. search needs)
+    (λ c κs. search needs)
+    (λ c κs. search needs)
+    (λ c κs. search needs)
     one-payload-requires
     same-length
     same-length-2
-    same-length-3
-    same-length-4
-    same-length-5
-    same-length-6
-    same-length-7
-    same-length-8
+    (λ c. search needs)
+    (λ c. search needs)
+    (λ c. search needs)
+    (λ c. search needs)
+    (λ c. search needs)
+    (λ c. search needs)
     returns)

@@ -1,5 +1,5 @@
 -- By what the payload is. Assumes nothing.
-use mathlib.Core.Path.{_≡_, sym, ap, _∙_}
+use mathlib.Core.Path.{sym, ap, _∙_}
 use native.Mathlib.Omega.{arith}
 use Rattle.stretch.specs.declared.Totals.{Totals}
 use Rattle.stretch.specs.Inside.{ran, ranBy}
@@ -10,12 +10,6 @@ use Rattle.stretch.proofs.ran_by.Tie as tie
 
 enum-told : tie.Need-enum-told
 enum-told c = search needs
-
-enum-known-looked : tie.Need-enum-known-looked
-enum-known-looked c = search needs
-
-enum-known-looked-2 : tie.Need-enum-known-looked-2
-enum-known-looked-2 c = search needs
 
 add-after : tie.Need-add-after
 add-after c =
@@ -47,8 +41,8 @@ ran-by-spec =
     tie.close
     (tie.spec
     enum-told
-    enum-known-looked
-    enum-known-looked-2
+    (λ c. search needs)
+    (λ c. search needs)
     add-after
     returns
     returns-2
