@@ -9,7 +9,7 @@ import antt
 import items
 
 # a fault once the tree is free of them; until then they are counted
-ENFORCED = False
+ENFORCED = True
 USE_LINE = re.compile(r"^(?:unfoldable |pub |ghost )*use [^{\n]*(?:\{[^}]*\})?.*$", re.M)
 
 

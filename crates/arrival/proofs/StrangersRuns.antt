@@ -15,7 +15,6 @@ use Rattle.receiver_state.specs.View.{view, shaped}
 use Rattle.receiver.specs.Lent.{Lent, lent}
 use Rattle.receiver.specs.Calls.{Receives, received, Forgets, forgotten}
 use Rattle.arrival.specs.Demand.{Message, datagram, handedBy, nameIn}
-use Rattle.arrival.specs.Runs.{handsOver}
 use Rattle.arrival.specs.Strangers.{Start, part, Begins, Feed, after}
 use Rattle.arrival.specs.Strangers as strange
 use Rattle.arrival.specs.StrangersRuns.{Led, by-open, by-receive, by-within, by-forget, shown, startOf, Calls, begins, takes, drops, turns-away, hands, CodeBegins, CodePromised, CodeStrangers}

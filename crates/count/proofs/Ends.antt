@@ -23,7 +23,6 @@ use Rattle.log.specs.Listed.{Listed, whole, broken, entriesIn}
 use Rattle.log.specs.Told.{readOn, readAll}
 use Rattle.log.proofs.Onward.{read-all}
 use Rattle.sorted_set.specs.Lists.{In}
-use Rattle.sorted_set.specs.Halving.{held}
 use Rattle.count_rules.specs.Marks.{PitList}
 use Rattle.count_rules.specs.Report.{report}
 use Rattle.count_rules.specs.Run.{payloads, listsRead}

@@ -6,7 +6,6 @@ use lib.Dec.{eqb}
 use lib.ListN.{length}
 use Rattle.wire.specs.Choice.{pick}
 use Rattle.datagram.specs.Read.{place}
-use Rattle.datagram.specs.Said.{small}
 use Rattle.datagram.specs.declared.Header.{Header}
 use Rattle.cutter.specs.Cut.{countOf, beginsAt, pieceOf}
 

@@ -1,7 +1,7 @@
 // The index of a log: worked out afresh, or extended by the entries that were added. The log is gone over first to count and judge, and then to
 // enter, so that a refusal leaves the index.
 ghost use mathlib.Core.Path.{_≡_};
-ghost use Prim.Native.Nat.{_+_, _*_, _^_, _≤_, _<_};
+ghost use Prim.Native.Nat.{_+_, _^_, _≤_, _<_};
 ghost use lib.ListN.{length};
 ghost use Rattle.datagram.specs.Read.{readDatagram};
 ghost use Rattle.log_index.specs.Limits.{maxIndex};

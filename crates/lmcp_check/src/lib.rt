@@ -1,6 +1,6 @@
 // Whether a survey message is in order: the walk that only checks. It writes nothing and makes no numbers.
 ghost use mathlib.Core.Path.{_≡_};
-ghost use Prim.Native.Nat.{_+_, _-_, _*_, _≤_, _<_};
+ghost use Prim.Native.Nat.{_+_, _≤_, _<_};
 ghost use lib.ListN.{length, drop};
 ghost use Rattle.wire.specs.Bytes.{be};
 ghost use Rattle.lmcp.specs.Run.{repeat, whole};

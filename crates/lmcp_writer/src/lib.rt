@@ -5,7 +5,7 @@ use lmcp::Row;
 use lmcp::Went;
 ghost use mathlib.Core.Path.{_≡_};
 ghost use mathlib.Core.List.{[]};
-ghost use Prim.Native.Nat.{_+_, _-_, _*_, _^_, _≤_, _<_, min};
+ghost use Prim.Native.Nat.{_+_, _*_, _^_, _≤_, _<_, min};
 ghost use lib.ListN.{length, take, drop, getD};
 ghost use Rattle.wire.specs.Choice.{pick};
 ghost use Rattle.wire.specs.Bytes.{bytes};

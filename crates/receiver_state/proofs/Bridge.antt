@@ -16,7 +16,7 @@ use Rattle.wire.specs.Overlay.{overlay}
 use Rattle.wire.proofs.Overlays.{overlay-at, length-overlay}
 use Rattle.datagram.specs.Limits.{maxName}
 use Rattle.steps.specs.Limits.{slotCount, ledgerLength, slotSizeOf}
-use Rattle.steps.specs.Search.{first, allBelow, count}
+use Rattle.steps.specs.Search.{allBelow, count}
 use Rattle.steps.specs.Memory.{keyOf, memoryOk}
 use Rattle.steps.specs.Slots.{Slot, busy, noSlot, slotAt, hasKey, isFree, findOpen, findFree, oldest, openCount, lower}
 use Rattle.steps.specs.Slots as step

@@ -29,7 +29,6 @@ use Rattle.pit_marks.specs.declared.Taken.{Taken}
 use Rattle.pit_marks.specs.declared.Taken.the-variants as taken
 use Rattle.pit_marks.specs.Sets.{Sets, heldIn}
 use Rattle.pit_marks.specs.Enters.{keyIn, withPits, withTiles, sizesOf, Pitted, pitted, sureEntered, ifSure, pitEntered, enterPit, onward, enterMarks, tileEntered, elementsOf, enterList}
-use Rattle.pit_payloads.specs.declared.Looked.the-variants as looked
 use Rattle.pit_payloads.specs.Looks.{Left, lookedBy, inRead}
 use Rattle.pit_payloads.specs.Took.{faultIn, sizesIn}
 use Rattle.stretch.specs.declared.Stop.the-variants as stop

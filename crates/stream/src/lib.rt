@@ -1,7 +1,7 @@
 // Input of any size in a stream. A lent buffer holds what was read and not yet taken, and one record at a time stands whole in it. No
 // contract can say what the system gives: they say that every byte that came is taken once and in order.
 ghost use mathlib.Core.Path.{_≡_};
-ghost use Prim.Native.Nat.{_+_, _-_, _≤_, _<_};
+ghost use Prim.Native.Nat.{_-_, _≤_, _<_};
 ghost use lib.ListN.{length, drop};
 ghost use lib.Seq.{slice};
 ghost use Rattle.wire.specs.Bytes.{be};

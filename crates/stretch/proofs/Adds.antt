@@ -8,7 +8,7 @@ use lib.ListN.{length, getD}
 use Rattle.steps.specs.declared.Answer.{Answer}
 use Rattle.steps.specs.declared.Answer.the-variants.{Refused, Kept, Repeat, Delivered}
 use Rattle.steps.specs.Search.{one}
-use Rattle.steps.specs.Answers.{Reply, refusedBy, kept, repeat, delivered, reply}
+use Rattle.steps.specs.Answers.{Reply, refusedBy, kept, repeat, reply}
 use Rattle.words.specs.Builds.{build}
 use Rattle.count_rules.specs.Run.{isKept, isRepeat, isDelivered, isRefused, howMany, refusals}
 use Rattle.count_rules.proofs.Steps.{howMany-more, refused-more, refused-stay}

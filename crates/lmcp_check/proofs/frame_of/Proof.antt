@@ -9,7 +9,6 @@ use lib.Seq.{length-take-le}
 use Rattle.wire.specs.Bytes.{be}
 use Rattle.wire.specs.Same.{same}
 use Rattle.lmcp.specs.Limits.{maxMessage, magic}
-use Rattle.lmcp.specs.Message.{before}
 use Rattle.lmcp_check.proofs.Frames.{too-short, not-magic, too-long, not-length, sum-none, sum-right, sum-wrong}
 use borrow.Author.Tests.{not-true, not-false}
 use borrow.Author.Needs.{needs}
