@@ -25,12 +25,14 @@ use Rattle.log.specs.declared.reader.Step.{Step}
 use Rattle.log.specs.declared.reader.Step.the-variants.{Found, End, Refused}
 use Rattle.log.specs.Told.{firstOf, firstIn, entryAt, stepOf, stepIn, nextAt, entrySaid, fromFirst, readAt}
 use Rattle.log.proofs.Onward.{Found-at, found-at}
+use Rattle.sorted_set.specs.Lists.{In}
+use Rattle.count_rules.specs.Run.{payloads}
 use Rattle.pit_payloads.specs.Looks.{book}
 use Rattle.pit_payloads.specs.Took.{faultIn}
 use Rattle.stretch.specs.declared.Stop.the-variants as stop
 use Rattle.stretch.specs.declared.Stretch.{Stretch}
 use Rattle.stretch.specs.Stretch.{Desk, desk, Kit, kitOf, inShape, Entered, enterOn, Stretched, here, byStep, stretch, toldOn, stretchOf, CountsOn}
-use Rattle.season.specs.Season.{Map, Flight, setOut, flown}
+use Rattle.season.specs.Season.{Map, Flight, setOut, flown, Handed}
 use Rattle.season.proofs.Fits.{Fits, fits-held}
 use Rattle.season.proofs.Pieces.{pieces-end}
 
@@ -135,3 +137,6 @@ module _ (f : Flight) (m : Map) (fits : Fits (m .sets) (m .sizes)) (bytes : Byte
 
   pub flight-left : kitOf k′ (r .sizes) ≡ flown f m .kit
   flight-left = C .shows ∙ ap (λ (x : Stretched). x .kit) flown-is
+
+  pub flight-handed : Handed (payloads (flown f m .replies))
+  flight-handed x i = C .handed x (subst (λ (y : Stretched). In x (payloads (y .replies))) (sym flown-is) i)

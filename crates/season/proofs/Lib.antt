@@ -1,4 +1,6 @@
+pub mod Calls
 pub mod Copies
+pub mod Exact
 pub mod Fits
 pub mod Flights
 pub mod Growing
