@@ -4,14 +4,7 @@
 
 #include "../../include/quartzmitten.h"
 
-typedef unsigned long size_t;
-int printf(const char *, ...);
-void *memset(void *, int, size_t);
-void *memcpy(void *, const void *, size_t);
-int memcmp(const void *, const void *, size_t);
-int open(const char *, int, ...);
-long read(int, void *, size_t);
-int close(int);
+#include "../../tools/system.h"
 
 enum { ROOM = 4194304, LOGS = 8, WORDS = 8192 };
 
