@@ -6,16 +6,6 @@
 // null marks); N is the number of its datagrams, at most 4,096.
 #include "counting.h"
 
-struct timespec {
-    long seconds, nanoseconds;
-};
-int clock_gettime(int clock, struct timespec *t);
-int printf(const char *form, ...);
-int strcmp(const char *a, const char *b);
-long atol(const char *s);
-void exit(int status);
-void *mmap(void *at, u64 length, int allowed, int flags, int file, long offset);
-
 static void stop(const char *why) {
     printf("bench: %s\n", why);
     exit(1);
@@ -23,7 +13,7 @@ static void stop(const char *why) {
 
 static u64 now(void) {
     struct timespec t;
-    clock_gettime(1, &t);
+    clock_gettime(STEADY_CLOCK, &t);
     return (u64)t.seconds * 1000000000 + (u64)t.nanoseconds;
 }
 
@@ -132,7 +122,7 @@ static void longest(u32 n, u32 marks) {
 
 static void make(const char *log, u32 n) {
     if (n > 4096) stop("a log has at most 4,096 entries");
-    if (log_ == 0) log_ = mmap(0, LOG_ROOM, 3, 0x22, -1, 0);
+    if (log_ == 0) log_ = mmap(0, LOG_ROOM, MAY_READ_AND_WRITE, OF_NO_FILE, -1, 0);
     if (log_ == (u8 *)-1) stop("no memory for the log");
     seed = 1;
     length = 1;

@@ -2,6 +2,8 @@
 //   longest        the longest message
 //   once LENGTH    read once and written once, to be counted by a tool
 //   time LENGTH    how many numbers, and nanoseconds a byte of both: of 40 rounds the best counts, since the machine may be shared
+#include "../tools/system.h"
+
 typedef unsigned char u8;
 typedef unsigned long long u64;
 typedef long long i64;
@@ -9,15 +11,6 @@ typedef long long i64;
 u64 longest_message(void);
 u64 proved_read(const u8 *message, u64 length, i64 *list, u64 room);
 u64 proved_write(const i64 *list, u64 n, u8 *out, u64 room);
-
-struct timespec {
-    long seconds, nanoseconds;
-};
-int clock_gettime(int clock, struct timespec *t);
-int printf(const char *form, ...);
-int strcmp(const char *a, const char *b);
-int memcmp(const void *a, const void *b, unsigned long n);
-long atol(const char *s);
 
 enum { LONGEST = 1048576, FRAME = 12, HEAD = 15, MARK = 45 };
 static u8 message[LONGEST], written[LONGEST];
@@ -64,7 +57,7 @@ static void make(u64 length) {
 
 static double now(void) {
     struct timespec t;
-    clock_gettime(1, &t);
+    clock_gettime(STEADY_CLOCK, &t);
     return (double)t.seconds * 1e9 + (double)t.nanoseconds;
 }
 

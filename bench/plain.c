@@ -24,7 +24,7 @@ static u64 name_length(const u8 *p, u64 n) {
 }
 
 // 0, or the number of the refusal.
-static u32 read(const u8 *p, u64 n, u64 room, struct datagram *d) {
+static u32 read_datagram(const u8 *p, u64 n, u64 room, struct datagram *d) {
     if (n > MAX_DATAGRAM) return 3;
     if (n < 8) return 1;
     u32 magic = be32(p);
@@ -233,7 +233,7 @@ void plain_receive(struct plain *r, u8 *store, u64 store_length, u32 *ledger, u6
         refuse(out, 9);
         return;
     }
-    u32 number = read(p, length, r->room, &d);
+    u32 number = read_datagram(p, length, r->room, &d);
     if (number != 0) {
         refuse(out, number);
         return;

@@ -2,15 +2,11 @@
 #ifndef BENCH_RECEIVER_H
 #define BENCH_RECEIVER_H
 
+#include "../tools/system.h"
+
 typedef unsigned char u8;
 typedef unsigned int u32;
 typedef unsigned long u64;
-
-// Of the C library; the toolchain ships no headers.
-void *memcpy(void *to, const void *from, u64 n);
-void *memmove(void *to, const void *from, u64 n);
-void *memset(void *to, int byte, u64 n);
-int memcmp(const void *a, const void *b, u64 n);
 
 enum { SLOTS = 8, SENDERS = 16, KEYS = 32, MAX_NAME = 63, MAX_COUNT = 1024, MAX_SIZE = 1048576, MAX_DATAGRAM = 65535, LEDGER = 2 * SLOTS * MAX_COUNT };
 

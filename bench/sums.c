@@ -2,6 +2,8 @@
 //   check          all give the same sum, for every length from 0 to 4,096 and each of 64 places in memory
 //   time LENGTH    nanoseconds a call of each: by turns, and of 200 rounds the best counts, since the machine may be shared
 //   NAME LENGTH    one call of that one, to be counted by a tool
+#include "../tools/system.h"
+
 typedef unsigned char u8;
 typedef unsigned int u32;
 typedef unsigned long long u64;
@@ -11,14 +13,6 @@ u32 proved(const u8 *bytes, u64 length);
 #ifdef BEFORE
 u32 before(const u8 *bytes, u64 length);
 #endif
-
-struct timespec {
-    long seconds, nanoseconds;
-};
-int clock_gettime(int clock, struct timespec *t);
-int printf(const char *form, ...);
-int strcmp(const char *a, const char *b);
-long atol(const char *s);
 
 __attribute__((noinline)) u32 plain(const u8 *bytes, u64 length) {
     u32 sum = 0;
@@ -42,7 +36,7 @@ static u8 bytes[1048576 + 64];
 
 static double now(void) {
     struct timespec t;
-    clock_gettime(1, &t);
+    clock_gettime(STEADY_CLOCK, &t);
     return (double)t.seconds * 1e9 + (double)t.nanoseconds;
 }
 

@@ -1,13 +1,15 @@
 /* Quartzmitten for a C host: the checksum, the datagram reader, the cutter, the receiver, the sequence watch, the log's writer and reader, and the
-   index and the count of a log.
+   index and the count of a log, and of a season of logs.
 
    Link the archives libhost.a, libhost_state.a (qm_open, qm_forget, qm_lengths), libhost_receiver.a (qm_receive, qm_receive_within), libhost_flight.a
-   (qm_log_first, qm_log_next, qm_watch_see), libhost_index.a (qm_index, qm_find) and libhost_count.a (qm_count), or those whose functions are called: the
+   (qm_log_first, qm_log_next, qm_watch_see), libhost_index.a (qm_index, qm_find), libhost_count.a (qm_count) and libhost_season.a (qm_count_on,
+   qm_count_lines), or those whose functions are called: the
    toolchain's `rt staticlib host`, `rt staticlib host_state` and so on write them (x86-64 Linux). No other header is needed.
 
    What holds for all of them:
    - They end for any bytes and any lengths, keep no state of their own, ask the system for nothing, and may be called from any thread.
-   - They read and write only the memory lent in the call. A refusal writes nothing, but for what qm_count says of three of its own.
+   - They read and write only the memory lent in the call. A refusal writes nothing, but for what qm_count and qm_count_on say
+     of three of their own.
    - Lent memory is a pointer and how many elements stand there. The pointer is never null, also where the length is 0, and
      a list of 32-bit numbers is aligned to 4 bytes, one of 64-bit numbers to 8. What is written to must not overlap anything else
      that is lent.
@@ -47,8 +49,8 @@ typedef unsigned long long qm_size; /* a length, a place or a number of elements
 #define QM_LOG_CUT 43           /* a log that is empty, or ends inside an entry */
 #define QM_INDEX_FULL 44        /* an index of more than 4,096 entries */
 #define QM_LOG_LIMIT 45         /* a log's payload limit over 1,048,576 */
-#define QM_TOO_MANY_TILES 60    /* a 257th tile */
-#define QM_TOO_MANY_PITS 61     /* an 8,193rd pit, over all tiles */
+#define QM_TOO_MANY_TILES 60    /* a 257th tile; of qm_count_on, one more than words are lent */
+#define QM_TOO_MANY_PITS 61     /* an 8,193rd pit, over all tiles; of qm_count_on, a pit or a sure pit more than words are lent */
 #define QM_TOO_MANY_ENTRIES 62  /* a log of more than 4,096 entries */
 
 /* The sum of all `length` bytes modulo 2^32. Of no bytes it is 0. Nothing is written. */
@@ -326,6 +328,62 @@ enum {
    of another length than QM_LEDGER each entry is refused by 9, and counted so. */
 qm_u32 qm_count(const qm_byte *log, qm_size length, qm_byte *store, qm_size store_length, qm_u32 *ledger, qm_size ledger_length,
                 qm_i64 *numbers, qm_size numbers_length, qm_u64 *report, qm_size report_length);
+
+/* The count that goes on: a log of any length in stretches, and a season of any number of logs on one map.
+
+   The map is three lent lists of numbers, `tiles`, `pits` and `sure`, as long as the host likes, with how many numbers each has: all 0 at first.
+   A pit is kept under its tile as one number, tile * 2^32 + pit; the numbers of each list rise.
+
+   A flight is qm_open, and then qm_count_on with `most` as large as the host likes, from place 0, and on from the place that it told, until it tells
+   QM_STOP_END. A season is flights one after another, each after its own qm_open, with one map: the sizes that were told go into the next call. A log that
+   grows is counted on from its end, once entries were appended, as if it had been whole. In whatever order flights are counted, and however often each, the
+   lines are the same. */
+
+/* The places of the numbers that qm_count_on writes. */
+enum {
+    QM_ON_STOP,                                     /* why it stopped: see below */
+    QM_ON_NUMBER,                                   /* the number of the refusal, or 0 */
+    QM_ON_PLACE,                                    /* where to go on */
+    QM_ON_ENTRIES,                                  /* entries taken: the sum of the next three and of the ten refusals */
+    QM_ON_KEPT,                                     /* how many were answered Kept */
+    QM_ON_REPEATED,                                 /* Repeat */
+    QM_ON_DELIVERED,                                /* Delivered */
+    QM_ON_LISTS,                                    /* how many PitLists were entered */
+    QM_ON_REFUSED,                                  /* ten numbers: refused by 0 (never), by 1, and so on to 9 */
+    QM_ON_TILES = QM_ON_REFUSED + QM_REFUSALS,      /* how many numbers `tiles` has now */
+    QM_ON_PITS,                                     /* `pits` */
+    QM_ON_SURE,                                     /* `sure` */
+    QM_STRETCH                                      /* 21 numbers */
+};
+
+/* Why a stretch stopped. */
+enum {
+    QM_STOP_TAKEN,      /* as many entries were taken as were asked for */
+    QM_STOP_END,        /* the log's end */
+    QM_STOP_LOG,        /* the log's own refusal, 40 to 43 or 45: place and all else are as before that entry */
+    QM_STOP_REFUSED     /* 13, 60 or 61 by what is lent: the place is behind that entry; its answer is counted, its list is not */
+};
+
+/* Takes at most `most` entries of a log of `length` bytes from `place` on (0: its head), within the log's limits, through the lent receiver; reads each
+   delivered payload that is a survey message to the start of `numbers`; and enters the tile and the marks of each accepted PitList in the map.
+
+   Answers 0 and writes the 21 numbers above to the start of `told`; what stands in `told` after them stays. The totals are of this stretch alone. Answers 13
+   where `told` has room for fewer, and then nothing at all was written. Sizes above what is lent count as what is lent.
+
+   60 comes where a list's tile is one more than `tiles` has words, 61 where a pit is one more than `pits` has, or a sure one than `sure`. The sizes told then
+   are those with what was entered by then: the tile and the first marks of that list; all that the map held it still holds. With a state or names of other
+   lengths than qm_lengths says, each entry is refused by 9, and counted so. Where no entry was taken nothing but `told` is written. */
+qm_u32 qm_count_on(const qm_byte *log, qm_size length, qm_size place, qm_u64 most, qm_u64 *state, qm_size state_length, qm_byte *names,
+                   qm_size names_length, qm_byte *store, qm_size store_length, qm_u32 *ledger, qm_size ledger_length, qm_i64 *numbers,
+                   qm_size numbers_length, qm_u64 *tiles, qm_size tiles_length, qm_u64 *pits, qm_size pits_length, qm_u64 *sure,
+                   qm_size sure_length, qm_size had_tiles, qm_size had_pits, qm_size had_sure, qm_u64 *told, qm_size told_length);
+
+/* The tile lines of a map: of each of its tiles, in rising number, the number, how many distinct pits it has, and how many of these are sure, at the start of
+   the three outputs `tile`, `pit` and `certain`; what stands there after them stays. Answers 0, or 13 where one of the three has fewer words than there are
+   tiles, and then nothing is written. Sizes above what is lent count as what is lent. */
+qm_u32 qm_count_lines(qm_u64 *tile, qm_size tile_length, qm_u64 *pit, qm_size pit_length, qm_u64 *certain, qm_size certain_length,
+                      const qm_u64 *tiles, qm_size tiles_length, const qm_u64 *pits, qm_size pits_length, const qm_u64 *sure,
+                      qm_size sure_length, qm_size had_tiles, qm_size had_pits, qm_size had_sure);
 
 #ifdef __cplusplus
 }

@@ -3,20 +3,6 @@
 
 #include "qm.h"
 
-int open(const char *path, int how, ...);
-long read(int file, void *to, unsigned long most);
-long pwrite(int file, const void *from, unsigned long length, long at);
-int ftruncate(int file, long length);
-int fdatasync(int file);
-int flock(int file, int how);
-int munmap(void *at, unsigned long length);
-void *signal(int number, void (*handler)(int));
-void *memmove(void *to, const void *from, unsigned long length);
-int *__errno_location(void);
-char *strerror(int number);
-
-enum { READ_WRITE = 2, CREATE = 0100, MODE = 0644, ALONE = 2, AT_ONCE = 4, INTERRUPTED = 4, TOO_LARGE_SIGNAL = 25 };
-
 /* A record: sender, tick, length, and the bytes. An entry has at most 30 bytes more than its datagram. */
 enum { HEAD = 8 + 8 + 2, MAX_DATAGRAM = 65535, MOST_MORE = 30 };
 
@@ -117,7 +103,8 @@ static int keep_all(struct keeper *k) {
         qm_size taken = put_records(k, length, &status);
         if (status != DONE || acknowledge(k) != DONE) return FAILED;
         length -= taken;
-        memmove(input, input + taken, length);
+        /* a record that comes a byte at a time is not moved at each byte */
+        if (taken > 0) memmove(input, input + taken, length);
         long came = read(0, input + length, sizeof input - length);
         if (came < 0 && *__errno_location() == INTERRUPTED) continue;
         if (came < 0) return failed("keep", "standard input");
@@ -132,14 +119,16 @@ static int keep_all(struct keeper *k) {
 
 int keep_command(const char *path, int synced) {
     struct keeper k = {.path = path, .synced = synced};
-    k.file = open(path, READ_WRITE | CREATE, MODE);
+    k.file = open(path, TO_READ_AND_WRITE | CREATED, FOR_ALL_TO_READ);
     if (k.file < 0) return failed("keep", path);
     if (flock(k.file, ALONE | AT_ONCE) != 0) {
         fprintf(stderr, "qm keep: %s: another program keeps it now\n", path);
         return FAILED;
     }
     /* a file over the system's limit is a failure to write like others */
-    signal(TOO_LARGE_SIGNAL, (void (*)(int)) 1);
+    signal(FILE_TOO_LARGE, PASSED_OVER);
+    /* a pipe then holds as much as one turn reads, so that one sync is for all records that wait; where standard input is no pipe, nothing happens */
+    fcntl(0, PIPE_SIZE, (int) sizeof input);
     int status = resume(&k);
     return status == DONE ? keep_all(&k) : status;
 }

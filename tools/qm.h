@@ -1,24 +1,37 @@
-/* What the commands of qm share: files in memory, a walk over a log's entries, messages, and the few functions of the C library that they use; the
-   toolchain ships the library without its headers. Programs are x86-64 Linux, and so are these numbers. */
+/* What the parts of qm share: its commands, files in memory, what is said, and a walk over a log's entries. */
 
 #ifndef QM_TOOL_H
 #define QM_TOOL_H
 
 #include "../include/quartzmitten.h"
-
-int printf(const char *format, ...);
-int fprintf(void *file, const char *format, ...);
-int fflush(void *file);
-int strcmp(const char *a, const char *b);
-extern void *stderr;
+#include "system.h"
 
 /* The status of the program. */
 enum {
     DONE = 0,
     FAILED = 1,    /* the system refused: a file, the output */
     USAGE = 2,     /* called otherwise than --help says */
-    REFUSED = 3    /* the log was refused, by the number printed */
+    REFUSED = 3    /* a log was refused: it is not whole, or what was asked for does not fit */
 };
+
+/* ---- how it is called */
+
+enum { LIST, REPLAY, GAPS, COUNT, STRAYS, INDEX, FIND, KEEP, COMMANDS };
+
+/* Options of its own and any number of logs: the command reads its words itself. */
+enum { ANY = -1 };
+
+struct command {
+    const char *name, *takes, *does, *option, *says;
+    int operands;
+};
+extern const struct command commands[COMMANDS];
+
+/* Writes how qm, or that command of it, is called; with DONE also what it does. Answers the status given. */
+int usage(FILE *to, int status);
+int command_usage(FILE *to, unsigned i, int status);
+
+/* ---- files */
 
 /* A file as it lies on disk, of any size. */
 struct mapped {
@@ -29,6 +42,8 @@ struct mapped {
 /* DONE and the file, or FAILED with the reason said. The second takes a file that is open. */
 int map_file(const char *command, const char *path, struct mapped *m);
 int map_open_file(const char *command, const char *path, int file, struct mapped *m);
+
+/* ---- what is said */
 
 /* DONE where all that was printed went out, or FAILED with the reason said. */
 int printed(const char *command);
@@ -68,14 +83,19 @@ int walk_end(struct walk *w);
 int working(const char *command, const char *path, qm_size length);
 void worked(int shown);
 
+/* Whether a text is a decimal number of at most `most`, and which. */
+int is_number(const char *text, qm_u64 most, qm_u64 *number);
+
 /* ---- the commands: each prints what it has to say and answers the status */
 
 int list_command(const char *path);
 int replay_command(const char *path, int large);
 int gaps_command(const char *path);
-int count_command(const char *path);
 int index_command(const char *path);
 int find_command(const char *path, qm_u64 sender, qm_u64 sequence);
 int keep_command(const char *path, int synced);
+/* these read the words of the command line themselves, and say which is wrong */
+int count_command(int words, char **word);
+int strays_command(int words, char **word);
 
 #endif

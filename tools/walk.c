@@ -2,12 +2,8 @@
 
 #include "qm.h"
 
-int isatty(int file);
-unsigned alarm(unsigned seconds);
-void *signal(int number, void (*handler)(int));
-
 /* A log of fewer bytes is read before anybody waits. */
-enum { LONG = 1 << 24, ALARM = 14 };
+enum { LONG = 1 << 24 };
 
 /* Told where standard error is a terminal and the lines go elsewhere. */
 static int is_told(qm_size length) {

@@ -4,9 +4,6 @@
 #include "../../include/quartzmitten.h"
 #include "../reference/reference.h"
 
-extern void *stdin;
-char *fgets(char *to, int room, void *file);
-
 enum { STORE = 8 * 16, LINE = 200000, FIRST_OTHER = 10 };
 
 static u64 state[QM_STATE];

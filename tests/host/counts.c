@@ -70,6 +70,24 @@ static void try_any(void) {
     try_count(store_length, ledger_length, room, chance(90) ? QM_REPORT + below(9) : ONE_OF(0, 1, QM_REPORT - 1));
 }
 
+/* Of two refusals the first: the log's own, then 62, before 13, 60 and 61, wherever those come. 13 of a message that is no list, at both sides of its room, and of
+   the list that has too many numbers before its tile. What is lent is as the calls left it. */
+static void orders(void) {
+    for (u64 room = 0; room < 4; room++) {
+        flight_ping();
+        try_count(1600, QM_LEDGER, room, QM_REPORT);
+    }
+    for (u64 i = 0; i < 24; i++) {
+        u64 entries = i % 3 == 0 ? 1 : i % 3 == 1 ? 257 : 5;
+        if (i % 3 == 0) flight_ping();
+        else if (i % 3 == 1) flight_tiles(257);
+        else flight_pits(8193);
+        flight_more(i / 3 % 2 ? 4097 - entries : 4096 - entries);
+        if (i >= 12) flight_damage();
+        try_count(800, QM_LEDGER, i / 6 % 2 ? 20000 : 1, QM_REPORT);
+    }
+}
+
 void counts(int times) {
     region_take(&lent_log, FLIGHT_ROOM);
     region_take(&lent_store, STORE_ROOM);
@@ -93,6 +111,7 @@ void counts(int times) {
         flight_pits(ONE_OF(8191, 8192, 8193, 8193, 9000));
         try_count(800, QM_LEDGER, 20000, QM_REPORT);
     }
+    orders();
     flight_world(below(40));
     try_count(QM_STORE, QM_LEDGER, QM_NUMBERS, QM_REPORT);
     static const int owed[] = {0, 13, 40, 41, 42, 43, 60, 61, 62};

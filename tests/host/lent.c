@@ -1,16 +1,12 @@
 #include "lent.h"
 
-void *mmap(void *at, unsigned long length, int allowed, int flags, int file, long offset);
-int mprotect(void *at, unsigned long length, int allowed);
-void exit(int code);
-
 /* 64 KiB is a whole number of pages on every machine that the toolchain runs on, emulated or not. */
-enum { GUARD = 65536, READ_WRITE = 3, NOTHING = 0, PRIVATE_ANONYMOUS = 0x22 };
+enum { GUARD = 65536 };
 
 void region_take(struct region *r, u64 room) {
     u64 inner = (room + 2 * CANARIES + 64 + GUARD - 1) / GUARD * GUARD;
-    u8 *base = mmap(0, inner + 2 * GUARD, READ_WRITE, PRIVATE_ANONYMOUS, -1, 0);
-    if (base == (u8 *) -1 || mprotect(base, GUARD, NOTHING) != 0 || mprotect(base + GUARD + inner, GUARD, NOTHING) != 0) {
+    u8 *base = mmap(0, inner + 2 * GUARD, MAY_READ_AND_WRITE, OF_NO_FILE, -1, 0);
+    if (base == (u8 *) -1 || mprotect(base, GUARD, MAY_NOTHING) != 0 || mprotect(base + GUARD + inner, GUARD, MAY_NOTHING) != 0) {
         printf("host: no memory for the test\n");
         exit(2);
     }

@@ -6,10 +6,6 @@
 #include "lent.h"
 #include "tests.h"
 
-void (*signal(int number, void (*handler)(int)))(int);
-void _exit(int code);
-int fflush(void *stream);
-
 u64 passed, failed;
 const char *doing = "nothing";
 
@@ -574,8 +570,8 @@ static void flights(int times) {
 
 int main(void) {
     random_state = 20260101;
-    signal(11, on_fault);
-    signal(7, on_fault);
+    signal(NO_SUCH_MEMORY, on_fault);
+    signal(BUS_ERROR, on_fault);
     region_take(&summed, 16843200);
     region_take(&lent_datagram, sizeof datagram);
     region_take(&lent_fields, FIELDS_ROOM * 4);

@@ -2,8 +2,6 @@
 
 #include "../reference/reference.h"
 
-long read(int from, void *to, unsigned long n);
-
 static u8 log_bytes[4194305];
 static struct ref_row rows[INDEXED];
 

@@ -157,6 +157,21 @@ void flight_entries(u64 entries) {
     for (u64 i = 0; i < entries; i++) append(i % 3, (const u8 *) "LC02\0\0\0\7P\0A", below(12));
 }
 
+void flight_ping(void) {
+    static const i64 ping[2] = {1, 1};
+    u8 d[64];
+    u64 length = 0;
+    u32 datagrams, written;
+    begin();
+    ref_write_message(ping, 2, 1, message, &length);
+    ref_cut((const u8 *) "TILE", 4, message, length, 7, 96, 0, d, sizeof d, &datagrams, &written);
+    append(7, d, written);
+}
+
+void flight_more(u64 entries) {
+    for (u64 i = 0; i < entries; i++) append(9, (const u8 *) "LC02\0\0\0\7P\0A", 11);
+}
+
 void flight_damage(void) {
     switch (below(5)) {
     case 0: flight_length = below(flight_length + 1); break;

@@ -4,16 +4,12 @@
 #ifndef REFERENCE_H
 #define REFERENCE_H
 
+#include "../../tools/system.h"
+
 typedef unsigned char u8;
 typedef unsigned int u32;
 typedef unsigned long long u64;
 typedef long long i64;
-
-/* The few functions of the C library that the tests use; the toolchain ships the library without its headers. */
-int printf(const char *format, ...);
-void *memcpy(void *to, const void *from, unsigned long n);
-void *memset(void *to, int byte, unsigned long n);
-int memcmp(const void *a, const void *b, unsigned long n);
 
 enum {
     MAX_DATAGRAM = 65535,
@@ -211,5 +207,9 @@ void flight_pits(u64 pits);
 void flight_entries(u64 entries);
 /* Cuts or damages the log that was made. */
 void flight_damage(void);
+/* Of one message that is no list: a Ping, of two numbers. */
+void flight_ping(void);
+/* More entries behind those that there are. */
+void flight_more(u64 entries);
 
 #endif

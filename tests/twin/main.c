@@ -3,10 +3,6 @@
 
 #include "twin.h"
 
-void *malloc(unsigned long n);
-void free(void *p);
-unsigned long fread(void *to, unsigned long size, unsigned long n, void *file);
-
 u64 met[KINDS];
 
 /* The streams of a program come first, then the paper's cases. */

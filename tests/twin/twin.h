@@ -5,16 +5,6 @@
 
 #include "../reference/random.h"
 
-/* The C library's, declared here since the toolchain ships no headers. */
-void *fopen(const char *path, const char *how);
-int fclose(void *file);
-unsigned long fwrite(const void *from, unsigned long size, unsigned long n, void *file);
-int fprintf(void *file, const char *format, ...);
-int sprintf(char *to, const char *format, ...);
-int strcmp(const char *a, const char *b);
-unsigned long strlen(const char *s);
-_Noreturn void exit(int code);
-
 /* Where a stream goes: the program's input, and what it must write. */
 struct stream {
     void *in, *expected;

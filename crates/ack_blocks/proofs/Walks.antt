@@ -10,7 +10,7 @@ use borrow.Author.Tests.{eq-eqb, ne-eqb, lt-ltb, le-ltb}
 use Rattle.ack_blocks.specs.Limits.{maxBlocks}
 use Rattle.ack_blocks.specs.Blocks.{Block, has, acknowledges}
 use Rattle.ack_blocks.specs.Read.{Given, gives, refuses, sizeIn, blockIn, faultIn, before, firstThen, blocksWithin, blocksIn, told, asked}
-use Rattle.ack_blocks.specs.Walk.{also}
+use Rattle.ack_blocks.specs.InsideWalk.{also}
 use Rattle.ack_blocks.proofs.Cases.{size-some}
 
 -- any number of turns that is enough gives the same

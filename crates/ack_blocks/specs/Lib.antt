@@ -1,4 +1,4 @@
 pub mod Limits
 pub mod Blocks
 pub mod Read
-pub mod Walk
+pub mod InsideWalk

@@ -7,7 +7,7 @@ ghost use Rattle.wire.specs.Bytes.{be};
 ghost use Rattle.ack_blocks.specs.Limits.{maxBlocks};
 ghost use Rattle.ack_blocks.specs.Blocks.{has, between, inMap};
 ghost use Rattle.ack_blocks.specs.Read.{kindIn, bitsIn, mapBytes, mapIn, sizeIn, blockIn, runFault, mapFault, faultIn, blocksIn, told, asked, answers};
-ghost use Rattle.ack_blocks.specs.Walk.{Inside};
+ghost use Rattle.ack_blocks.specs.InsideWalk.{Inside};
 
 // The most bytes of a block list, and the largest number.
 pub const MAX_BLOCKS: usize = 65535;

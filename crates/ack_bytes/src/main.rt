@@ -1,7 +1,7 @@
 // Acknowledge blocks of lists of numbers. Standard input holds records, each after a 4-byte big-endian length: 8-byte big-endian numbers; a line
 // gives the bytes of the blocks of each list, or its refusal, or says that the list is longer than the program holds.
 ghost use mathlib.Core.Path.{_≡_};
-ghost use mathlib.Core.List.{[], _∷_, _++_};
+ghost use mathlib.Core.List.{_++_};
 ghost use Prim.Native.Nat.{_/_, _≤_};
 ghost use lib.ListN.{length, take};
 ghost use lib.Seq.{sets};

@@ -12,7 +12,7 @@ use Rattle.ack_blocks.specs.Limits.{maxBlocks}
 use Rattle.ack_blocks.specs.Blocks.{blockBytes}
 use Rattle.ack_blocks.specs.Read.{Given, gives, refuses}
 use Rattle.ack_writer.specs.Write.{rising, oneBlock, bytesOf, roomFor, writtenOf, writes, outputOf, WritesBlocks}
-use Rattle.ack_writer.specs.Walk.{RunFrom, PutNext, Lays}
+use Rattle.ack_writer.specs.InsideWalk.{RunFrom, PutNext, Lays}
 use Rattle.ack_writer.specs.declared.Written.{Written}
 use Rattle.ack_writer.specs.declared.Written.the-variants as written
 use Rattle.ack_writer.proofs.Runs.{length-turn, put-turn, bytes-end, room-long, written-not, written-rising, written-makes}

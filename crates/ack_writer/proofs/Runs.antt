@@ -16,7 +16,7 @@ use Rattle.ack_blocks.specs.Limits.{maxBlocks}
 use Rattle.ack_blocks.specs.Blocks.{Block, blockBytes, laid}
 use Rattle.ack_blocks.specs.Read.{gives, refuses}
 use Rattle.ack_writer.specs.Write.{rising, risingFrom, oneBlock, blocksFrom, blocksOf, bytesOf, roomFor, writtenOf}
-use Rattle.ack_writer.specs.Walk.{RunFrom}
+use Rattle.ack_writer.specs.InsideWalk.{RunFrom}
 
 pub list-at : (l : List ℕ) (i : ℕ) → i < length l → drop i l ≡ getD l i 0 ∷ drop (i + 1) l
 list-at l i h = rw (add-one, drop-cons l i 0)

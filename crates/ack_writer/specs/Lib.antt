@@ -1,2 +1,2 @@
 pub mod Write
-pub mod Walk
+pub mod InsideWalk

@@ -7,7 +7,7 @@ ghost use Rattle.wire.specs.Overlay.{overlay};
 ghost use Rattle.ack_blocks.specs.Limits.{maxBlocks};
 ghost use Rattle.ack_blocks.specs.Blocks.{blockBytes};
 ghost use Rattle.ack_writer.specs.Write.{oneBlock, roomFor, writes, WritesBlocks};
-ghost use Rattle.ack_writer.specs.Walk.{RunFrom, PutNext, Lays};
+ghost use Rattle.ack_writer.specs.InsideWalk.{RunFrom, PutNext, Lays};
 
 // How many bytes were written.
 pub enum Written {

@@ -2,7 +2,7 @@
 // a line says whether the blocks acknowledge the number, or why they are refused.
 ghost use Prim.Native.Nat.{_≤_};
 ghost use lib.ListN.{length};
-ghost use mathlib.Core.List.{[], _∷_, _++_};
+ghost use mathlib.Core.List.{_++_};
 ghost use Rattle.wire.specs.Text.{ascii};
 ghost use Rattle.ack_blocks.specs.Read.{answers};
 ghost use Rattle.output.specs.Output.{Pours, lineLimit};

@@ -6,20 +6,20 @@ use mathlib.Core.List.{List}
 use Prim.Native.Nat.{ℕ, suc, _+_, _*_, _≤_, _<_, suc-le-suc}
 use native.Mathlib.Nat.{le-trans, le-of-eq}
 use native.Mathlib.Omega.{arith}
-use lib.ListN.{length, getD, set, length-set}
+use lib.ListN.{length, set, length-set}
 use lib.Seq.{getD-set-other}
 use Rattle.wire.proofs.Choices.{either, never}
 use Rattle.datagram.specs.Limits.{maxFragments}
 use Rattle.datagram.specs.Said.{Fragment}
 use Rattle.datagram.proofs.Saids.{Formed}
 use Rattle.steps.specs.declared.Emptied.{Emptied}
-use Rattle.steps.specs.Limits.{slotCount, slotSizeOf}
+use Rattle.steps.specs.Limits.{slotCount}
 use Rattle.steps.specs.Slots.{Slot, busy, noSlot, slotAt, openCount, oldest, release, filled, allHeld, Seat, seat}
-use Rattle.steps.specs.Receive.{Machine, After, placeOf, offsetOf, lengthOf, storeWith, ledgerWith, step5}
+use Rattle.steps.specs.Receive.{Machine, After, placeOf, storeWith, ledgerWith, step5}
 use Rattle.steps.proofs.Seats.{unturned, look, busyAt, turnAt, oldest-low, left-busy, Seated, free, full, seated}
 use Rattle.steps.proofs.Stores.{write-out, part-apart, row-apart, offset-other, length-other}
 use Rattle.steps.proofs.Branches.{step5-delivered, step5-kept}
-use Rattle.steps.proofs.Ranks.{Ranks, Shrunk, shrunk-none, shrunk-release, fill-alike, ranks-fill, oldest-inside}
+use Rattle.steps.proofs.Ranks.{Ranks, Shrunk, shrunk-release, fill-alike, ranks-fill, oldest-inside}
 use Rattle.arrival.specs.Demand.{Message}
 use Rattle.arrival.proofs.Joining.{Holds, holds-busy, holds-move}
 use Rattle.arrival.proofs.Newer.{newer, newer-shrunk, newer-filled, newer-opened, oldest-newer}

@@ -1,7 +1,7 @@
 -- DEMAND 3, proved.
 use mathlib.Core.Path.{_≡_, refl, sym, ap, _∙_, subst}
-use mathlib.Core.Logic.{_⊎_, inl, inr}
-use mathlib.Core.Bool.{Bool, true, false}
+use mathlib.Core.Logic.{inl, inr}
+use mathlib.Core.Bool.{Bool, true}
 use mathlib.Core.Option.{Option, none, some, Option·map}
 use mathlib.Core.List.{List, [], _∷_, map}
 use Prim.Native.Nat.{ℕ, _+_, _<_}
@@ -14,7 +14,7 @@ use Rattle.steps.specs.Memory.{sameKey, rememberAll}
 use Rattle.steps.specs.Slots.{busy, slotAt}
 use Rattle.steps.proofs.Tables.{all-of}
 use Rattle.steps.proofs.Memories.{key-same}
-use Rattle.arrival.specs.Demand.{Scene, Feed, start, _▹_, Event, parts, size, message, key, Supposed, got, done, completes, completed, keysOf, call, after, delivery, Delivery, own, deliveries, timesOf, push, inOrderOfCompletion, AtCompletion, NoneEmptied, Promised, Demand3}
+use Rattle.arrival.specs.Demand.{Scene, Feed, start, _▹_, Event, parts, size, message, key, Supposed, got, done, completes, completed, keysOf, call, after, delivery, Delivery, own, deliveries, timesOf, push, inOrderOfCompletion, AtCompletion, NoneEmptied, Promised, Demand3, AllAnswered}
 use Rattle.arrival.proofs.Track.{Lawful, Fair, fair-of, times, other-key, done-once, ended-dead}
 use Rattle.arrival.proofs.Order.{Inv, Fine, arrival-fine, invariant}
 use Rattle.arrival.proofs.Whole.{Apart, Tidy, whole-tidy, completed-apart}
@@ -31,6 +31,12 @@ module _ (σ : Scene) (law : Lawful σ) where
   pub none-emptied : (f : Feed) → Fair σ f → NoneEmptied σ f
   none-emptied start fair = tt
   none-emptied (f ▹ e) fair = (none-emptied f (fair .0), fine f (fair .0) e fair .spared)
+
+  pub all-answered : (f : Feed) → Fair σ f → AllAnswered σ f
+  all-answered start fair = tt
+  all-answered (f ▹ e) fair =
+      let a = fine f (fair .0) e fair in
+      (all-answered f (fair .0), λ j. record { answer = a .answers j; emptied = a .spared j })
 
   push-map : (o : Option ℕ) (l : List ℕ) → push (Option·map (own σ) o) (map (own σ) l) ≡ map (own σ) (push o l)
   push-map none l = refl
@@ -86,3 +92,9 @@ demand3 σ f s =
     promised σ (record { distinct = s .distinct; sent = s .sent; ledger-fits = s .ledger-fits }) f
     (fair-of σ f (s .mixture) (s .never-over-eight) (s .few-senders) (s .never-too-late))
     (λ i b. all-of (parts (message σ i)) (got f i) (λ k c. s .each-comes i k b c))
+
+-- WHAT EACH ARRIVAL IS ANSWERED, under the same premises
+pub each-answered : (σ : Scene) (f : Feed) → Supposed σ f → AllAnswered σ f
+each-answered σ f s =
+    all-answered σ (record { distinct = s .distinct; sent = s .sent; ledger-fits = s .ledger-fits }) f
+    (fair-of σ f (s .mixture) (s .never-over-eight) (s .few-senders) (s .never-too-late))

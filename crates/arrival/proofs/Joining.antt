@@ -1,14 +1,14 @@
 -- One message and the slot that it is joined in. Nothing here supposes anything of the other slots or of what else arrives.
 use mathlib.Core.Path.{_≡_, refl, sym, ap, _∙_, subst}
-use mathlib.Core.Logic.{_≢_, _⊎_, inl, inr}
+use mathlib.Core.Logic.{_≢_, inl, inr}
 use mathlib.Core.Bool.{Bool, true, false, not, _&&_, _||_}
-use mathlib.Core.List.{List, [], _++_}
-use Prim.Native.Nat.{ℕ, zero, suc, _+_, _*_, _≤_, _<_, zero-le}
+use mathlib.Core.List.{List}
+use Prim.Native.Nat.{ℕ, suc, _+_, _*_, _≤_, _<_}
 use native.Mathlib.Nat.{add-assoc}
 use native.Mathlib.Omega.{arith}
 use native.Mathlib.Decide.{decLe, ℕ-discrete}
-use lib.Dec.{eqb, leb, ltb}
-use lib.ListN.{length, getD, set, take, drop, length-drop}
+use lib.Dec.{eqb}
+use lib.ListN.{length, getD, take, drop, length-drop}
 use lib.Seq.{ext-getD, getD-take, getD-drop, length-take-le}
 use borrow.Author.Tests.{eq-eqb, ne-eqb, lt-ltb, le-ltb, le-leb}
 use Rattle.wire.specs.Choice.{pick}
@@ -17,10 +17,8 @@ use Rattle.wire.proofs.Choices.{either, never, and-of}
 use Rattle.wire.proofs.Parts.{same-refl}
 use Rattle.datagram.specs.Limits.{maxFragments}
 use Rattle.datagram.specs.Said.{Fragment}
-use Rattle.steps.specs.declared.Key.{Key}
 use Rattle.steps.specs.Limits.{slotCount, ledgerLength}
-use Rattle.steps.specs.Search.{allBelow}
-use Rattle.steps.specs.Held.{heldWords, isHeld, hold, noneHeld}
+use Rattle.steps.specs.Held.{heldWords, isHeld, hold}
 use Rattle.steps.specs.Slots.{Slot, busy, padded, opening, filled}
 use Rattle.steps.specs.Receive.{row, offsetOf, lengthOf, placeOf, storeWith, ledgerWith, sameMessage, sameFragment, inOrder, agrees, agreesWithAll, step3, again, join}
 use Rattle.steps.proofs.Tables.{or-not, or-yes, all-of}

@@ -7,6 +7,7 @@ pub mod Track
 pub mod Order
 pub mod Whole
 pub mod Demand3
+pub mod Takings
 pub mod Runs
 pub mod Ours
 pub mod Tests
@@ -14,4 +15,5 @@ pub mod Newer
 pub mod Beside
 pub mod Watched
 pub mod Strangers
+pub mod Anew
 pub mod StrangersRuns

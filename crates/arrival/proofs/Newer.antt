@@ -1,5 +1,5 @@
 -- How many open slots were opened after a given one: by that number the promise with strangers about counts.
-use mathlib.Core.Path.{_≡_, refl, sym, ap, _∙_, subst, subst₂}
+use mathlib.Core.Path.{_≡_, refl, sym, ap, _∙_, subst}
 use mathlib.Core.Logic.{_≢_, inl, inr}
 use mathlib.Core.Bool.{Bool, true, false, _&&_}
 use mathlib.Core.List.{List}
@@ -11,7 +11,7 @@ use lib.Dec.{ltb}
 use lib.ListN.{length, set}
 use lib.Seq.{getD-set-other}
 use borrow.Author.Tests.{lt-ltb, le-ltb, ltb-true}
-use Rattle.wire.proofs.Choices.{either, never, and-l, and-r, and-of, and-false}
+use Rattle.wire.proofs.Choices.{either, never, and-l, and-r, and-of}
 use Rattle.datagram.specs.Said.{Fragment}
 use Rattle.steps.specs.Limits.{slotCount}
 use Rattle.steps.specs.Search.{count}

@@ -1,19 +1,19 @@
 -- The invariant between the receiver and the feed, and that every arrival keeps it and is answered as demanded.
 use mathlib.Core.Path.{_≡_, refl, sym, ap, _∙_, subst}
-use mathlib.Core.Logic.{_≢_, _⊎_, inl, inr}
-use mathlib.Core.Bool.{Bool, true, false, not, _&&_, _||_}
+use mathlib.Core.Logic.{inl, inr}
+use mathlib.Core.Bool.{Bool, true, false, not, _&&_}
 use mathlib.Core.Option.{Option, none, some, Option·map}
-use mathlib.Core.List.{List, [], _∷_, _++_, map}
-use Prim.Native.Nat.{ℕ, zero, suc, _+_, _-_, _*_, _≤_, _<_, zero-le, suc-le-suc}
+use mathlib.Core.List.{List, [], _∷_, _++_, append-nil}
+use Prim.Native.Nat.{ℕ, zero, suc, _+_, _-_, _*_, _≤_, _<_}
 use native.Mathlib.Nat.{suc-inj}
 use native.Mathlib.Omega.{arith}
 use native.Mathlib.Decide.{ℕ-discrete}
-use lib.Dec.{eqb, leb}
-use lib.ListN.{length, getD, set, take, drop, replicate, length-replicate, getD-replicate}
+use lib.Dec.{eqb}
+use lib.ListN.{length, set, take, drop, replicate, length-replicate, getD-replicate}
 use lib.Seq.{take-length, take-append-seam}
 use borrow.Author.Tests.{eq-eqb, le-leb}
 use Rattle.wire.specs.Choice.{pick}
-use Rattle.wire.proofs.Choices.{either, never}
+use Rattle.wire.proofs.Choices.{either, never, and-five}
 use Rattle.datagram.specs.Limits.{maxFragments, maxName, maxPayload}
 use Rattle.names.specs.Name.{goodName}
 use Rattle.datagram.specs.Name.{untilZero}
@@ -25,24 +25,25 @@ use Rattle.steps.specs.declared.Emptied.the-variants.{Nobody}
 use Rattle.steps.specs.declared.Answer.the-variants.{Refused, Repeat}
 use Rattle.steps.specs.Limits.{slotCount, ledgerLength, slotSizeOf}
 use Rattle.steps.specs.Search.{allBelow, count}
-use Rattle.steps.specs.Memory.{keyOf, Memory, isRemembered, remember, rememberAll, memoryOk, Lately, among}
+use Rattle.steps.specs.Memory.{keyOf, Memory, isRemembered, remember, rememberAll, memoryOk}
 use Rattle.steps.specs.Slots.{Slot, busy, noSlot, slotAt, padded, findOpen, findFree, opening}
 use Rattle.steps.specs.Receive.{Machine, After, opened, stay, step3, step5, act, deliveredSmall, receive, slotOk, sound, step, sequenceOf}
-use Rattle.steps.specs.Answers.{emptiedKey}
+use Rattle.steps.specs.Answers.{refusedBy, kept, repeat, delivered, reply, emptiedKey}
 use Rattle.steps.specs.Runs.{World, worldOf, fresh, keyIn, run}
 use Rattle.steps.proofs.Running.{left-more}
-use Rattle.steps.proofs.Tables.{all-of, count-flip, count-none, count-all}
-use Rattle.steps.proofs.Memories.{recalled, strange, memory-ok}
+use Rattle.steps.proofs.Tables.{all-at, all-of, count-flip, count-none, count-all}
+use Rattle.steps.proofs.Memories.{strange, memory-ok}
+use Rattle.steps.proofs.Latest.{recalled}
 use Rattle.steps.proofs.Seats.{busyAt, look, Found, open-found, open-none, free-found, free-none, Changed, set-changed, set-here}
 use Rattle.steps.proofs.Stores.{part-fits}
 use Rattle.steps.proofs.Branches.{step-sound, receive-refused, small-again, small-whole, fragment-again, fragment-free, fragment-open}
-use Rattle.arrival.specs.Demand.{Message, SentSmall, SentCut, Scene, key, parts, datagram, size, message, slotBytes, Event, part, noise, Feed, start, _▹_, bytesOf, arrival, arrivals, call, after, got, begun, done, completes, completed, keysOf, unfinished, handed, nameIn, own}
+use Rattle.arrival.specs.Demand.{Message, SentSmall, SentCut, Scene, key, parts, datagram, size, message, slotBytes, Event, part, noise, Feed, start, _▹_, bytesOf, arrival, arrivals, call, after, got, begun, done, completes, completed, keysOf, unfinished, handed, nameIn, own, numberOf, answerTo}
 use Rattle.arrival.proofs.Within.{small-within}
 use Rattle.arrival.proofs.Pieces.{piece, Cut, cut-of, payload-fits, few-parts}
 use Rattle.arrival.proofs.Joining.{Holds, holds-open, arrives-again, arrives-new}
 use Rattle.arrival.proofs.Sitting.{Owner, Placed, Slots, slots-same, owner-holds}
 use Rattle.arrival.proofs.Storing.{storedOut, stored-slots, stored-is, stored-bytes}
-use Rattle.arrival.proofs.Track.{Lawful, MayArrive, Arrives, Fair, got-own, got-other, got-again, begun-own, begun-other, not-begun, done-other, done-stays, done-again, live-other, completes-yes, completes-not, completes-past, completed-none, completed-some, done-keys, ended-dead}
+use Rattle.arrival.proofs.Track.{Lawful, MayArrive, Arrives, Fair, got-own, got-other, got-again, begun-other, not-begun, done-stays, done-again, live-other, completes-yes, completes-not, completes-past, completed-none, completed-some, done-keys, ended-dead}
 
 -- The invariant: the slots are those of the unfinished messages, and the memory is that of the completed ones.
 pub record Inv (σ : Scene) (f : Feed) (w : World) : Type 0 where
@@ -55,6 +56,7 @@ pub record Inv (σ : Scene) (f : Feed) (w : World) : Type 0 where
 pub record Fine (σ : Scene) (f : Feed) (e : Event) (a : After) : Type 0 where
   pub inv : Inv σ (f ▹ e) (worldOf a)
   pub hands : handed (keyIn (slotBytes σ) (arrival σ e)) (bytesOf σ e) a ≡ Option·map (own σ) (completes σ f e)
+  pub answers : reply (bytesOf σ e) (a .store) (a .answer) ≡ answerTo σ f e
   pub spared : emptiedKey (a .emptied) ≡ none
 
 -- ---- a name in 63 bytes is read back
@@ -71,10 +73,6 @@ until-own (x ∷ xs) e = go (eqb x 0) (λ q. until-own xs q) e
 
 until-padded : (nm : List ℕ) → goodName nm ≡ true → (n : ℕ) → untilZero (nm ++ replicate n 0) ≡ length nm
 until-padded nm g zero = ap untilZero (append-nil nm) ∙ until-own nm (name-no-zero nm [] g)
-  where
-    append-nil : (l : List ℕ) → l ++ [] ≡ l
-    append-nil [] = refl
-    append-nil (x ∷ xs) = ap (λ (t : List ℕ). x ∷ t) (append-nil xs)
 until-padded nm g (suc n) = name-no-zero nm (replicate n 0) g
 
 pub name-back : (nm : List ℕ) → goodName nm ≡ true → nameIn (padded nm) ≡ nm
@@ -104,14 +102,11 @@ sound-ok σ f w v =
     all-of slotCount (λ s. slotOk (m .slotSize) (slotAt (m .slots) s))
     (λ s b. subst (λ (n : ℕ). slotOk n (slotAt (m .slots) s) ≡ true) (sym (v .sized)) (slot-ok (v .slots) s b)) in
     let mem : memoryOk (m .memory) ≡ true = rw (v .memory) (memory-ok (keysOf σ (completed σ f))) in
-    and5 _ _ _ _ _
+    and-five _ _ _ _ _
     (eq-eqb (length (w .store)) (m .storeLength) (v .slots .store-length ∙ sym (v .long)))
     (eq-eqb (length (w .ledger)) ledgerLength (v .slots .ledger-length))
     (eq-eqb (m .slotSize) (slotSizeOf (length (w .store))) (v .sized ∙ ap slotSizeOf (sym (v .slots .store-length))))
     all mem
-  where
-    and5 : (a b c d e : Bool) → a ≡ true → b ≡ true → c ≡ true → d ≡ true → e ≡ true → (a && (b && (c && (d && e)))) ≡ true
-    and5 a b c d e p q r s t = rw (p, q, r, s, t)
 
 step-is : (σ : Scene) (f : Feed) (w : World) → Inv σ f w → (from : ℕ) (d : List ℕ)
     → step (w .machine) (w .store) (w .ledger) from d ≡ receive (w .machine) (w .store) (w .ledger) from (said (slotBytes σ) maxFragments d)
@@ -121,10 +116,10 @@ step-is σ f w v from d =
 
 -- ---- a datagram that is refused for form
 
-noise-fine : (σ : Scene) (f : Feed) (w : World) → Inv σ f w → (from : ℕ) (d : List ℕ) (n : ℕ)
+noise-fine : (σ : Scene) (f : Feed) (w : World) → Inv σ f w → (from : ℕ) (d : List ℕ) (n : ℕ) → said (slotBytes σ) maxFragments d ≡ refused n
     → Fine σ f (noise from d) (stay (w .machine) (w .store) (w .ledger) (Refused n))
 unfolding stay completes completed unfinished done
-noise-fine σ f w v from d n = record {
+noise-fine σ f w v from d n e = record {
   inv = record {
     slots = slots-same (unfinished σ (f ▹ noise from d) (f ▹ noise from d)) (got (f ▹ noise from d)) (v .slots) (λ i b. refl) (λ i b l k c. refl);
     long = v .long;
@@ -132,6 +127,7 @@ noise-fine σ f w v from d n = record {
     memory = v .memory;
   };
   hands = refl;
+  answers = ap (λ (r : Said). refusedBy (numberOf r)) (sym e);
   spared = refl;
 }
 
@@ -139,7 +135,7 @@ noise-out : (σ : Scene) (f : Feed) (w : World) → Inv σ f w → (from : ℕ) 
     → Fine σ f (noise from d) (call σ w (noise from d))
 noise-out σ f w v from d n e = subst (λ (a : After). Fine σ f (noise from d) a)
     (sym (step-is σ f w v from d ∙ ap (receive (w .machine) (w .store) (w .ledger) from) e ∙ receive-refused (w .machine) (w .store) (w .ledger) from n))
-    (noise-fine σ f w v from d n)
+    (noise-fine σ f w v from d n e)
 
 -- ---- which slot
 
@@ -201,11 +197,23 @@ module _ (σ : Scene) (law : Lawful σ) (f : Feed) (fair : Fair σ f) (w : World
   memory-same : completes σ f (part i k) ≡ none → mach .memory ≡ rememberAll (keysOf σ (completed σ g))
   memory-same e = v .memory ∙ ap (λ (x : List ℕ). rememberAll (keysOf σ x)) (sym (completed-none σ law f (part i k) e))
 
+  done-got : done σ f i ≡ true → got f i k ≡ true
+  unfolding done
+  done-got e = all-at (parts m) (got f i) e k (c .exists)
+
+  -- what is answered
+  again-answer : got f i k ≡ true → answerTo σ f (part i k) ≡ repeat
+  again-answer e = ap (λ (b : Bool). pick b repeat (pick (done σ g i) (delivered (m .payload)) kept)) e
+
+  new-answer : got f i k ≡ false → (b : Bool) → done σ g i ≡ b → answerTo σ f (part i k) ≡ pick b (delivered (m .payload)) kept
+  new-answer e b q =
+      ap (λ (c : Bool). pick c repeat (pick (done σ g i) (delivered (m .payload)) kept)) e ∙ ap (λ (c : Bool). pick c (delivered (m .payload)) kept) q
+
   -- nothing moves
-  unmoved : completes σ f (part i k) ≡ none → unfinished σ g g i ≡ unfinished σ f f i
+  unmoved : got f i k ≡ true → completes σ f (part i k) ≡ none → unfinished σ g g i ≡ unfinished σ f f i
       → (unfinished σ f f i ≡ true → (j : ℕ) → got g i j ≡ got f i j) → Fine σ f (part i k) (stay mach (w .store) (w .ledger) Repeat)
   unfolding stay
-  unmoved e l h = record {
+  unmoved came e l h = record {
     inv = record {
       slots = slots-same (unfinished σ g g) (got g) (v .slots)
           (λ a b. elim (ℕ-discrete a i) [ yes q ↦ rw q l | no q ↦ live-other σ f i k a q ])
@@ -215,12 +223,13 @@ module _ (σ : Scene) (law : Lawful σ) (f : Feed) (fair : Fair σ f) (w : World
       memory = memory-same e;
     };
     hands = ap (Option·map (own σ)) (sym e);
+    answers = sym (again-answer came);
     spared = refl;
   }
 
   -- its message was delivered before
   past-fine : done σ f i ≡ true → Fine σ f (part i k) (stay mach (w .store) (w .ledger) Repeat)
-  past-fine e = unmoved (completes-past σ f i k e) (ended-dead σ g i (done-stays σ f i k e) ∙ sym (ended-dead σ f i e)) (λ l. never l (ended-dead σ f i e))
+  past-fine e = unmoved (done-got e) (completes-past σ f i k e) (ended-dead σ g i (done-stays σ f i k e) ∙ sym (ended-dead σ f i e)) (λ l. never l (ended-dead σ f i e))
 
   -- ---- sent small
 
@@ -245,6 +254,13 @@ module _ (σ : Scene) (law : Lawful σ) (f : Feed) (fair : Fair σ f) (w : World
     small-bytes : take (length (m .payload)) (drop (9 + length (m .name)) (datagram m k)) ≡ m .payload
     small-bytes = ap (take (length (m .payload))) (read .stands) ∙ take-length (m .payload)
 
+    small-new : done σ f i ≡ false → got f i k ≡ false
+    unfolding done
+    small-new e = elim (either (got f i k)) [
+      | inl q ↦ never (all-of (parts m) (got f i) (λ j b. let z : k ≡ j = omega (arith, b, sent .single, k-zero) in subst (λ (x : ℕ). got f i x ≡ true) z q)) e
+      | inr q ↦ q
+    ]
+
     small-fine : done σ f i ≡ false → Fine σ f (part i k) (deliveredSmall mach (w .store) (w .ledger) (key m) (m .name) (length (m .payload)))
     small-fine e = record {
       inv = record {
@@ -256,6 +272,7 @@ module _ (σ : Scene) (law : Lawful σ) (f : Feed) (fair : Fair σ f) (w : World
         memory = memory-more (completes-yes σ f i k e small-done);
       };
       hands = cc (completes-yes σ f i k e small-done, ap sequenceOf small-said, small-bytes, name-back (m .name) (read .named));
+      answers = ap delivered small-bytes ∙ sym (new-answer (small-new e) true small-done);
       spared = refl;
     }
 
@@ -301,10 +318,10 @@ module _ (σ : Scene) (law : Lawful σ) (f : Feed) (fair : Fair σ f) (w : World
         (was-key : busy (look (mach .slots) s) ≡ true → look (mach .slots) s .key ≡ key m)
         (slots₁ : List Slot) (ch : Changed s (mach .slots) slots₁)
         (h₁ : Holds (slotBytes σ) m s (got f i) (look slots₁ s) (w .store) (w .ledger)) where
-      stored-fine : done σ f i ≡ false → (b : Bool) → done σ g i ≡ b
+      stored-fine : got f i k ≡ false → done σ f i ≡ false → (b : Bool) → done σ g i ≡ b
           → Fine σ f (part i k) (storedOut (law .distinct) (v .slots) i s k (c .known) inside (c .exists) was was-key slots₁ ch h₁ (live-other σ f i k) (got-other f i k) (got-own f i k) live-now mach Nobody b)
       unfolding done
-      stored-fine e true q = record {
+      stored-fine new e true q = record {
         inv = record {
           slots = stored-slots (law .distinct) (v .slots) i s k (c .known) inside (c .exists) was was-key slots₁ ch h₁ (live-other σ f i k) (got-other f i k) (got-own f i k) live-now true q;
           long = v .long;
@@ -312,9 +329,10 @@ module _ (σ : Scene) (law : Lawful σ) (f : Feed) (fair : Fair σ f) (w : World
           memory = memory-more (completes-yes σ f i k e q);
         };
         hands = cc (completes-yes σ f i k e q, key-here, name-back (m .name) good-name, stored-bytes (law .distinct) (v .slots) i s k (c .known) inside (c .exists) was was-key slots₁ ch h₁ (live-other σ f i k) (got-other f i k) (got-own f i k) live-now q);
+        answers = ap delivered (stored-bytes (law .distinct) (v .slots) i s k (c .known) inside (c .exists) was was-key slots₁ ch h₁ (live-other σ f i k) (got-other f i k) (got-own f i k) live-now q) ∙ sym (new-answer new true q);
         spared = refl;
       }
-      stored-fine e false q = record {
+      stored-fine new e false q = record {
         inv = record {
           slots = stored-slots (law .distinct) (v .slots) i s k (c .known) inside (c .exists) was was-key slots₁ ch h₁ (live-other σ f i k) (got-other f i k) (got-own f i k) live-now false q;
           long = v .long;
@@ -322,14 +340,15 @@ module _ (σ : Scene) (law : Lawful σ) (f : Feed) (fair : Fair σ f) (w : World
           memory = memory-same (completes-not σ f i k q);
         };
         hands = ap (Option·map (own σ)) (sym (completes-not σ f i k q));
+        answers = sym (new-answer new false q);
         spared = refl;
       }
 
-      put-fine : done σ f i ≡ false → Fine σ f (part i k) (step5 mach slots₁ (w .store) (w .ledger) Nobody s fr)
+      put-fine : got f i k ≡ false → done σ f i ≡ false → Fine σ f (part i k) (step5 mach slots₁ (w .store) (w .ledger) Nobody s fr)
       unfolding done
-      put-fine e = subst (λ (a : After). Fine σ f (part i k) a)
+      put-fine new e = subst (λ (a : After). Fine σ f (part i k) a)
           (sym (stored-is (law .distinct) (v .slots) i s k (c .known) inside (c .exists) was was-key slots₁ ch h₁ (live-other σ f i k) (got-other f i k) (got-own f i k) live-now mach (v .sized) Nobody (done σ g i) refl))
-          (stored-fine e (done σ g i) refl)
+          (stored-fine new e (done σ g i) refl)
 
     to-fragment : call σ w (part i k) ≡ receive mach (w .store) (w .ledger) (m .sender) (fragment fr)
     to-fragment = step-is σ f w v (m .sender) (datagram m k) ∙ ap (receive mach (w .store) (w .ledger) (m .sender)) (cut .reads k (c .exists))
@@ -360,7 +379,7 @@ module _ (σ : Scene) (law : Lawful σ) (f : Feed) (fair : Fair σ f) (w : World
         (put-fine s (t .2) (t .3 ∙ sym d) (λ q. never q (t .3)) (set (mach .slots) s slot) (set-changed (mach .slots) s slot (v .slots .eight))
         (subst (λ (x : Slot). Holds (slotBytes σ) m s (got f i) x (w .store) (w .ledger)) (sym (set-here (mach .slots) s slot (v .slots .eight) (t .2)))
         (holds-open cut s (got f i) (mach .slots) k (c .exists) (w .store) (w .ledger) (λ j b. not-begun f i j n)))
-        e)
+        (not-begun f i k n) e)
 
     live-on : done σ g i ≡ false → unfinished σ g g i ≡ true
     unfolding done
@@ -390,11 +409,11 @@ module _ (σ : Scene) (law : Lawful σ) (f : Feed) (fair : Fair σ f) (w : World
               let same : done σ g i ≡ false = done-again σ f i k q ∙ e in
               subst (λ (a : After). Fine σ f (part i k) a)
               (sym (to-open ∙ ap (act mach (w .store) (w .ledger) (keyOf (m .sender) (fr .sequence))) (arrives-again (slotAt (mach .slots) s) h k (c .exists) fits q)))
-              (unmoved (completes-not σ f i k same) (live-on same ∙ sym alive) (λ l j. got-again f i k j q))
+              (unmoved q (completes-not σ f i k same) (live-on same ∙ sym alive) (λ l j. got-again f i k j q))
           | inr q ↦
               subst (λ (a : After). Fine σ f (part i k) a)
               (sym (to-open ∙ ap (act mach (w .store) (w .ledger) (keyOf (m .sender) (fr .sequence))) (arrives-new (slotAt (mach .slots) s) h k (c .exists) fits q)))
-              (put-fine s (r .inside) (r .is-busy ∙ sym alive) (λ b. r .its-key) (mach .slots) (record { eight = v .slots .eight; others = λ a b. refl }) h e)
+              (put-fine s (r .inside) (r .is-busy ∙ sym alive) (λ b. r .its-key) (mach .slots) (record { eight = v .slots .eight; others = λ a b. refl }) h q e)
         ]
 
     fragment-out : Fine σ f (part i k) (call σ w (part i k))

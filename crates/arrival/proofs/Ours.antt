@@ -1,14 +1,13 @@
 -- A message cut by our cutter, for datagrams of any size, is one of the lawful messages of demand 3.
 use mathlib.Core.Path.{_≡_, refl, sym, ap, _∙_, subst}
 use mathlib.Core.Bool.{Bool, true, false, not}
-use mathlib.Core.List.{List, [], _∷_}
+use mathlib.Core.List.{List, []}
 use Prim.Native.Nat.{ℕ, zero, suc, _+_, _^_, _≤_, _<_, suc-le-suc, zero-le}
 use native.Mathlib.Nat.{not-suc-le-zero, le-of-suc-le-suc}
-use native.Mathlib.Omega.{arith}
-use lib.ListN.{length, getD, take}
+use lib.ListN.{length, getD}
 use Rattle.wire.specs.Choice.{pick}
 use Rattle.datagram.specs.Limits.{maxPayload, maxFragments}
-use Rattle.datagram.specs.Said.{fragment, small, said}
+use Rattle.datagram.specs.Said.{fragment, said}
 use Rattle.cutter.specs.declared.Cut.the-variants.{Made}
 use Rattle.cutter.specs.Cut.{CutTo, isSmall, countOf, beginsAt, datagramOf, pieceOf}
 use Rattle.cutter.specs.Trip.{Cuttable, cutFragment, joined}
@@ -93,7 +92,7 @@ module _ (C sender q : ℕ) (name payload : List ℕ) (m : ℕ) (w : Cuttable ma
 
 -- what a call of the cutter that made a datagram left
 pub one-of-ours : (C sender : ℕ) (name payload : List ℕ) (q m index : ℕ) (out : List ℕ) (n l : ℕ) (out′ : List ℕ)
-    → q < 2 ^ 32 → CutTo name payload q m index out (Made n l) out′ → OneOfOurs C sender q name payload m index n l out′
+    → q < 2 ^ 32 → CutTo name payload q m index out (Made n l) out′ → OneOfOurs C (cutMessage sender q name payload m) index n l out′
 one-of-ours C sender name payload q m index out n l out′ fits k =
     let w : Cuttable maxPayload maxFragments q name payload m = cuttable name payload q m index out n l out′ fits k in
     let d : Done name payload m index (length out) n l = made name payload m index (length out) n l (sym (k .answer)) in

@@ -1,26 +1,26 @@
--- A run of calls of `receive` is a run of `step`: demand 3 for the code.
+-- A run of calls is a run of `step`: demand 3 for the code.
 use mathlib.Core.Path.{_≡_, refl, sym, ap, _∙_, subst}
-use mathlib.Core.Bool.{Bool, true, false, _&&_}
+use mathlib.Core.Bool.{Bool, true, false}
 use mathlib.Core.Option.{Option, none, some, Option·some-ne-none}
-use mathlib.Core.List.{List, [], _∷_, map}
+use mathlib.Core.List.{List}
 use Prim.Native.Nat.{ℕ}
-use lib.Dec.{eqb}
 use lib.ListN.{length}
 use Rattle.wire.specs.Choice.{pick}
-use Rattle.steps.specs.Receive.{Machine, After, opened, step}
-use Rattle.steps.specs.Answers.{Reply, reply, emptiedKey}
-use Rattle.steps.specs.Runs.{World, keyIn, run}
+use Rattle.steps.specs.Receive.{After, opened, step}
+use Rattle.steps.specs.Answers.{reply}
+use Rattle.steps.specs.Runs.{World, keyIn, run, heard}
 use Rattle.receiver.specs.declared.Outcome.{Outcome}
 use Rattle.receiver.specs.declared.Call.{Call}
 use Rattle.receiver_state.specs.View.{view, shaped}
 use Rattle.receiver.specs.Lent.{Lent, lent}
-use Rattle.receiver.specs.Calls.{refusalOf, Receives, received}
+use Rattle.receiver.specs.Calls.{refusalOf, Receives, received, told}
 use Rattle.open_and_payload.specs.Ends.{Opens}
-use Rattle.arrival.specs.Demand.{Scene, slotBytes, Event, Feed, start, _▹_, senderOf, bytesOf, arrival, Delivery, nameIn, handedBy, handed, push, call, after, own, completed, delivery, deliveries, NoneEmptied, Supposed, Promised}
-use Rattle.arrival.specs.Runs.{Calls, opens, calls, handsOver, handedOver, EachCall, CodePromised}
+use Rattle.arrival.specs.Demand.{Scene, slotBytes, Event, Feed, start, _▹_, senderOf, bytesOf, arrival, nameIn, handedBy, push, call, after, delivery, deliveries, Supposed, AllAnswered}
+use Rattle.arrival.specs.Runs.{Calls, opens, calls, turns-away, handsOver, handedOver, EachCall, CodePromised}
+use Rattle.arrival.proofs.Takings.{takes-are, turned-same}
 use Rattle.arrival.proofs.Track.{Lawful, fair-of}
 use Rattle.arrival.proofs.Order.{after-more}
-use Rattle.arrival.proofs.Demand3.{delivered-own, demand3}
+use Rattle.arrival.proofs.Demand3.{delivered-own, demand3, each-answered}
 
 -- what is lent shows the world of the step list
 record Shows (σ : Scene) (f : Feed) (l : Lent) : Type 0 where
@@ -74,23 +74,27 @@ module _ (σ : Scene) where
           (nameIn ((k .leaves .name ∙ ap (λ (a : After). a .name) received-is) i))
           (reply (bytesOf σ e) ((k .leaves .store ∙ ap (λ (a : After). a .store) received-is) i) ((k .leaves .answer ∙ ap (λ (a : After). a .answer) received-is) i))
 
-      -- and empties the same
-      call-empties : r .emptied ≡ call σ (after σ f) e .emptied
-      call-empties = k .leaves .emptied ∙ ap (λ (a : After). a .emptied) received-is
+      -- and tells the same
+      call-tells : told (bytesOf σ e) (l′ .store) r ≡ heard (arrival σ e) (call σ (after σ f) e)
+      call-tells = k .tells ∙ ap (heard (arrival σ e)) received-is
 
   shows : {f : Feed} {l : Lent} → Calls σ f l → Shows σ f l
   shows (opens w n r w′ n′ o q) = opening-shows w n r w′ n′ o q
-  shows (calls {f = f} {l = l} c e r l′ k) = call-shows f l (shows c) e r l′ k
+  shows (calls {f = f} {l = l} c e r l′ k) = call-shows f l (shows c) e r l′ (takes-are l (arrival σ e) k)
+  shows (turns-away {f = f} {l = l} c r l′ k) = subst (Shows σ f) (sym (turned-same l r l′ k)) (shows c)
 
   hands : {f : Feed} {l : Lent} → (c : Calls σ f l) → handedOver c ≡ deliveries σ f
   unfolding deliveries
   hands (opens w n r w′ n′ o q) = refl
-  hands (calls {f = f} {l = l} c e r l′ k) = λ i. push (call-hands f l (shows c) e r l′ k i) (hands c i)
+  hands (calls {f = f} {l = l} c e r l′ k) = λ i. push (call-hands f l (shows c) e r l′ (takes-are l (arrival σ e) k) i) (hands c i)
+  hands (turns-away c r l′ k) = hands c
 
-  each-call : {f : Feed} {l : Lent} → (c : Calls σ f l) → NoneEmptied σ f → EachCall c
+  each-call : {f : Feed} {l : Lent} → (c : Calls σ f l) → AllAnswered σ f → EachCall c
   each-call (opens w n r w′ n′ o q) z = tt
   each-call (calls {f = f} {l = l} c e r l′ k) z =
-      (each-call c (z .0), call-hands f l (shows c) e r l′ k, ap emptiedKey (call-empties f l (shows c) e r l′ k) ∙ z .1)
+      let t : Receives l (senderOf σ e) (bytesOf σ e) r l′ = takes-are l (arrival σ e) k in
+      (each-call c (z .0), call-hands f l (shows c) e r l′ t, call-tells f l (shows c) e r l′ t ∙ z .1)
+  each-call (turns-away c r l′ k) z = each-call c z
 
 -- DEMAND 3 FOR THE CODE
 pub code-demand3 : (σ : Scene) (f : Feed) → Supposed σ f → (l : Lent) (c : Calls σ f l) → CodePromised σ f l c
@@ -101,7 +105,7 @@ code-demand3 σ f s l c =
       machine = h .machine;
       store = h .store;
       ledger = h .ledger;
-      each-call = each-call σ c (demand3 σ f s .none-emptied);
+      each-call = each-call σ c (each-answered σ f s);
       delivered = hands σ c;
       their-own = hands σ c ∙ delivered-own σ law f (fair-of σ f (s .mixture) (s .never-over-eight) (s .few-senders) (s .never-too-late));
       promised = demand3 σ f s;

@@ -3,7 +3,7 @@ use mathlib.Core.Path.{_≡_, refl, sym, ap, _∙_, subst}
 use mathlib.Core.Logic.{_≢_}
 use mathlib.Core.Bool.{Bool, true, false}
 use mathlib.Core.List.{List}
-use Prim.Native.Nat.{ℕ, suc, _+_, _*_, _≤_, _<_}
+use Prim.Native.Nat.{ℕ, suc, _+_, _*_, _<_}
 use native.Mathlib.Nat.{suc-inj}
 use native.Mathlib.Decide.{ℕ-discrete}
 use lib.ListN.{length, getD}
@@ -14,7 +14,7 @@ use Rattle.steps.specs.Slots.{Slot, busy}
 use Rattle.steps.specs.Receive.{offsetOf, lengthOf}
 use Rattle.steps.proofs.Tables.{count-same, count-flip}
 use Rattle.steps.proofs.Seats.{look, same-busy, same-its-key, Changed}
-use Rattle.arrival.specs.Demand.{Message, Scene, Distinct, key, parts, size, message, slotBytes}
+use Rattle.arrival.specs.Demand.{Scene, Distinct, key, parts, size, message, slotBytes}
 use Rattle.arrival.proofs.Joining.{Holds, holds-move}
 
 -- slot s belongs to a live message, and holds what has come of it

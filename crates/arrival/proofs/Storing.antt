@@ -1,5 +1,5 @@
 -- A fragment is stored in its message's slot: what step 5 answers, and the invariant afterwards.
-use mathlib.Core.Path.{_≡_, refl, sym, ap, _∙_, subst}
+use mathlib.Core.Path.{_≡_, sym, ap, _∙_}
 use mathlib.Core.Logic.{_≢_}
 use mathlib.Core.Bool.{Bool, true, false, not, _||_}
 use mathlib.Core.List.{List}
@@ -7,21 +7,21 @@ use Prim.Native.Nat.{ℕ, _+_, _*_, _≤_, _<_}
 use native.Mathlib.Nat.{le-trans}
 use native.Mathlib.Omega.{arith}
 use lib.Dec.{eqb}
-use lib.ListN.{length, getD, set, take, drop}
+use lib.ListN.{length, set, take, drop}
 use Rattle.wire.specs.Choice.{pick}
 use Rattle.wire.proofs.Choices.{never}
 use Rattle.wire.proofs.Overlays.{length-overlay}
 use Rattle.datagram.specs.Limits.{maxFragments}
 use Rattle.datagram.specs.Said.{Fragment}
 use Rattle.steps.specs.declared.Emptied.{Emptied}
-use Rattle.steps.specs.declared.Answer.the-variants.{Delivered, Kept}
+use Rattle.steps.specs.declared.Answer.the-variants.{Delivered}
 use Rattle.steps.specs.declared.PayloadAt.the-variants.{InStore}
 use Rattle.steps.specs.Limits.{slotCount, slotSizeOf}
 use Rattle.steps.specs.Search.{allBelow}
 use Rattle.steps.specs.Held.{isHeld}
 use Rattle.steps.specs.Memory.{remember}
-use Rattle.steps.specs.Slots.{Slot, busy, noSlot, slotAt, release, filled, allHeld, padded, noName}
-use Rattle.steps.specs.Receive.{Machine, After, withSlots, placeOf, storeWith, ledgerWith, deliveredFrom, keptIn, step5}
+use Rattle.steps.specs.Slots.{Slot, busy, slotAt, release, filled, allHeld, padded}
+use Rattle.steps.specs.Receive.{Machine, After, withSlots, placeOf, storeWith, ledgerWith, keptIn, step5}
 use Rattle.steps.proofs.Tables.{all-at, all-cong}
 use Rattle.steps.proofs.Seats.{unturned, look, same-busy, Changed, set-changed, set-here, release-changed, release-here}
 use Rattle.steps.proofs.Stores.{write-out, part-fits, part-apart, row-apart, length-ledger, offset-other, length-other}
@@ -29,7 +29,7 @@ use Rattle.steps.proofs.Branches.{step5-delivered, step5-kept}
 use Rattle.arrival.specs.Demand.{Message, Scene, Distinct, key, parts, size, message, slotBytes}
 use Rattle.arrival.proofs.Pieces.{piece, piece-end, payload-fits, few-parts}
 use Rattle.arrival.proofs.Joining.{Holds, holds-busy, holds-put, whole-bytes}
-use Rattle.arrival.proofs.Sitting.{Slots, Reseat, reseat}
+use Rattle.arrival.proofs.Sitting.{Slots, reseat}
 
 module _ {σ : Scene} (law : Distinct σ) {live live′ : ℕ → Bool} {have have′ : ℕ → ℕ → Bool} {slots : List Slot} {store ledger : List ℕ}
     (h : Slots σ live have slots store ledger) (i s k : ℕ) (known : i < size σ) (inside : s < slotCount) (k< : k < parts (message σ i))

@@ -1,41 +1,39 @@
 -- L12, proved: its first fragment, then the run.
 use mathlib.Core.Path.{_≡_, refl, sym, ap, _∙_, subst}
-use mathlib.Core.Logic.{_≢_, inl, inr}
-use mathlib.Core.Bool.{Bool, true, false, not, _&&_, _||_}
+use mathlib.Core.Logic.{inl, inr}
+use mathlib.Core.Bool.{Bool, true, false, not, _||_}
 use mathlib.Core.Option.{Option, none, some}
 use mathlib.Core.List.{List}
-use Prim.Native.Nat.{ℕ, suc, _+_, _*_, _≤_, _<_}
+use Prim.Native.Nat.{ℕ, _+_, _*_, _≤_, _<_}
 use native.Mathlib.Nat.{le-trans, le-of-eq}
 use native.Mathlib.Omega.{arith}
-use native.Mathlib.Decide.{decLe, ℕ-discrete}
+use native.Mathlib.Decide.{ℕ-discrete}
 use lib.Dec.{eqb}
 use lib.ListN.{length, set}
 use borrow.Author.Tests.{eqb-true, eqb-false, eq-eqb, ne-eqb}
 use Rattle.wire.specs.Same.{same}
-use Rattle.wire.proofs.Choices.{either, never, and-l, and-r, and-of}
+use Rattle.wire.proofs.Choices.{either, never, and-l, and-r, and-of, or-of-right}
 use Rattle.wire.proofs.Parts.{same-refl, same-true}
 use Rattle.datagram.specs.Limits.{maxPayload, maxFragments}
 use Rattle.datagram.specs.Said.{Fragment, Said, refused, small, fragment, said}
 use Rattle.datagram.proofs.Saids.{Formed, fragment-formed}
 use Rattle.steps.specs.declared.Key.{Key}
-use Rattle.steps.specs.declared.Answer.{Answer}
-use Rattle.steps.specs.declared.Answer.the-variants.{Refused, Repeat}
 use Rattle.steps.specs.Limits.{slotCount, ledgerLength, slotSizeOf}
 use Rattle.steps.specs.Search.{allBelow, one}
 use Rattle.steps.specs.Memory.{keyOf, isRemembered}
 use Rattle.steps.specs.Slots.{Slot, busy, findOpen, opening, seat}
-use Rattle.steps.specs.Receive.{Machine, After, stay, step5, beginAt, receive, sound, step, sequenceOf}
+use Rattle.steps.specs.Receive.{Machine, After, stay, step5, beginAt, receive, sound, sequenceOf}
 use Rattle.steps.specs.Runs.{World, worldOf, Arrival, keyIn, call}
-use Rattle.steps.specs.Reach.{found, isOpen}
+use Rattle.steps.specs.Reach.{found, isAccepted}
 use Rattle.steps.proofs.Quick.{step5-ledger}
 use Rattle.steps.proofs.Tables.{not-true, not-false, and-no, all-at, all-of, all-none, all-cong}
-use Rattle.steps.proofs.Seats.{unturned, look, busyAt, set-there, set-here}
+use Rattle.steps.proofs.Seats.{set-there, set-here}
 use Rattle.steps.proofs.Stores.{part-fits}
 use Rattle.steps.proofs.Branches.{step-unsound, step-sound, receive-refused, fragment-again, fragment-begin}
 use Rattle.steps.proofs.Ranks.{Sat}
 use Rattle.steps.proofs.Reaches.{Good, Tidy, reached-good, seat-sat, begun-tidy, begun-busy, step-good}
 use Rattle.arrival.specs.Demand.{Message, key, parts, datagram, handed}
-use Rattle.arrival.specs.Strangers.{Start, part, isAccepted, Begins, Event, comes, forgets, Feed, begun, _▹_, after, isPart, isOwn, acceptsForeign, noForeign, opensOther, openings, come, complete, notForgotten, Supposed, its, handsOver, Promised, Strangers}
+use Rattle.arrival.specs.Strangers.{Start, part, Begins, Event, comes, forgets, Feed, begun, _▹_, after, isPart, isOwn, acceptsForeign, noForeign, opensOther, openings, come, complete, notForgotten, Supposed, its, handsOver, Strangers}
 use Rattle.arrival.proofs.Within.{fragment-within, small-within}
 use Rattle.arrival.proofs.Pieces.{fragmentSaid, piece, Cut, cut-within}
 use Rattle.arrival.proofs.Joining.{Holds, holds-move, holds-open}
@@ -266,11 +264,7 @@ module _ (σ : Start) (b : Begins σ) where
   ]
     where
       more-come : (f : Feed) (e : Event) (j : ℕ) → come σ f j ≡ true → come σ (f ▹ e) j ≡ true
-      more-come f (comes x) j t = or-true (isPart m x j) t
-        where
-          or-true : (a : Bool) {c : Bool} → c ≡ true → (a || c) ≡ true
-          or-true true t = refl
-          or-true false t = t
+      more-come f (comes x) j t = or-of-right (isPart m x j) t
       more-come f (forgets from) j t = t
 
   -- an arrival that is one of its own is its fragment k

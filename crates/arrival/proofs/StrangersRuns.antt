@@ -1,24 +1,25 @@
 -- The promise with strangers about, for calls of the code: each is the step list's, by its contract.
 use mathlib.Core.Path.{_≡_, refl, sym, ap, _∙_, subst}
-use mathlib.Core.Bool.{Bool, true, false}
-use mathlib.Core.Option.{Option, none, some, Option·some-ne-none}
+use mathlib.Core.Bool.{Bool, true}
 use mathlib.Core.List.{List}
 use Prim.Native.Nat.{ℕ}
 use Rattle.wire.specs.Choice.{pick}
-use Rattle.steps.specs.Receive.{Machine, After, opened, step, forget}
+use Rattle.steps.specs.Receive.{After, opened, step, stepWithin, forget}
+use Rattle.steps.proofs.Limited.{within-reached}
 use Rattle.steps.specs.Answers.{reply}
 use Rattle.steps.specs.Runs.{World, lending, worldOf, Arrival, keyIn, call}
-use Rattle.steps.specs.Reach.{Reached, opens, receives, forgets}
+use Rattle.steps.specs.Reach.{Reached, opens, receives, forgets, isAccepted}
 use Rattle.receiver.specs.declared.Outcome.{Outcome}
 use Rattle.receiver.specs.declared.Call.{Call}
 use Rattle.receiver_state.specs.View.{view, shaped}
 use Rattle.receiver.specs.Lent.{Lent, lent}
-use Rattle.receiver.specs.Calls.{refusalOf, Receives, received, Forgets, forgotten}
-use Rattle.arrival.specs.Demand.{Message, handedBy, nameIn}
-use Rattle.arrival.specs.Runs.{handsOver}
-use Rattle.arrival.specs.Strangers.{Start, part, isAccepted, Begins, Feed, begun, _▹_, comes, after, its}
+use Rattle.receiver.specs.Calls.{Receives, received, Forgets, forgotten}
+use Rattle.arrival.specs.Demand.{Message, datagram, handedBy, nameIn}
+use Rattle.arrival.specs.Strangers.{Start, part, Begins, Feed, after}
 use Rattle.arrival.specs.Strangers as strange
-use Rattle.arrival.specs.StrangersRuns.{Led, by-open, by-receive, by-forget, Takes, shown, startOf, Calls, begins, takes, drops, hands, CodeBegins, CodePromised, CodeStrangers}
+use Rattle.arrival.specs.StrangersRuns.{Led, by-open, by-receive, by-within, by-forget, shown, startOf, Calls, begins, takes, drops, turns-away, hands, CodeBegins, CodePromised, CodeStrangers}
+use Rattle.arrival.specs.Takes.{receivedWithin}
+use Rattle.arrival.proofs.Takings.{takes-are, turned-same}
 use Rattle.arrival.proofs.Runs.{shaped-on, was-shaped}
 use Rattle.arrival.proofs.Strangers.{strangers}
 
@@ -43,6 +44,13 @@ led-to {n} (by-receive {w = w} {nm = nm} l store ledger sender d r l′ k) =
       shape = shaped-on w nm (l′ .state) (l′ .names) (k .words) (k .bytes) (t .shape);
       reached = subst (Reached n) (sym (k .leaves .machine ∙ e)) (receives (t .reached) store ledger sender d);
     }
+led-to {n} (by-within {w = w} {nm = nm} l payload fragments store ledger x r l′ k) =
+    let t : LedTo n w nm = led-to l in
+    let e : receivedWithin payload fragments (lent w nm store ledger) x .machine ≡ stepWithin payload fragments (view w nm) store ledger (x .sender) (x .datagram) .machine = rw (t .shape) in
+    record {
+      shape = shaped-on w nm (l′ .state) (l′ .names) (k .words) (k .bytes) (t .shape);
+      reached = subst (Reached n) (sym (k .leaves .machine ∙ e)) (within-reached payload fragments (view w nm) store ledger (x .sender) (x .datagram) (t .reached));
+    }
 led-to {n} (by-forget {w = w} {nm = nm} l sender r w′ nm′ k) =
     let t : LedTo n w nm = led-to l in
     let e : forgotten w nm sender .machine ≡ forget (view w nm) sender .machine = rw (t .shape) in
@@ -57,7 +65,7 @@ record Shows (w : World) (l : Lent) : Type 0 where
   shape : shaped (l .state) (l .names) ≡ true
   world : shown l ≡ w
 
-module _ (w : World) (l : Lent) (h : Shows w l) (x : Arrival) (r : Outcome) (l′ : Lent) (k : Takes l x r l′) where
+module _ (w : World) (l : Lent) (h : Shows w l) (x : Arrival) (r : Outcome) (l′ : Lent) (k : Receives l (x .sender) (x .datagram) r l′) where
   received-is : received l (x .sender) (x .datagram) ≡ call w x
   unfolding received
   received-is = rw (h .shape) (ap (λ (v : World). call v x) (h .world))
@@ -102,6 +110,9 @@ module _ (m : Message) (l₀ : Lent) (k₀ : ℕ) (r₀ : Outcome) (l₁ : Lent)
   first : Shows (σ .world) l₀
   first = record { shape = led-to (b .led) .shape; world = refl }
 
+  taken : Receives l₀ (m .sender) (datagram m k₀) r₀ l₁
+  taken = takes-are l₀ (part m k₀) (b .taken)
+
   begins-so : Begins σ
   begins-so = record {
     opened-over = b .opened-over;
@@ -109,19 +120,20 @@ module _ (m : Message) (l₀ : Lent) (k₀ : ℕ) (r₀ : Outcome) (l₁ : Lent)
     lawful = b .lawful;
     its-own = b .its-own;
     not-open = b .not-open;
-    accepted = sym (ap isAccepted (takes-answers (σ .world) l₀ first (part m k₀) r₀ l₁ (b .taken))) ∙ b .accepted;
+    accepted = sym (ap isAccepted (takes-answers (σ .world) l₀ first (part m k₀) r₀ l₁ taken)) ∙ b .accepted;
   }
 
   shows : {f : Feed} {l : Lent} → Calls l₁ f l → Shows (after σ f) l
   unfolding after
-  shows begins = takes-shows (σ .world) l₀ first (part m k₀) r₀ l₁ (b .taken)
-  shows (takes {f = f} {l = l} c x r l′ k) = takes-shows (after σ f) l (shows c) x r l′ k
+  shows begins = takes-shows (σ .world) l₀ first (part m k₀) r₀ l₁ taken
+  shows (takes {f = f} {l = l} c x r l′ k) = takes-shows (after σ f) l (shows c) x r l′ (takes-are l x k)
   shows (drops {f = f} {l = l} c sender r w nm k) = drops-shows (after σ f) l (shows c) sender r w nm k
+  shows (turns-away {f = f} {l = l} c r l′ k) = subst (Shows (after σ f)) (sym (turned-same l r l′ k)) (shows c)
 
   promised : CodePromised m l₀ k₀ r₀ l₁
   promised = record {
-    at-once = λ e. takes-hands (σ .world) l₀ first (part m k₀) r₀ l₁ (b .taken) ∙ strangers σ begins-so .at-once e;
-    at-last = λ f l c s x r l′ k e. takes-hands (after σ f) l (shows c) x r l′ k ∙ strangers σ begins-so .at-last f x s e;
+    at-once = λ e. takes-hands (σ .world) l₀ first (part m k₀) r₀ l₁ taken ∙ strangers σ begins-so .at-once e;
+    at-last = λ f l c s x r l′ k e. takes-hands (after σ f) l (shows c) x r l′ (takes-are l x k) ∙ strangers σ begins-so .at-last f x s e;
   }
 
 -- A PROMISE WITH STRANGERS ABOUT, FOR THE CODE

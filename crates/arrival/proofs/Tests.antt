@@ -1,9 +1,9 @@
 -- The premises of demand 3 as tests that compute, and that a scene and a feed that pass them meet the premises.
 use mathlib.Core.Path.{_≡_, refl, sym, ap, _∙_, subst}
-use mathlib.Core.Logic.{_≢_, _⊎_, inl, inr}
+use mathlib.Core.Logic.{inl, inr}
 use mathlib.Core.Bool.{Bool, true, false, not, _&&_, _||_}
 use mathlib.Core.List.{List, [], _∷_, map}
-use Prim.Native.Nat.{ℕ, zero, suc, _+_, _≤_, _<_}
+use Prim.Native.Nat.{ℕ, _+_, _<_}
 use native.Mathlib.Omega.{arith}
 use native.Mathlib.Decide.{decLe, ℕ-discrete}
 use lib.Dec.{eqb, leb, ltb}
@@ -19,10 +19,10 @@ use Rattle.cutter.specs.Trip.{joined}
 use Rattle.steps.specs.declared.Key.{Key}
 use Rattle.steps.specs.Limits.{slotCount, sendersMost, keysEach, ledgerLength}
 use Rattle.steps.specs.Search.{allBelow, count}
-use Rattle.steps.specs.Memory.{sameKey, among, has, since, Lately}
+use Rattle.steps.specs.Memory.{sameKey, among, has, since}
 use Rattle.steps.proofs.Tables.{all-at, not-true, or-not, or-yes}
 use Rattle.steps.proofs.Memories.{key-same}
-use Rattle.arrival.specs.Demand.{Message, Scene, SentSmall, SentCut, Sent, key, parts, datagram, size, message, slotBytes, Distinct, EachSent, Event, part, noise, Feed, start, _▹_, RefusedForForm, MayCome, Mixture, got, EachComes, done, unfinished, NeverOverEight, AtMost16Senders, completed, keysOf, StillKnown, NeverTooLate, Supposed}
+use Rattle.arrival.specs.Demand.{Message, Scene, SentSmall, SentCut, Sent, key, parts, datagram, size, message, slotBytes, Distinct, Event, part, noise, Feed, start, _▹_, RefusedForForm, MayCome, Mixture, got, done, unfinished, NeverOverEight, AtMost16Senders, completed, keysOf, StillKnown, NeverTooLate, Supposed}
 use Rattle.arrival.proofs.Pieces.{fragmentSaid, piece}
 
 -- ---- the tests

@@ -1,7 +1,7 @@
 -- What an arrival does to the book-keeping of a feed: what has come, what is done, in which order. Nothing here knows of the receiver.
 use mathlib.Core.Path.{_≡_, refl, sym, ap, _∙_, subst}
-use mathlib.Core.Logic.{_≢_, _⊎_, inl, inr}
-use mathlib.Core.Bool.{Bool, true, false, not, _&&_, _||_}
+use mathlib.Core.Logic.{_≢_, inl, inr}
+use mathlib.Core.Bool.{Bool, true, false, not, _&&_, _||_, or-true}
 use mathlib.Core.Option.{Option, none, some}
 use mathlib.Core.List.{List, [], _∷_, map}
 use Prim.Native.Nat.{ℕ, zero, suc, _+_, _≤_, _<_}
@@ -12,11 +12,11 @@ use lib.Dec.{eqb}
 use lib.ListN.{length, getD}
 use borrow.Author.Tests.{eq-eqb, ne-eqb}
 use Rattle.wire.specs.Choice.{pick}
-use Rattle.wire.proofs.Choices.{either, never}
+use Rattle.wire.proofs.Choices.{either, never, or-of-right}
 use Rattle.steps.specs.declared.Key.{Key}
 use Rattle.steps.specs.Limits.{slotCount, ledgerLength}
-use Rattle.steps.specs.Search.{allBelow, one, count}
-use Rattle.steps.specs.Memory.{sameKey, among, Lately, FewSenders, Recent}
+use Rattle.steps.specs.Search.{one, count}
+use Rattle.steps.specs.Memory.{sameKey, among, FewSenders, Recent}
 use Rattle.steps.proofs.Tables.{or-not, or-yes, all-at, all-of, all-not, all-cong}
 use Rattle.steps.proofs.Memories.{same-key, key-same}
 use Rattle.arrival.specs.Demand.{Message, Scene, nobody, Distinct, EachSent, SentCut, SentSmall, Sent, key, parts, size, message, slotBytes, Event, part, noise, Feed, start, _▹_, RefusedForForm, MayCome, Mixture, NeverOverEight, AtMost16Senders, StillKnown, NeverTooLate, got, begun, done, completes, completed, keysOf, unfinished, push}
@@ -48,11 +48,7 @@ its-key : (l : List Message) (i : ℕ) → i < length l → among (map key l) (k
 unfolding among
 its-key [] i h = absurd (not-suc-le-zero h)
 its-key (m ∷ l) zero h = or-yes (sameKey (key m) (key m)) (among (map key l) (key m)) (key-same (key m))
-its-key (m ∷ l) (suc i) h = or-right (sameKey (key m) (key (getD l i nobody))) (its-key l i (le-of-suc-le-suc h))
-  where
-    or-right : (a : Bool) {b : Bool} → b ≡ true → (a || b) ≡ true
-    or-right true e = refl
-    or-right false e = e
+its-key (m ∷ l) (suc i) h = or-of-right (sameKey (key m) (key (getD l i nobody))) (its-key l i (le-of-suc-le-suc h))
 
 some-of-all : (σ : Scene) (f : Feed) → Mixture σ f → (k : Key) → among (keysOf σ (completed σ f)) k ≡ true → among (map key (σ .messages)) k ≡ true
 unfolding completed completes among
@@ -101,11 +97,7 @@ module _ (f : Feed) (i k : ℕ) where
   begun-other a n = rw (ne-eqb i a (λ e. n (sym e)))
 
   pub got-stays : (j : ℕ) → got f i j ≡ true → got (f ▹ part i k) i j ≡ true
-  got-stays j e = got-own j ∙ (rw e (or-true′ (eqb k j)))
-    where
-      or-true′ : (b : Bool) → (b || true) ≡ true
-      or-true′ true = refl
-      or-true′ false = refl
+  got-stays j e = got-own j ∙ (rw e (or-true (eqb k j)))
 
   pub got-again : (j : ℕ) → got f i k ≡ true → got (f ▹ part i k) i j ≡ got f i j
   got-again j e = elim (ℕ-discrete j k) [

@@ -5,7 +5,7 @@ use mathlib.Core.Bool.{Bool, true, false, not, _&&_, _||_}
 use mathlib.Core.Option.{Option, none, some}
 use mathlib.Core.List.{List}
 use Prim.Native.Nat.{ℕ, suc, _+_, _*_, _≤_, _<_}
-use native.Mathlib.Nat.{le-refl, le-trans, le-of-eq}
+use native.Mathlib.Nat.{le-trans, le-of-eq}
 use native.Mathlib.Omega.{arith}
 use native.Mathlib.Decide.{ℕ-discrete}
 use lib.Dec.{eqb}
@@ -20,31 +20,29 @@ use Rattle.datagram.proofs.Saids.{Formed}
 use Rattle.steps.specs.declared.Key.{Key}
 use Rattle.steps.specs.declared.Answer.{Answer}
 use Rattle.steps.specs.declared.Answer.the-variants.{Refused, Kept, Repeat, Delivered}
-use Rattle.steps.specs.declared.PayloadAt.{PayloadAt}
-use Rattle.steps.specs.declared.PayloadAt.the-variants.{InDatagram, InStore}
 use Rattle.steps.specs.declared.Emptied.{Emptied}
 use Rattle.steps.specs.declared.Emptied.the-variants.{Nobody}
 use Rattle.steps.specs.Limits.{slotCount, ledgerLength, slotSizeOf}
 use Rattle.steps.specs.Search.{allBelow, one}
 use Rattle.steps.specs.Held.{isHeld}
-use Rattle.steps.specs.Memory.{keyOf, sameKey, isRemembered, remember}
-use Rattle.steps.specs.Slots.{Slot, busy, slotAt, findOpen, release, opening, filled, allHeld, padded, seat, releaseOf}
-use Rattle.steps.specs.Receive.{Machine, After, stay, placeOf, storeWith, ledgerWith, Verdict, step3, step5, beginAt, act, receive, step, forget, sequenceOf}
-use Rattle.steps.specs.Runs.{World, lending, worldOf, Arrival, from, keyIn, call}
-use Rattle.steps.specs.Reach.{found, isOpen, isStored, opensSlot}
+use Rattle.steps.specs.Memory.{keyOf, sameKey, isRemembered}
+use Rattle.steps.specs.Slots.{Slot, busy, slotAt, findOpen, opening, filled, allHeld, seat, releaseOf}
+use Rattle.steps.specs.Receive.{Machine, After, stay, placeOf, storeWith, ledgerWith, Verdict, step3, step5, beginAt, act, receive, forget, sequenceOf}
+use Rattle.steps.specs.Runs.{World, lending, worldOf, Arrival, keyIn, call}
+use Rattle.steps.specs.Reach.{found, isOpen, isStored, opensSlot, isAccepted}
 use Rattle.steps.proofs.Tables.{all-at, all-cong, or-not, or-yes}
 use Rattle.steps.proofs.Memories.{same-key, key-same, whole-ok, remember-other, forget-other}
 use Rattle.steps.proofs.Seats.{unturned, look, busyAt, keyAt, Found, open-found, open-none, same-its-key, set-there, set-here}
 use Rattle.steps.proofs.Stores.{part-fits}
 use Rattle.steps.proofs.Quick.{step5-ledger}
-use Rattle.steps.proofs.Branches.{Course, unmoved, given, joined, begun, course, step-sound, fragment-open, fragment-begin, step5-delivered, step5-kept, step5-stores}
-use Rattle.steps.proofs.Ranks.{Ranks, Shrunk, Sat}
+use Rattle.steps.proofs.Branches.{Course, unmoved, given, joined, begun, course, step-sound, fragment-open, step5-delivered, step5-kept, step5-stores}
+use Rattle.steps.proofs.Ranks.{Sat}
 use Rattle.steps.proofs.Reaches.{Good, Tidy, good-sound, good-form, seat-sat, begun-tidy, begun-busy, step-good, good-released, forget-good}
-use Rattle.arrival.specs.Demand.{Message, key, parts, datagram, handed, handedBy, nameIn, Delivery}
-use Rattle.arrival.specs.Strangers.{part, isAccepted, isOwn, isForeign, acceptsForeign, opensOther, its, handsOver}
-use Rattle.arrival.proofs.Pieces.{piece, Cut, piece-end, payload-fits, few-parts}
-use Rattle.arrival.proofs.Joining.{Holds, holds-move, holds-open, holds-put, whole-bytes, arrives-again, arrives-new}
-use Rattle.arrival.proofs.Newer.{newer, newer-filled, newest}
+use Rattle.arrival.specs.Demand.{Message, key, parts, datagram, handed, nameIn}
+use Rattle.arrival.specs.Strangers.{part, isOwn, isForeign, acceptsForeign, opensOther, its, handsOver}
+use Rattle.arrival.proofs.Pieces.{piece, Cut}
+use Rattle.arrival.proofs.Joining.{Holds, holds-move, holds-put, whole-bytes, arrives-again, arrives-new}
+use Rattle.arrival.proofs.Newer.{newer-filled}
 use Rattle.arrival.proofs.Beside.{Mine, mine-busy, mine-shrunk, mine-opened, mine-step5, mine-seat}
 use Rattle.arrival.proofs.Order.{name-back}
 
@@ -60,7 +58,7 @@ differs : (a b : Key) → a ≢ b → sameKey a b ≡ false
 differs a b n = elim (either (sameKey a b)) [ inl e ↦ absurd (n (same-key a b e)) | inr e ↦ e ]
 
 -- what is stored is accepted
-stored-accepted : (a : Answer) → isStored a ≡ true → isAccepted a ≡ true
+pub stored-accepted : (a : Answer) → isStored a ≡ true → isAccepted a ≡ true
 stored-accepted (Refused n) e = e
 stored-accepted Kept e = refl
 stored-accepted Repeat e = e

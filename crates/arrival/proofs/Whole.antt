@@ -3,16 +3,16 @@ use mathlib.Core.Path.{_≡_, refl, sym, ap, _∙_, subst}
 use mathlib.Core.Logic.{_≢_}
 use mathlib.Core.Bool.{Bool, true, false, not, _&&_, _||_}
 use mathlib.Core.List.{List, [], _∷_}
-use Prim.Native.Nat.{ℕ, zero, suc, _+_, _≤_, _<_, zero-le}
+use Prim.Native.Nat.{ℕ, zero, suc, _<_, zero-le}
 use native.Mathlib.Nat.{le-refl, le-trans}
 use native.Mathlib.Omega.{arith}
 use native.Mathlib.Decide.{decLe, ℕ-discrete}
 use lib.Dec.{eqb, ltb}
 use borrow.Author.Tests.{eq-eqb, ne-eqb, lt-ltb, le-ltb}
 use Rattle.wire.proofs.Choices.{never}
-use Rattle.steps.specs.Search.{allBelow, one, count}
+use Rattle.steps.specs.Search.{one}
 use Rattle.steps.proofs.Tables.{or-not, or-yes, all-of, all-not, count-one}
-use Rattle.arrival.specs.Demand.{Scene, parts, size, message, Event, part, noise, Feed, start, _▹_, got, begun, done, completes, completed, unfinished, fedWhole, oneAfterAnother}
+use Rattle.arrival.specs.Demand.{Scene, parts, size, message, part, noise, Feed, start, _▹_, got, begun, done, completes, completed, unfinished, fedWhole, oneAfterAnother}
 use Rattle.arrival.proofs.Track.{Lawful, MayArrive, Fair, got-own, begun-other, not-begun, done-other, completes-yes, completes-not, completed-none, completed-some, done-once, has-parts, Change, same, more, change, times}
 
 -- distinct messages of the scene

@@ -9,7 +9,7 @@ use lib.ListN.{length, getD, take}
 use Rattle.wire.specs.Choice.{pick}
 use Rattle.datagram.specs.Limits.{maxPayload, maxFragments}
 use Rattle.datagram.specs.Name.{untilZero}
-use Rattle.datagram.specs.Said.{Fragment, Said, refused, small, fragment, said}
+use Rattle.datagram.specs.Said.{Said, refused, small, fragment, said}
 use Rattle.datagram.specs.Lawful.{LawfullyCut}
 use Rattle.cutter.specs.Trip.{joined}
 use Rattle.steps.specs.Limits.{slotCount, ledgerLength, slotSizeOf}
@@ -19,7 +19,7 @@ use Rattle.steps.specs.Memory.{keyOf, sameKey, Lately, FewSenders}
 use Rattle.steps.specs.Slots.{busy, slotAt}
 use Rattle.steps.specs.Receive.{After}
 use Rattle.steps.specs.Answers.{Reply, refusedBy, kept, repeat, delivered, reply, emptiedKey}
-use Rattle.steps.specs.Runs.{World, fresh, Arrival, from, keyIn, run, leftBy}
+use Rattle.steps.specs.Runs.{World, fresh, Arrival, from, keyIn, run, leftBy, Heard, heard}
 use Rattle.steps.specs.Runs as runs
 
 -- ==== "Take messages with distinct sender and sequence number, each sent small, or lawfully cut and no larger than a slot."
@@ -298,3 +298,23 @@ pub record Promised (σ : Scene) (f : Feed) : Type 0 where
 -- ORDER OF ARRIVAL MUST NOT MATTER
 abbrev pub Demand3 : Type 0
 Demand3 = (σ : Scene) (f : Feed) → Supposed σ f → Promised σ f
+
+-- ==== beside the promise: what each arrival is answered
+
+-- the number by which the reader refuses
+abbrev pub numberOf : Said → ℕ
+numberOf (refused n) = n
+numberOf (small q name payload) = 0
+numberOf (fragment f) = 0
+
+-- Repeat where that datagram came before; else Delivered where its message is then whole, with the message's bytes; else Kept. A stray is refused by its own number.
+abbrev pub answerTo : Scene → Feed → Event → Reply
+answerTo σ f (part i k) = pick (got f i k) repeat (pick (done σ (f ▹ part i k) i) (delivered (message σ i .payload)) kept)
+answerTo σ f (noise from d) = refusedBy (numberOf (said (slotBytes σ) maxFragments d))
+
+abbrev pub answered : Scene → Feed → Event → Heard
+answered σ f e = record { answer = answerTo σ f e; emptied = none }
+
+abbrev pub AllAnswered : Scene → Feed → Type 0
+AllAnswered σ start = Unit {0}
+AllAnswered σ (f ▹ e) = AllAnswered σ f × (heard (arrival σ e) (call σ (after σ f) e) ≡ answered σ f e)

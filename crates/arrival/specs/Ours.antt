@@ -23,10 +23,10 @@ cutMessage sender q name payload m = record {
   datagrams = table (countOf (length name) (length payload) m) (datagramOf q name payload m);
 }
 
--- a call of the cutter for datagram `index` answered n and wrote l bytes of the output
-pub record OneOfOurs (C sender q : ℕ) (name payload : List ℕ) (m index n l : ℕ) (out : List ℕ) : Type 0 where
-  -- its message is one of the lawful messages of demand 3, with any slot size C that the payload fits
-  pub lawful : length payload ≤ C → Sent C (cutMessage sender q name payload m)
+-- a call of the cutter for datagram `index` of a message answered n and wrote l bytes of the output
+pub record OneOfOurs (C : ℕ) (ours : Message) (index n l : ℕ) (out : List ℕ) : Type 0 where
+  -- the message is one of the lawful messages of demand 3, with any slot size C that the payload fits
+  pub lawful : length (ours .payload) ≤ C → Sent C ours
   -- n is the number of its datagrams, and what was written is the one asked for
-  pub all : parts (cutMessage sender q name payload m) ≡ n
-  pub this : take l out ≡ datagram (cutMessage sender q name payload m) index
+  pub all : parts ours ≡ n
+  pub this : take l out ≡ datagram ours index

@@ -2,18 +2,17 @@
 use mathlib.Core.Path.{_≡_}
 use mathlib.Core.Bool.{Bool, true, false, not, _&&_, _||_}
 use mathlib.Core.Option.{Option, some}
-use mathlib.Core.List.{List}
-use Prim.Native.Nat.{ℕ, _+_, _<_}
+use Prim.Native.Nat.{ℕ, _+_, _≤_, _<_}
 use lib.Dec.{eqb}
+use lib.ListN.{length}
 use Rattle.wire.specs.Same.{same}
-use Rattle.steps.specs.Limits.{slotCount}
+use Rattle.steps.specs.Limits.{slotCount, ledgerLength, slotSizeOf}
 use Rattle.steps.specs.Search.{allBelow, one}
-use Rattle.steps.specs.declared.Answer.{Answer}
-use Rattle.steps.specs.declared.Answer.the-variants.{Refused, Kept, Repeat, Delivered}
 use Rattle.steps.specs.Memory.{sameKey}
 use Rattle.steps.specs.Receive.{forget}
+use Rattle.steps.specs.Answers.{emptiedKey}
 use Rattle.steps.specs.Runs.{World, lending, worldOf, Arrival, from, keyIn, call}
-use Rattle.steps.specs.Reach.{Reached, isOpen, opensSlot}
+use Rattle.steps.specs.Reach.{Reached, isOpen, Unknown, opensSlot, isAccepted}
 use Rattle.arrival.specs.Demand.{Message, InFragments, key, parts, datagram, Delivery, handed}
 
 -- ==== "from any state that calls can reach: take a lawfully cut fragmented message whose key is neither open nor remembered when its first fragment is accepted"
@@ -28,13 +27,6 @@ pub record Start : Type 0 where
 abbrev pub part : Message → ℕ → Arrival
 part m k = from (m .sender) (datagram m k)
 
--- accepted: Kept or Delivered
-abbrev pub isAccepted : Answer → Bool
-isAccepted (Refused n) = false
-isAccepted Kept = true
-isAccepted Repeat = false
-isAccepted (Delivered p n) = true
-
 pub record Begins (σ : Start) : Type 0 where
   -- by calls of open, receive and forget, with any store and ledger lent to each
   pub opened-over : ℕ
@@ -42,7 +34,7 @@ pub record Begins (σ : Start) : Type 0 where
   pub lawful : InFragments (σ .message)
   pub its-own : σ .first < parts (σ .message)
   pub not-open : isOpen (σ .world .machine) (key (σ .message)) ≡ false
-  -- That its key is not remembered follows from this, as that store and ledger fit and that it is no larger than a slot.
+  -- accepted is Kept or Delivered. That its key is not remembered follows from this, as that store and ledger fit and that it is no larger than a slot.
   pub accepted : isAccepted (call (σ .world) (part (σ .message) (σ .first)) .answer) ≡ true
 
 -- ==== "From then on, let anything else come"
@@ -138,3 +130,34 @@ pub record Promised (σ : Start) : Type 0 where
 -- A PROMISE WITH STRANGERS ABOUT
 abbrev pub Strangers : Type 0
 Strangers = (σ : Start) → Begins σ → Promised σ
+
+-- ==== a message whose key is neither open nor remembered, an emptied one among them, comes anew
+
+pub record ComesAnew (σ : Start) : Type 0 where
+  pub opened-over : ℕ
+  pub reached : Reached opened-over (σ .world .machine)
+  -- with a store and a ledger of the lengths of opening
+  pub store-fits : length (σ .world .store) ≡ opened-over
+  pub ledger-fits : length (σ .world .ledger) ≡ ledgerLength
+  pub lawful : InFragments (σ .message)
+  pub no-larger : lawful .cut .size ≤ slotSizeOf opened-over
+  pub its-own : σ .first < parts (σ .message)
+  pub unknown : Unknown (σ .world .machine) (key (σ .message))
+
+-- the world after the call to x, in which fragment k of the message comes next
+abbrev pub nextAfter : World → Arrival → Message → ℕ → Start
+nextAfter w x m k = record { message = m; world = worldOf (call w x); first = k }
+
+-- the call to x, from a world that calls can reach, empties the key of the message
+pub record Empties (w : World) (x : Arrival) (m : Message) : Type 0 where
+  pub opened-over : ℕ
+  pub reached : Reached opened-over (w .machine)
+  pub store-fits : length (w .store) ≡ opened-over
+  pub ledger-fits : length (w .ledger) ≡ ledgerLength
+  pub lawful : InFragments m
+  pub no-larger : lawful .cut .size ≤ slotSizeOf opened-over
+  pub emptied : emptiedKey (call w x .emptied) ≡ some (key m)
+
+-- AN EMPTIED MESSAGE THAT IS SENT AGAIN, whichever fragment first, is promised as any other
+abbrev pub SentAgain : Type 0
+SentAgain = (w : World) (x : Arrival) (m : Message) → Empties w x m → (k : ℕ) → k < parts m → Promised (nextAfter w x m k)

@@ -1,31 +1,35 @@
 -- The statement of demand 3 held to worked feeds, by computation and without the theorem: what it promises of the paper's B, A, B is so,
 -- and its premises shut out the feeds that break it.
-use mathlib.Core.Path.{_≡_, refl, sym, ap, _∙_, subst}
-use mathlib.Core.Bool.{true, false}
-use mathlib.Core.List.{List, [], _∷_}
+use mathlib.Core.Path.{_≡_, refl, ap, _∙_}
+use mathlib.Core.List.{[], _∷_, zipWith}
 use Prim.Native.Nat.{ℕ, _≤_, _<_}
 use native.Mathlib.Omega.{arith}
 use lib.Dec.{lit<}
 use Rattle.wire.specs.Bytes.{be}
 use Rattle.wire.specs.Overlay.{overlay}
-use Rattle.datagram.specs.Limits.{maxPayload, maxFragments}
 use Rattle.names.specs.Name.{goodName}
 use Rattle.datagram.specs.Name.{untilZero, nameLength}
 use Rattle.datagram.specs.Read.{readSmall, goodForm, formed, readFragment, readDatagram}
-use Rattle.datagram.specs.Said.{Fragment, Said, fragment, said}
+use Rattle.datagram.specs.Said.{Said, said}
 use Rattle.steps.specs.Held.{noneHeld, isHeld, hold}
 use Rattle.steps.specs.Memory.{among, emptyMemory, isRemembered, remember, placeFor, withKey, memoryOk, since}
 use Rattle.steps.specs.Slots.{oldest, openCount, lower, release, seat, opening, filled}
 use Rattle.steps.specs.Receive.{opened, stay, sameFragment, agrees, step3, decide, step5, act, receive, sound, step}
-use Rattle.steps.specs.Runs.{run}
-use Rattle.steps.specs.Worked.{A-of, B-of}
-use Rattle.arrival.specs.Demand.{Distinct, SentCut, AtCompletion, NoneEmptied, NeverOverEight, NeverTooLate, after, delivery, done, unfinished, completes, completed}
+use Rattle.steps.specs.Answers.{refusedBy, kept, repeat, delivered}
+use Rattle.steps.specs.Runs.{fresh, run, allHeard}
+use Rattle.steps.specs.Worked.{A-of, B-of, only, ABC}
+use Rattle.arrival.specs.Demand.{Distinct, SentCut, AtCompletion, NeverOverEight, NeverTooLate, arrivals, after, delivery, done, unfinished, completes, completed}
 use Rattle.arrival_cases.specs.Worked.{small-of, fromEach, inTwo, paperScene, paperFeed, twinScene, nineScene, crowdedFeed, manyScene, manyFeed}
 use Rattle.arrival.proofs.Pieces.{fragmentSaid}
 
 pub paper-at-completion : AtCompletion paperScene paperFeed
 unfolding delivery after run done completes step sound receive decide act stay step3 step5 sameFragment agrees seat oldest release lower opening openCount filled opened emptyMemory isRemembered remember placeFor withKey memoryOk among isHeld hold noneHeld said readDatagram readSmall readFragment formed goodForm nameLength goodName untilZero be overlay A-of B-of small-of
 paper-at-completion = (((((tt, refl), refl), refl), refl), refl)
+
+-- the answers themselves: kept, refused for form, a small message, A completes, B came before; and no key is emptied
+pub paper-heard : allHeard (fresh (paperScene .store) (paperScene .ledger)) (arrivals paperScene paperFeed) ≡ only kept ∷ only (refusedBy 1) ∷ only (delivered (0x41 ∷ [])) ∷ only ABC ∷ only repeat ∷ []
+unfolding zipWith run step sound receive decide act stay step3 step5 sameFragment agrees seat oldest release lower opening openCount filled opened emptyMemory isRemembered remember placeFor withKey memoryOk among isHeld hold noneHeld said readDatagram readSmall readFragment formed goodForm nameLength goodName untilZero be overlay A-of B-of small-of
+paper-heard = refl
 
 -- two messages of one key
 pub twins-shut-out : Distinct twinScene → ⊥

@@ -1,11 +1,9 @@
 -- Each premise of demand 3 is needed: a scene and a feed that pass every other test, and of which the promise does not hold. All by computation.
-use mathlib.Core.Path.{_≡_, refl, sym}
-use mathlib.Core.Bool.{Bool, true, false}
+use mathlib.Core.Path.{_≡_, refl}
+use mathlib.Core.Bool.{true, false}
 use mathlib.Core.Option.{Option, none, some, Option·none-ne-some, Option·some-ne-none}
-use mathlib.Core.List.{List, [], _∷_}
-use Prim.Native.Nat.{ℕ}
+use mathlib.Core.List.{[], _∷_}
 use lib.Dec.{lit<}
-use lib.ListN.{replicate}
 use Rattle.wire.specs.Bytes.{be}
 use Rattle.wire.specs.Overlay.{overlay}
 use Rattle.wire.proofs.Choices.{never}
@@ -14,15 +12,13 @@ use Rattle.datagram.specs.Name.{untilZero, nameLength}
 use Rattle.datagram.specs.Read.{readSmall, goodForm, formed, readFragment, readDatagram}
 use Rattle.datagram.specs.Said.{said}
 use Rattle.cutter.specs.Trip.{joined}
-use Rattle.steps.specs.Limits.{ledgerLength}
 use Rattle.steps.specs.Held.{noneHeld, isHeld, hold}
 use Rattle.steps.specs.Memory.{among, emptyMemory, isRemembered, remember, placeFor, withKey, memoryOk, forgetKeys, since}
 use Rattle.steps.specs.Slots.{oldest, openCount, lower, release, releaseOf, seat, opening, filled}
-use Rattle.steps.specs.Receive.{Machine, After, opened, stay, sameFragment, agrees, step3, decide, step5, act, receive, sound, step, forget}
-use Rattle.steps.specs.Answers.{Reply, refusedBy, kept, delivered, reply}
+use Rattle.steps.specs.Receive.{opened, stay, sameFragment, agrees, step3, decide, step5, act, receive, sound, step, forget}
 use Rattle.steps.specs.Runs.{run}
 use Rattle.steps.specs.Worked.{A-of, B-of}
-use Rattle.arrival.specs.Demand.{Feed, Delivery, after, delivery, deliveries, done, unfinished, completes, completed, Promised}
+use Rattle.arrival.specs.Demand.{Delivery, after, delivery, done, unfinished, completes, completed}
 use Rattle.arrival_cases.specs.Worked.{small-of, A-gap, B-gap, fromEach, EachNeeded, twinScene, twinFeed, gapScene, bothFeed, largeScene, barredScene, oneScene, strangerFeed, lackingFeed, nineScene, crowdedFeed, throngScene, throngFeed, manyScene, manyFeed}
 use Rattle.arrival.proofs.Tests.{tests, giving}
 

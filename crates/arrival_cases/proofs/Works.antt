@@ -1,6 +1,7 @@
 -- The premises of demand 3 can be met: worked scenes and feeds that meet them, by computation.
 use mathlib.Core.Path.{_≡_, refl}
-use mathlib.Core.List.{List, [], _∷_}
+use mathlib.Core.Bool.{false}
+use lib.Dec.{lit<}
 use Rattle.wire.specs.Bytes.{be}
 use Rattle.names.specs.Name.{goodName}
 use Rattle.datagram.specs.Name.{untilZero, nameLength}
@@ -8,11 +9,12 @@ use Rattle.datagram.specs.Read.{readSmall, goodForm, formed, readFragment, read
 use Rattle.datagram.specs.Said.{said}
 use Rattle.cutter.specs.Trip.{joined}
 use Rattle.steps.specs.Memory.{since}
+use Rattle.steps.specs.Slots.{busy, slotAt}
 use Rattle.steps.specs.Worked.{A-of, B-of}
-use Rattle.arrival.specs.Demand.{done, unfinished, completes, completed, Promised}
-use Rattle.arrival_cases.specs.Worked.{small-of, paperScene, paperFeed, nineScene, fromEach, nineFeed, mastScene, mastFeed, sixteenScene, sixteenFeed}
+use Rattle.arrival.specs.Demand.{done, unfinished, completes, completed, after, Promised, AllAnswered}
+use Rattle.arrival_cases.specs.Worked.{small-of, paperScene, paperFeed, nineScene, fromEach, nineFeed, mastScene, mastFeed, sixteenScene, sixteenFeed, edgeScene, edgeFeed, oneScene, strayFeed, singleScene, singleFeed, bareScene, bareFeed}
 use Rattle.arrival.proofs.Tests.{tests, allPass, tested}
-use Rattle.arrival.proofs.Demand3.{demand3}
+use Rattle.arrival.proofs.Demand3.{demand3, each-answered}
 
 pub paper-meets : tests paperScene paperFeed ≡ allPass
 unfolding tests done unfinished completes completed since joined said readDatagram readSmall readFragment formed goodForm nameLength goodName untilZero be A-of B-of small-of
@@ -41,3 +43,45 @@ sixteen-meet = refl
 
 pub sixteen-promised : Promised sixteenScene sixteenFeed
 sixteen-promised = demand3 sixteenScene sixteenFeed (tested sixteenScene sixteenFeed sixteen-meet)
+
+-- ---- at the edge of each phrase: a weaker statement would not cover these
+
+edge-meets : tests edgeScene edgeFeed ≡ allPass
+unfolding tests done unfinished completes completed since joined said readDatagram readSmall readFragment formed goodForm nameLength goodName untilZero be small-of fromEach
+edge-meets = refl
+
+-- 31 others of its sender were delivered since, and it comes again
+pub edge-promised : Promised edgeScene edgeFeed
+edge-promised = demand3 edgeScene edgeFeed (tested edgeScene edgeFeed edge-meets)
+
+strays-meet : tests oneScene strayFeed ≡ allPass
+unfolding tests done unfinished completes completed since joined said readDatagram readSmall readFragment formed goodForm nameLength goodName untilZero be A-of B-of
+strays-meet = refl
+
+-- strays of each number, 1 to 7
+pub strays-promised : Promised oneScene strayFeed
+strays-promised = demand3 oneScene strayFeed (tested oneScene strayFeed strays-meet)
+
+-- each refused by its own
+pub strays-answered : AllAnswered oneScene strayFeed
+strays-answered = each-answered oneScene strayFeed (tested oneScene strayFeed strays-meet)
+
+pub single-meets : tests singleScene singleFeed ≡ allPass
+unfolding tests done unfinished completes completed since joined said readDatagram readSmall readFragment formed goodForm nameLength goodName untilZero be
+single-meets = refl
+
+-- in one fragment, and of no bytes
+pub single-promised : Promised singleScene singleFeed
+single-promised = demand3 singleScene singleFeed (tested singleScene singleFeed single-meets)
+
+bare-meets : tests bareScene bareFeed ≡ allPass
+unfolding tests done unfinished completes completed since joined said readDatagram readSmall readFragment formed goodForm nameLength goodName untilZero be small-of
+bare-meets = refl
+
+-- with an empty store
+pub bare-promised : Promised bareScene bareFeed
+bare-promised = demand3 bareScene bareFeed (tested bareScene bareFeed bare-meets)
+
+-- the last slot, which was open, is closed too
+pub last-slot-closed : busy (slotAt (after nineScene nineFeed .machine .slots) 7) ≡ false
+last-slot-closed = nine-promised .none-open 7 (lit< tt)

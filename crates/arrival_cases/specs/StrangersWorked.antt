@@ -10,12 +10,12 @@ use Rattle.steps.specs.Limits.{slotCount, ledgerLength}
 use Rattle.steps.specs.Held.{noneHeld}
 use Rattle.steps.specs.Memory.{keyOf, emptyMemory}
 use Rattle.steps.specs.Slots.{Slot, noSlot, noName}
-use Rattle.steps.specs.Runs.{World, lending, Arrival, from, call, run, leftBy}
-use Rattle.steps.specs.Reach.{isOpen}
+use Rattle.steps.specs.Runs.{World, lending, fresh, Arrival, from, call, run, leftBy}
+use Rattle.steps.specs.Reach.{isOpen, isAccepted}
 use Rattle.steps.specs.Worked.{inFours, headOf, A-of, B-of, begunBelow}
-use Rattle.arrival.specs.Demand.{Message, key, Delivery}
-use Rattle.arrival_cases.specs.Worked.{small-of, A-gap, B-gap, inTwo}
-use Rattle.arrival.specs.Strangers.{Start, part, isAccepted, comes, forgets, Feed, begun, _▹_, after, noForeign, openings, complete, notForgotten, its, handsOver}
+use Rattle.arrival.specs.Demand.{Message, key}
+use Rattle.arrival_cases.specs.Worked.{small-of, A-gap, B-gap, inTwo, inSingle}
+use Rattle.arrival.specs.Strangers.{Start, part, comes, forgets, Feed, begun, _▹_, after, noForeign, openings, complete, notForgotten, its, handsOver, nextAfter}
 
 -- ---- starts: the message of A and B, sender 0, sequence 7, its B first, in a receiver with slots of 4 bytes
 
@@ -56,6 +56,27 @@ floodFeed =
     ▹ comes (from 0 (headOf 7 3 1 1 2 (0x58 ∷ 0x58 ∷ []))) ▹ comes (from 0 (headOf 7 3 1 1 3 (0x42 ∷ 0x43 ∷ []))) ▹ comes (part ours 1)
     ▹ comes (from 1 (B-of 7)) ▹ comes (from 1 (A-of 7)) ▹ comes (from 1 (A-of 7)) ▹ comes (from 1 (B-of 8)) ▹ forgets 1 ▹ comes (from 1 (B-of 7))) 4
     ▹ forgets 1
+
+-- ---- at the edge of a phrase
+
+-- a message in one fragment, with all eight slots open for sender 1; and one of no bytes, over an empty store
+abbrev pub singleStart : Start
+singleStart = record { message = inSingle 5 (0x41 ∷ []); world = fullStart .world; first = 0 }
+
+abbrev pub bareStart : Start
+bareStart = record { message = inSingle 6 []; world = fresh [] (replicate ledgerLength 7); first = 0 }
+
+-- ---- an emptied message that is sent again: its B comes, then sender 1 begins eight messages, and the last empties it
+
+abbrev pub sevenMore : World
+sevenMore = leftBy inFours (run inFours (from 0 (B-of 7) ∷ map (from 1) (begunBelow 7 [])))
+
+abbrev pub eighthMore : Arrival
+eighthMore = from 1 (B-of 9)
+
+-- and then its B again
+abbrev pub againStart : Start
+againStart = nextAfter sevenMore eighthMore ours 1
 
 -- ---- feeds that break the promise, each for want of one premise
 

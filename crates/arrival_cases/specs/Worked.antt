@@ -1,14 +1,15 @@
--- Worked feeds: the paper's B, A, B; nine messages with eight open at once; a mast beside a tile; 16 senders; and for each premise a feed without it. Definitions only.
+-- Worked feeds: the paper's B, A, B; nine messages with eight open at once; a mast beside a tile; 16 senders; feeds at the edge of a phrase; and for each premise a
+-- feed without it. Definitions only.
 use mathlib.Core.Path.{_≡_}
-use mathlib.Core.Bool.{Bool, true, false}
+use mathlib.Core.Bool.{true, false}
 use mathlib.Core.List.{List, [], _∷_}
 use Prim.Native.Nat.{ℕ, zero, suc, _+_}
-use lib.ListN.{replicate}
+use lib.ListN.{length, replicate}
 use Rattle.steps.specs.Limits.{ledgerLength}
 use Rattle.steps.specs.Receive.{Machine, After, opened, step, forget}
 use Rattle.steps.specs.Answers.{Reply, refusedBy, kept, delivered, reply}
-use Rattle.steps.specs.Worked.{A-of, B-of}
-use Rattle.arrival.specs.Demand.{Message, Scene, Event, part, noise, Feed, start, _▹_, Promised}
+use Rattle.steps.specs.Worked.{headOf, A-of, B-of}
+use Rattle.arrival.specs.Demand.{Message, Scene, part, noise, Feed, start, _▹_, Promised}
 use Rattle.arrival.specs.Ours.{table}
 
 -- a store of 32 bytes, slots of 4
@@ -68,6 +69,47 @@ sixteenScene = sceneOf (table 16 (λ from. smallFrom from 7))
 
 abbrev pub sixteenFeed : Feed
 sixteenFeed = fromEach (fromEach start 0 0 16) 0 0 16
+
+-- ---- feeds at the edge of a phrase, which a weaker statement would not cover
+
+-- a small message, then 31 others of its sender, and the first again
+abbrev pub edgeScene : Scene
+edgeScene = sceneOf (table 32 (λ q. inOne q 0x41))
+
+abbrev pub edgeFeed : Feed
+edgeFeed = fromEach start 0 0 32 ▹ part 0 0
+
+-- B and A with a stray of each number among them, 1 to 7: no byte, another magic, 65,536 bytes, a small message without its zero byte, n = 0, P over a slot, an offset of 0
+abbrev pub strayFeed : Feed
+strayFeed =
+    start ▹ noise 0 [] ▹ noise 0 (replicate 8 0) ▹ noise 0 (replicate 65_536 0) ▹ noise 0 (0x4c ∷ 0x43 ∷ 0x30 ∷ 0x32 ∷ 0 ∷ 0 ∷ 0 ∷ 7 ∷ 0x50 ∷ [])
+    ▹ part 0 1
+    ▹ noise 0 (headOf 7 3 1 1 0 (0x42 ∷ 0x43 ∷ [])) ▹ noise 0 (headOf 7 5 1 1 2 (0x42 ∷ 0x43 ∷ 0x44 ∷ 0x45 ∷ [])) ▹ noise 0 (headOf 7 3 0 1 2 (0x42 ∷ 0x43 ∷ []))
+    ▹ part 0 0
+
+-- messages in one fragment, of one byte and of none
+abbrev pub inSingle : ℕ → List ℕ → Message
+inSingle q payload = record {
+  sender = 0;
+  sequence = q;
+  name = 0x50 ∷ [];
+  payload = payload;
+  fragmented = true;
+  datagrams = headOf q (length payload) 0 0 1 (0x50 ∷ 0 ∷ payload) ∷ [];
+}
+
+abbrev pub singleScene : Scene
+singleScene = sceneOf (inSingle 5 (0x41 ∷ []) ∷ inSingle 6 [] ∷ [])
+
+abbrev pub singleFeed : Feed
+singleFeed = start ▹ part 0 0 ▹ part 1 0 ▹ part 0 0
+
+-- an empty store: slots of no bytes, for a fragmented message of none, and a small one
+abbrev pub bareScene : Scene
+bareScene = record { store = []; ledger = replicate ledgerLength 7; messages = inSingle 6 [] ∷ inOne 7 0x41 ∷ [] }
+
+abbrev pub bareFeed : Feed
+bareFeed = start ▹ part 1 0 ▹ part 0 0 ▹ part 0 0
 
 -- ---- feeds that break the promise, each for want of one premise
 

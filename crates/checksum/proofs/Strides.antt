@@ -7,7 +7,7 @@ use lib.ListN.{length, getD, take, drop}
 use lib.Seq.{take-add, drop-cons, drop-drop, take-all}
 use Rattle.wire.specs.Sum.{sum}
 use Rattle.wire.proofs.Sums.{sum-append}
-use Rattle.checksum.specs.Strides.{Summed}
+use Rattle.checksum.specs.InsideStrides.{Summed}
 
 -- the sum of m + n bytes at a place is that of m, and that of the n after them
 pub sum-join : (b : List ℕ) (i m n : ℕ) → sum (take (m + n) (drop i b)) ≡ sum (take m (drop i b)) + sum (take n (drop (i + m) b))

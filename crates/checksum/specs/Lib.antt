@@ -1,1 +1,1 @@
-pub mod Strides
+pub mod InsideStrides

@@ -3,7 +3,7 @@ ghost use mathlib.Core.Path.{_≡_};
 ghost use Prim.Native.Nat.{_+_, _%_, _^_, _<_, _≤_};
 ghost use lib.ListN.{length, take, drop};
 ghost use Rattle.wire.specs.Sum.{sum};
-ghost use Rattle.checksum.specs.Strides.{Summed};
+ghost use Rattle.checksum.specs.InsideStrides.{Summed};
 
 // The sum of the eight bytes at a place.
 fn sum_of_eight(b: &[u8], i: usize) -> u64

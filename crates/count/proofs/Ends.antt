@@ -1,42 +1,48 @@
--- From the survey and the walk to the count's answer. Assumes nothing.
+-- From the survey and the stretch to the count's answer. Assumes nothing.
 use mathlib.Core.Path.{_≡_, refl, sym, ap, _∙_, subst}
-use mathlib.Core.Logic.{inl, inr}
 use mathlib.Core.Bool.{Bool, true, false}
-use mathlib.Core.Option.{Option}
 use mathlib.Core.List.{List, []}
-use Prim.Native.Nat.{ℕ, _+_, _≤_, _<_}
+use Prim.Native.Nat.{ℕ, suc, _≤_, min}
 use native.Mathlib.Omega.{arith}
-use lib.Dec.{eqb, ltb}
+use lib.Dec.{ltb}
 use lib.IntN.{ℤ}
 use lib.ListN.{length}
 use borrow.Author.Tests.{eq-eqb, ne-eqb, le-ltb, ltb-false}
+use Rattle.wire.specs.Bytes.{Bytes}
 use Rattle.wire.specs.Choice.{pick}
 use Rattle.steps.specs.Answers.{Reply}
+use Rattle.steps.specs.Receive.{opened}
+use Rattle.steps.specs.Runs.{lending, fresh}
 use Rattle.receiver_state.specs.View.{stateWords, nameBytes, view, shaped}
-use Rattle.receiver_state.specs.Inside.{Shaped}
-use Rattle.receiver.specs.Lent.{lent}
 use Rattle.receiver.specs.declared.Call.{Call}
 use Rattle.open_and_payload.specs.Ends.{Opens}
 use Rattle.log.specs.declared.reader.Limits.{Limits}
 use Rattle.log.specs.Editions.{limitsIn}
 use Rattle.log.specs.Entries.{Entry}
 use Rattle.log.specs.Listed.{Listed, whole, broken, entriesIn}
+use Rattle.log.specs.Told.{readOn, readAll}
+use Rattle.log.proofs.Onward.{read-all}
+use Rattle.sorted_set.specs.Lists.{In}
 use Rattle.count_rules.specs.Marks.{PitList}
-use Rattle.count_rules.specs.Report.{Line, report}
+use Rattle.count_rules.specs.Report.{report}
 use Rattle.count_rules.specs.Run.{payloads, listsRead}
-use Rattle.count_rules.specs.Count.{maxEntries, maxTiles, maxPits, firstFault, reportOf, Outcome, reported, noReport, answersTo, unless, countEntries, countListed, countLog}
-use Rattle.count_rules.specs.Count as counting
-use Rattle.count_rules.specs.Walk.{Held, seenAfter, atFirst, walkEntries, leftAfter, heldBy, CountsTo}
-use Rattle.count_rules.proofs.Seen.{seen-report, seen-long}
+use Rattle.count_rules.specs.Count.{maxEntries, maxTiles, firstFault, reportOf, Outcome, reported, noReport, answersTo, unless, countEntries, countListed, countLog}
+use Rattle.count_rules.specs.Walk.{Held, seenAfter, atFirst, walk, walkEntries, leftAfter, heldBy}
+use Rattle.count_rules.proofs.Seen.{seen-report}
 use Rattle.count_rules.proofs.Walks.{walk-agrees}
+use Rattle.pit_marks.specs.declared.Sizes.{Sizes}
+use Rattle.pit_marks.specs.Sets.{Sets, rooms, heldIn, Has}
 use Rattle.pit_marks.proofs.Told.{has-none}
+use Rattle.stretch.specs.declared.Stop.the-variants as stop
+use Rattle.stretch.specs.declared.Stretch.{Stretch}
+use Rattle.stretch.specs.Stretch.{Desk, Kit, kitOf, inShape, Stretched, stretch, Clean, stopFault, entriesOf, totalsOf, stretchOf, CountsOn}
+use Rattle.stretch.proofs.Laws.{clean-zero, clean-answers, refused-some}
 use Rattle.count.specs.declared.Counted.{Counted}
 use Rattle.count.specs.declared.Surveyed.{Surveyed}
 use Rattle.count.specs.declared.Surveyed.the-variants as surveyed
-use Rattle.count.specs.declared.Totals.{Totals}
-use Rattle.count.specs.declared.Ran.{Ran}
 use Rattle.count.specs.Counts.{counted, loan, Counts}
-use Rattle.count.specs.Inside.{many, surveyOf, totalsOf, book, Holds, Desk, desk, At, Whole, Begins, Walks, reportWith}
+use Rattle.count.specs.Inside.{many, surveyOf, Whole, own, reportWith}
+use Rattle.count.proofs.Walking.{Walks, heldOf, stretch-walks, as-many-entries}
 
 -- ---- by what the survey found
 
@@ -88,31 +94,20 @@ is-whole log s e n q = by (entriesIn log) refl (sym e ∙ q)
     by (whole es) i u = so-many es i (ltb maxEntries (length es)) refl u
     by (broken es k) i u = absurd (let z : _≡_ {A = ℕ} 0 1 = cc in let y : ⊥ = omega arith in y)
 
--- ---- a fresh receiver and empty sets
+-- ---- after the stretch through a fresh receiver, into empty sets
 
-pub begins : (log store ledger : List ℕ) (list : List ℤ) (n : ℕ) → Whole log n → (w names : List ℕ) (call : Call) (w′ names′ : List ℕ) → Opens w names (length store) call w′ names′
-    → length w ≡ stateWords → length names ≡ nameBytes → (t p s : List ℕ) → length t ≡ maxTiles → length p ≡ maxPits → length s ≡ maxPits
-    → Begins log (desk (lent w′ names′ store ledger) (book list t p s))
-begins log store ledger list n W w names call w′ names′ O lw ln t p s lt lp ls =
-    let sh : shaped w names ≡ true = rw (eq-eqb _ _ lw, eq-eqb _ _ ln) in
-    record {
-      size = n;
-      log-whole = W;
-      at-first = record {
-        shape = record { words = O .words ∙ lw; bytes = O .bytes ∙ ln };
-        machine = O .machine ∙ rw sh;
-        store-is = refl;
-        ledger-is = refl;
-        list-is = refl;
-        has = has-none t p s lt lp ls;
-        totals-are = refl;
-      };
-    }
+abbrev noSizes : Sizes
+noSizes = record { tiles = 0; pits = 0; sure = 0 }
 
--- ---- after the walk
+none-held : (x : Sets) → heldIn x noSizes ≡ noSizes
+none-held x =
+    let a : min 0 (length (x .tiles)) ≡ 0 = omega arith in
+    let b : min 0 (length (x .pits)) ≡ 0 = omega arith in
+    let c : min 0 (length (x .sure)) ≡ 0 = omega arith in
+    λ i. record { tiles = a i; pits = b i; sure = c i }
 
-module _ (log : List ℕ) (D : Desk) (n : ℕ) (W : Whole log n) (l : Limits) (own : l ≡ limitsIn log) (r : Ran) (D′ : Desk)
-    (w : (es : List Entry) → entriesIn log ≡ whole es → Walks l D es r D′) where
+module _ (log : List ℕ) (bytes : Bytes log) (n : ℕ) (W : Whole log n) (D : Desk) (w₀ names₀ : List ℕ) (call : Call) (O : Opens w₀ names₀ (length (D .lent .store)) call (D .lent .state) (D .lent .names))
+    (lw : length w₀ ≡ stateWords) (ln : length names₀ ≡ nameBytes) (room : rooms (D .book .sets) ≡ own) (r : Stretch) (D′ : Desk) (C : CountsOn log 0 n D noSizes r D′) where
   abbrev store : List ℕ
   store = D .lent .store
 
@@ -128,52 +123,91 @@ module _ (log : List ℕ) (D : Desk) (n : ℕ) (W : Whole log n) (l : Limits) (o
   abbrev es : List Entry
   es = W .entries
 
-  abbrev rs : List Reply
-  rs = answersTo (limitsIn log) store ledger es
+  abbrev L : Limits
+  L = limitsIn log
 
-  walks : Walks (limitsIn log) D es r D′
-  walks = subst (λ (x : Limits). Walks x D es r D′) own (w es (W .is))
+  abbrev rs : List Reply
+  rs = answersTo L store ledger es
+
+  abbrev K : Kit
+  K = record { world = fresh store ledger; list = list; sets = D .book .sets; sizes = noSizes }
+
+  abbrev X : Stretched
+  X = stretch true L log n 0 K
+
+  stretch-is : stretchOf log 0 n D noSizes ≡ X
+  stretch-is =
+      let a : shaped w₀ names₀ ≡ true = rw (eq-eqb _ _ lw, eq-eqb _ _ ln) in
+      let b : inShape D ≡ true = rw (eq-eqb _ _ (O .words ∙ lw), eq-eqb _ _ (O .bytes ∙ ln)) in
+      let m : view (D .lent .state) (D .lent .names) ≡ opened (length store) = O .machine ∙ rw a in
+      λ i. stretch (b i) L log n 0 (record { world = lending (m i) store ledger; list = list; sets = D .book .sets; sizes = none-held (D .book .sets) i })
+
+  kit-is : kitOf D′ (r .sizes) ≡ X .kit
+  kit-is = C .shows ∙ ap (λ (x : Stretched). x .kit) stretch-is
+
+  handed : (b : List ℕ) → In b (payloads (X .replies)) → Bytes b
+  handed b i = C .handed b (subst (λ (x : Stretched). In b (payloads (x .replies))) (sym stretch-is) i)
+
+  entries-are : entriesOf (readOn n log 0) ≡ es
+  unfolding readAll
+  entries-are = ap (λ (k : ℕ). entriesOf (readOn k log 0)) (W .size) ∙ as-many-entries log (suc (length log)) 0 es (read-all log bytes ∙ W .is)
+
+  walks : Walks X (walkEntries L store ledger list es) []
+  unfolding walkEntries
+  walks =
+      subst (λ (ds : List Entry). Walks X (walk L (length list) [] (atFirst store ledger list) ds) []) entries-are
+      (stretch-walks L log (length list) n 0 K [] (record { has = has-none (D .book .sets); words = room }) refl handed)
 
   within : ltb maxEntries (length es) ≡ false
   within = le-ltb maxEntries (length es) (let a = W .few in omega (arith, W .size))
 
-  faults : firstFault (length list) [] (payloads rs) ≡ r .fault
-  faults = sym (walk-agrees (limitsIn log) store ledger list es .same-fault) ∙ sym (walks .found)
+  faults : firstFault (length list) [] (payloads rs) ≡ stopFault (X .stop)
+  faults = sym (walk-agrees L store ledger list es .same-fault) ∙ walks .found
 
-  count-is : countLog (length list) store ledger log ≡ unless (r .fault) (reportOf es rs)
+  count-is : countLog (length list) store ledger log ≡ unless (stopFault (X .stop)) (reportOf es rs)
   unfolding countLog countEntries
-  count-is = ap (countListed (limitsIn log) (length list) store ledger) (W .is) ∙ rw (within, faults)
+  count-is = ap (countListed L (length list) store ledger) (W .is) ∙ rw (within, faults)
 
-  held-is : heldBy store ledger list log ≡ walkEntries (limitsIn log) store ledger list es .held
+  held-is : heldBy store ledger list log ≡ heldOf (X .kit)
   unfolding heldBy
-  held-is = ap (leftAfter (limitsIn log) store ledger list) (W .is) ∙ rw within
+  held-is = ap (leftAfter L store ledger list) (W .is) ∙ rw within (walks .held)
 
-  counts : (o : Outcome) → o ≡ unless (r .fault) (reportOf es rs) → (c : Counted) → c ≡ counted o → Counted-so c
+  counts : (o : Outcome) → o ≡ unless (stopFault (X .stop)) (reportOf es rs) → (c : Counted) → c ≡ counted o → Counted-so c
   counts o e c g = record {
     outcome = o;
     says = record {
       gave = e ∙ sym count-is;
-      store-left = walks .store-left ∙ ap (λ (x : Held). x .world .store) (sym held-is);
-      ledger-left = walks .ledger-left ∙ ap (λ (x : Held). x .world .ledger) (sym held-is);
-      list-left = walks .list-left ∙ ap (λ (x : Held). x .list) (sym held-is);
+      store-left = ap (λ (x : Kit). x .world .store) kit-is ∙ ap (λ (x : Held). x .world .store) (sym held-is);
+      ledger-left = ap (λ (x : Kit). x .world .ledger) kit-is ∙ ap (λ (x : Held). x .world .ledger) (sym held-is);
+      list-left = ap (λ (x : Kit). x .list) kit-is ∙ ap (λ (x : Held). x .list) (sym held-is);
     };
     gave = g;
   }
 
-  pub refused-then : (r .fault ≡ 0 → ⊥) → (c : Counted) → c ≡ counted (noReport (r .fault)) → Counted-so c
-  refused-then z c g = counts (noReport (r .fault)) (rw (ne-eqb _ _ z)) c g
+  stop-is : r .stop ≡ X .stop
+  stop-is = ap (λ (x : Stretch). x .stop) (C .gave) ∙ ap (λ (x : Stretched). x .stop) stretch-is
+
+  pub refused-then : (k : ℕ) → r .stop ≡ stop.Refused k → (c : Counted) → c ≡ counted (noReport k) → Counted-so c
+  refused-then k e c g =
+      let q : X .stop ≡ stop.Refused k = sym stop-is ∙ e in
+      let z : k ≡ 0 → ⊥ = refused-some true L log n 0 K k q in
+      counts (noReport k) (let u : stopFault (X .stop) ≡ k = ap stopFault q in rw (u, ne-eqb _ _ z)) c g
 
   abbrev seen : List PitList
   seen = seenAfter [] (payloads rs)
 
-  report-is : (totals : Totals) → totals ≡ totalsOf rs (length seen) → reportWith n totals (report seen) ≡ reportOf es rs
+  pub given-then : ((k : ℕ) → r .stop ≡ stop.Refused k → ⊥) → (c : Counted)
+      → ((ms : List PitList) → Has (D′ .book .sets) (r .sizes) ms → r .sizes .tiles ≤ maxTiles → c ≡ counted (reported (reportWith n (r .totals) (report ms)))) → Counted-so c
   unfolding reportOf
-  report-is totals e =
-      let a : length seen ≡ length (listsRead (payloads rs)) = seen-long [] (payloads rs) ∙ omega arith in
-      ap (λ (x : Totals). reportWith n x (report seen)) e
-      ∙ (λ i. reportWith (W .size i) (totalsOf rs (a i)) (seen-report (payloads rs) i))
-
-  pub given-then : r .fault ≡ 0 → (c : Counted) → ((ls : List PitList) → Holds (D′ .book) (r .sizes) ls → c ≡ counted (reported (reportWith n (r .totals) (report ls)))) → Counted-so c
-  given-then z c g =
-      let o = walks .on z in
-      counts (reported (reportOf es rs)) (rw (eq-eqb _ _ z)) c (g seen (o .1) ∙ ap (λ (x : counting.Report). counted (reported x)) (report-is (r .totals) (o .0)))
+  given-then f c g =
+      let q : Clean X = λ k e. f k (stop-is ∙ e) in
+      let a : X .replies ≡ rs = clean-answers L log n 0 K q ∙ ap (λ (ds : List Entry). answersTo L store ledger ds) entries-are in
+      let h₀ : Has (X .kit .sets) (X .kit .sizes) seen = subst (λ (ys : List Reply). Has (X .kit .sets) (X .kit .sizes) (seenAfter [] (payloads ys))) a (walks .has q .has) in
+      let h : Has (D′ .book .sets) (r .sizes) seen = subst (λ (k : Kit). Has (k .sets) (k .sizes) seen) (sym kit-is) h₀ in
+      let t : length (D′ .book .sets .tiles) ≡ maxTiles = ap (λ (k : Kit). length (k .sets .tiles)) kit-is ∙ ap (λ (x : Sizes). x .tiles) (walks .has q .words) in
+      let few : r .sizes .tiles ≤ maxTiles = (let z = h .the-tiles .size in omega arith) in
+      let many : X .lists ≡ length (listsRead (payloads rs)) = walks .lists q ∙ ap (λ (ys : List Reply). length (listsRead (payloads ys))) a in
+      let tot : r .totals ≡ totalsOf rs (length (listsRead (payloads rs))) =
+      ap (λ (x : Stretch). x .totals) (C .gave) ∙ (ap (λ (x : Stretched). totalsOf (x .replies) (x .lists)) stretch-is ∙ (λ i. totalsOf (a i) (many i))) in
+      counts (reported (reportOf es rs)) (let u : stopFault (X .stop) ≡ 0 = clean-zero (X .stop) q in rw u) c
+      (g seen h few ∙ (λ i. counted (reported (reportWith (W .size i) (tot i) (seen-report (payloads rs) i)))))

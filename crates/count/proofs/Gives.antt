@@ -1,10 +1,10 @@
 -- The report in the struct is the report of the lists seen. Assumes nothing.
-use mathlib.Core.Path.{_≡_, refl, sym, ap, _∙_, subst}
+use mathlib.Core.Path.{_≡_, refl, sym, ap, _∙_}
 use mathlib.Core.List.{List, [], _∷_, _++_, map}
 use Prim.Native.Nat.{ℕ, zero, suc, _+_, _-_, _≤_}
 use native.Mathlib.Nat.{sub-zero, suc-sub-suc, zero-sub}
 use native.Mathlib.Omega.{arith}
-use lib.ListN.{length, drop, replicate, length-map, length-replicate}
+use lib.ListN.{length, drop, length-map, length-replicate}
 use Rattle.wire.specs.Overlay.{overlay}
 use Rattle.wire.proofs.Overlays.{overlay-eq}
 use Rattle.sorted_set.proofs.Sets.{as-many}
@@ -12,12 +12,13 @@ use Rattle.count_rules.specs.Marks.{PitList}
 use Rattle.count_rules.specs.Report.{tiles, pits, surePits, Line, line, report}
 use Rattle.count_rules.specs.Count.{maxTiles, reported}
 use Rattle.pit_marks.specs.declared.Sizes.{Sizes}
+use Rattle.wire.specs.Slices.{_⇒_}
 use Rattle.pit_marks.specs.Lines.{Lays}
-use Rattle.pit_marks.specs.Sets.{Has}
+use Rattle.pit_marks.specs.Sets.{Sets, Has}
 use Rattle.pit_marks.proofs.Told.{tiles-told, pits-told, sure-told}
 use Rattle.count.specs.declared.Answer.the-variants.{Given}
 use Rattle.count.specs.declared.Counted.{Counted}
-use Rattle.count.specs.declared.Totals.{Totals}
+use Rattle.stretch.specs.declared.Totals.{Totals}
 use Rattle.count.specs.Counts.{zeros, padded, columnOf, counted}
 use Rattle.count.specs.Inside.{reportWith}
 
@@ -41,13 +42,13 @@ map-same : (l : List ℕ) → map (λ x. x) l ≡ l
 map-same [] = refl
 map-same (x ∷ l) = ap (λ (m : List ℕ). x ∷ m) (map-same l)
 
-module _ (entries : ℕ) (totals : Totals) (sizes : Sizes) (t p s : List ℕ) (seen : List PitList) (h : Has t p s sizes seen) (a b c : List ℕ)
-    (L : Lays t p s sizes (zeros maxTiles) (zeros maxTiles) (zeros maxTiles) a b c) where
+module _ (entries : ℕ) (totals : Totals) (sizes : Sizes) (sets : Sets) (seen : List PitList) (h : Has sets sizes seen) (room : sizes .tiles ≤ maxTiles) (a b c : List ℕ)
+    (L : Lays sets sizes (zeros maxTiles ⇒ a) (zeros maxTiles ⇒ b) (zeros maxTiles ⇒ c)) where
   many : length (tiles seen) ≡ sizes .tiles
-  many = as-many t (sizes .tiles) (tiles seen) (h .the-tiles)
+  many = as-many (sets .tiles) (sizes .tiles) (tiles seen) (h .the-tiles)
 
   few : length (tiles seen) ≤ maxTiles
-  few = let x = h .the-tiles .size in omega (arith, many, h .tiles-room)
+  few = omega (arith, many)
 
   -- one column, from what is laid
   column : (f : ℕ → ℕ) (g : Line → ℕ) → ((x : ℕ) → g (line seen x) ≡ f x) → (l : List ℕ) → l ≡ overlay (zeros maxTiles) 0 (map f (tiles seen)) → l ≡ columnOf g (report seen)
@@ -76,11 +77,11 @@ module _ (entries : ℕ) (totals : Totals) (sizes : Sizes) (t p s : List ℕ) (s
   unfolding report
   given-is =
       let x : a ≡ columnOf (λ (l : Line). l .tile) (report seen) =
-      column (λ n. n) (λ (l : Line). l .tile) (λ n. refl) a (L .numbers ∙ ap (overlay (zeros maxTiles) 0) (tiles-told t p s sizes seen h ∙ sym (map-same (tiles seen)))) in
+      column (λ n. n) (λ (l : Line). l .tile) (λ n. refl) a (L .numbers ∙ ap (overlay (zeros maxTiles) 0) (tiles-told sets sizes seen h ∙ sym (map-same (tiles seen)))) in
       let y : b ≡ columnOf (λ (l : Line). l .pits) (report seen) =
-      column (λ n. length (pits seen n)) (λ (l : Line). l .pits) (λ n. refl) b (L .pits-of ∙ ap (overlay (zeros maxTiles) 0) (pits-told t p s sizes seen h)) in
+      column (λ n. length (pits seen n)) (λ (l : Line). l .pits) (λ n. refl) b (L .pits-of ∙ ap (overlay (zeros maxTiles) 0) (pits-told sets sizes seen h)) in
       let z : c ≡ columnOf (λ (l : Line). l .sure) (report seen) =
-      column (λ n. length (surePits seen n)) (λ (l : Line). l .sure) (λ n. refl) c (L .sure-of ∙ ap (overlay (zeros maxTiles) 0) (sure-told t p s sizes seen h)) in
+      column (λ n. length (surePits seen n)) (λ (l : Line). l .sure) (λ n. refl) c (L .sure-of ∙ ap (overlay (zeros maxTiles) 0) (sure-told sets sizes seen h)) in
       let n : sizes .tiles ≡ length (report seen) = sym many ∙ sym (length-map (tiles seen) (line seen)) in
       λ i. record {
         answer = Given;

@@ -1,7 +1,6 @@
 pub mod Ends
-pub mod Far
 pub mod Gives
-pub mod Goes
+pub mod Own
 pub mod Passing
-pub mod Takes
+pub mod Walking
 pub mod Once

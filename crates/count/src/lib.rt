@@ -1,24 +1,18 @@
 // The count of a flight: one log through a fresh receiver, and for each tile its distinct pits and how many of them were marked sure.
 ghost use mathlib.Core.Path.{_≡_};
 ghost use mathlib.Core.List.{List};
-ghost use Prim.Native.Nat.{ℕ, _<_, _^_};
-ghost use lib.ListN.{getD};
-ghost use Rattle.log.specs.Listed.{entriesIn, whole};
-ghost use Rattle.log.specs.Entries.{Entry};
-ghost use Rattle.log.specs.Told.{entrySaid};
-ghost use Rattle.count_rules.specs.Count.{noReport, reported};
+ghost use Prim.Native.Nat.{_≤_};
+ghost use Rattle.log.specs.Listed.{entriesIn};
+ghost use Rattle.count_rules.specs.Count.{maxTiles, noReport, reported};
 ghost use Rattle.count_rules.specs.Marks.{PitList};
 ghost use Rattle.count_rules.specs.Report.{report};
-ghost use Rattle.pit_marks.specs.Sets.{Has};
-ghost use Rattle.receiver.specs.Lent.{lent, lentBefore, lentAfter};
+ghost use Rattle.pit_marks.specs.Sets.{setsBefore, Has};
 ghost use Rattle.count.specs.Counts.{counted, loanBefore, loanAfter, Counts};
-ghost use Rattle.count.specs.Inside.{many, surveyOf, Few, oneMore, toldOf, ran, ranBy, noTotals, noSizes, book, bookBefore, bookAfter, desk, TakesPayload, TakesEntry, Begins, Whole, Walks, reportWith};
-use log::EntryAt;
-use log::Limits;
+ghost use Rattle.count.specs.Inside.{many, surveyOf, Whole, reportWith};
 use log::Step;
 use pit_marks::Sizes;
-use pit_payloads::Looked;
-use steps::Answer as Told;
+use stretch::Stop;
+use stretch::Totals;
 
 // The most entries of a log, tiles of a report, and pits of all tiles.
 pub const MAX_ENTRIES: u64 = 4096;
@@ -63,22 +57,6 @@ enum Surveyed {
     Refused(u32),
 }
 
-// The answers so far, and the lists read.
-struct Totals {
-    kept: u64,
-    repeated: u64,
-    delivered: u64,
-    refused: [u64; REFUSALS],
-    lists: u64,
-}
-
-// How far the count has come: the refusal that ended it, or 0, the totals, and what the sets hold.
-struct Ran {
-    fault: u32,
-    totals: Totals,
-    sizes: Sizes,
-}
-
 // ---- the whole log
 
 // So many entries, or too many.
@@ -105,208 +83,6 @@ fn survey(log: &[u8]) -> Surveyed
             }
             Step::Refused(e) => return Surveyed::Refused(e),
             Step::End => return many_entries(n),
-        }
-    }
-}
-
-// ---- the totals
-
-// One refusal more, by that number.
-fn one_refused(by: [u64; REFUSALS], number: u32) -> [u64; REFUSALS]
-    requires { ⌜ ((k : ℕ) → getD by k 0 < 2 ^ 32) ⌝ }
-    ensures { λ r. ⌜ r ≡ oneMore by number ⌝ }
-{
-    let mut after = by;
-    let k = number as usize;
-    if k < REFUSALS {
-        after[k] += 1;
-        return after;
-    }
-    after
-}
-
-// One answer more.
-fn told(t: Totals, answer: Told) -> Totals
-    requires { ⌜ Few t ⌝ }
-    ensures { λ r. ⌜ r ≡ toldOf t answer ⌝ }
-{
-    let mut after = t;
-    match answer {
-        Told::Kept => {
-            after.kept += 1;
-            return after;
-        }
-        Told::Repeat => {
-            after.repeated += 1;
-            return after;
-        }
-        Told::Delivered(_, _) => {
-            after.delivered += 1;
-            return after;
-        }
-        Told::Refused(number) => {
-            let by = t.refused;
-            let more = one_refused(by, number);
-            after.refused = more;
-            return after;
-        }
-    }
-}
-
-// ---- one payload
-
-// By what the payload is.
-fn ran_by(totals: Totals, sizes: Sizes, looked: Looked) -> Ran
-    requires { ⌜ totals .lists < 2 ^ 32 ⌝ }
-    ensures { λ r. ⌜ r ≡ ranBy totals sizes looked ⌝ }
-{
-    match looked {
-        Looked::Other => Ran {
-            fault: 0,
-            totals,
-            sizes,
-        },
-        Looked::Refused(e) => Ran {
-            fault: e,
-            totals,
-            sizes,
-        },
-        Looked::Listed(now) => {
-            let mut after = totals;
-            after.lists += 1;
-            Ran {
-                fault: 0,
-                totals: after,
-                sizes: now,
-            }
-        }
-    }
-}
-
-// One payload more.
-fn one_payload(
-    payload: &[u8],
-    numbers: &mut [i64],
-    tiles: &mut [u64],
-    pits: &mut [u64],
-    sure: &mut [u64],
-    totals: Totals,
-    sizes: Sizes,
-) -> Ran
-    requires { ⌜ totals .lists < 2 ^ 32 ⌝ }
-    ensures { λ r. ⌜ TakesPayload (now (payload .entry)) (bookBefore numbers tiles pits sure) totals sizes r (bookAfter numbers tiles pits sure) ⌝ }
-{
-    let looked = pit_payloads::take_payload(payload, numbers, tiles, pits, sure, sizes);
-    ran_by(totals, sizes, looked)
-}
-
-// ---- one entry
-
-// One entry more: its datagram is received from its sender, within the log's limits; what is delivered is read where it lies.
-fn one_entry(
-    log: &[u8],
-    entry: EntryAt,
-    limits: Limits,
-    state: &mut [u64],
-    names: &mut [u8],
-    store: &mut [u8],
-    ledger: &mut [u32],
-    numbers: &mut [i64],
-    tiles: &mut [u64],
-    pits: &mut [u64],
-    sure: &mut [u64],
-    totals: Totals,
-    sizes: Sizes,
-) -> Ran
-    requires { ⌜ Few totals ⌝ }
-    ensures { λ r. ⌜ TakesEntry limits (entrySaid (now (log .entry)) entry) (desk (lentBefore state names store ledger) (bookBefore numbers tiles pits sure)) totals sizes r
-        (desk (lentAfter state names store ledger) (bookAfter numbers tiles pits sure)) ⌝ }
-{
-    let d = wire::part(log, entry.at, entry.len);
-    let outcome = within_limits::receive_within(
-        state,
-        names,
-        &mut *store,
-        ledger,
-        limits,
-        entry.sender,
-        d,
-    );
-    let answer = outcome.answer;
-    let after = told(totals, answer);
-    let payload = open_and_payload::payload(outcome, &*store, d);
-    one_payload(payload, numbers, tiles, pits, sure, after, sizes)
-}
-
-// ---- all entries
-
-fn nothing() -> Ran
-    ensures { λ r. ⌜ r ≡ ran 0 noTotals noSizes ⌝ }
-{
-    Ran {
-        fault: 0,
-        totals: Totals {
-            kept: 0,
-            repeated: 0,
-            delivered: 0,
-            refused: [0u64; REFUSALS],
-            lists: 0,
-        },
-        sizes: Sizes {
-            tiles: 0,
-            pits: 0,
-            sure: 0,
-        },
-    }
-}
-
-// Entry by entry, to the end of the log or to a refusal.
-fn walk(
-    log: &[u8],
-    limits: Limits,
-    state: &mut [u64],
-    names: &mut [u8],
-    store: &mut [u8],
-    ledger: &mut [u32],
-    numbers: &mut [i64],
-    tiles: &mut [u64],
-    pits: &mut [u64],
-    sure: &mut [u64],
-) -> Ran
-    requires { ⌜ Begins (now log) (desk (lent (now state) (now names) (now store) (now ledger)) (book (now numbers) (now tiles) (now pits) (now sure))) ⌝ }
-    ensures { λ r. ⌜ ((es : List Entry) → entriesIn (now (log .entry)) ≡ whole es →
-        Walks limits (desk (lentBefore state names store ledger) (bookBefore numbers tiles pits sure)) es r (desk (lentAfter state names store ledger) (bookAfter numbers tiles pits sure))) ⌝ }
-{
-    let mut place: usize = 0;
-    let mut done = nothing();
-    loop {
-        let step = log::read_on(log, place);
-        match step {
-            Step::Refused(_) => return done,
-            Step::End => return done,
-            Step::Found(entry) => {
-                place = entry.next;
-                let totals = done.totals;
-                let sizes = done.sizes;
-                done = one_entry(
-                    log,
-                    entry,
-                    limits,
-                    &mut *state,
-                    &mut *names,
-                    &mut *store,
-                    &mut *ledger,
-                    &mut *numbers,
-                    &mut *tiles,
-                    &mut *pits,
-                    &mut *sure,
-                    totals,
-                    sizes,
-                );
-                if done.fault != 0 {
-                    return done;
-                }
-            }
         }
     }
 }
@@ -343,7 +119,7 @@ fn given(
     pits: &[u64],
     sure: &[u64],
 ) -> Counted
-    ensures { λ r. ⌜ ((seen : List PitList) → Has (now (tiles .entry)) (now (pits .entry)) (now (sure .entry)) sizes seen → r ≡ counted (reported (reportWith entries totals (report seen)))) ⌝ }
+    ensures { λ r. ⌜ ((seen : List PitList) → Has (setsBefore tiles pits sure) sizes seen → sizes .tiles ≤ maxTiles → r ≡ counted (reported (reportWith entries totals (report seen)))) ⌝ }
 {
     let mut tile = [0u64; MAX_TILES];
     let mut pit = [0u64; MAX_TILES];
@@ -384,10 +160,15 @@ fn afresh(
     let mut pits = [0u64; MAX_PITS];
     let mut sure = [0u64; MAX_PITS];
     open_and_payload::open(&mut state, &mut names, store.len());
-    let limits = log::limits_in(log);
-    let done = walk(
+    let sizes = Sizes {
+        tiles: 0,
+        pits: 0,
+        sure: 0,
+    };
+    let done = stretch::count_on(
         log,
-        limits,
+        0,
+        entries,
         &mut state,
         &mut names,
         store,
@@ -396,13 +177,15 @@ fn afresh(
         &mut tiles,
         &mut pits,
         &mut sure,
+        sizes,
     );
-    if done.fault != 0 {
-        return refused(done.fault);
+    let stop = done.stop;
+    if let Stop::Refused(e) = stop {
+        return refused(e);
     }
     let totals = done.totals;
-    let sizes = done.sizes;
-    given(entries, totals, sizes, &tiles, &pits, &sure)
+    let now = done.sizes;
+    given(entries, totals, now, &tiles, &pits, &sure)
 }
 
 // THE COUNT of a log. The store, the ledger and the number list are lent; the receiver's state is its own.

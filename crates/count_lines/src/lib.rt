@@ -1,5 +1,4 @@
 // The lines of a count.
-ghost use mathlib.Core.Path.{_≡_};
 ghost use lib.ListN.{length};
 ghost use Rattle.output.specs.Output.{Pours};
 ghost use Rattle.count_lines.specs.Lines.{totalLines, refusedLine, refusedLines, listsLine, tileLine, tileLines, refusalLine};

@@ -1,13 +1,11 @@
 -- The struct's lines are the outcome's: the zeros past the last tile are not written. Assumes nothing.
-use mathlib.Core.Path.{_≡_, refl, ap, _∙_}
+use mathlib.Core.Path.{_≡_, refl, ap}
 use mathlib.Core.List.{List, [], _∷_, _++_, map}
-use Prim.Native.Nat.{ℕ, zero, suc, _-_}
-use lib.ListN.{length, getD, replicate}
+use Prim.Native.Nat.{ℕ, zero, suc}
+use lib.ListN.{length, getD}
 use Rattle.count_rules.specs.Count.{Outcome, reported, noReport}
-use Rattle.count_rules.specs.Count as counting
-use Rattle.count_rules.specs.Report.{Line}
-use Rattle.count.specs.Counts.{zeros, padded, counted, given}
-use Rattle.count_lines.specs.Lines.{totalLines, refusedLines, listsLine, tileLine, tileLines}
+use Rattle.count.specs.Counts.{zeros, padded, counted}
+use Rattle.count_lines.specs.Lines.{totalLines, refusedLines, listsLine, tileLines}
 use Rattle.count_pits.specs.Lines.{outcomeLines, countLines}
 
 zero-at : (k i : ℕ) → getD (zeros k) i 0 ≡ 0

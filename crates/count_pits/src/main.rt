@@ -1,7 +1,6 @@
 // What the map gets. Standard input is a log; it is counted over a fresh receiver, and the lines tell its entries by their answers, and of each
 // tile its pits and how many of them are sure.
 ghost use Prim.Native.Nat.{_≤_};
-ghost use mathlib.Core.Path.{_≡_};
 ghost use Rattle.output.specs.Output.{Pours, lineLimit};
 ghost use lib.ListN.{length};
 ghost use Rattle.count_rules.specs.Count.{countLog};

@@ -15,7 +15,7 @@ use Rattle.log.specs.declared.reader.Limits.{Limits}
 use Rattle.log.specs.Entries.{Entry}
 use Rattle.count_rules.specs.Marks.{PitList}
 use Rattle.count_rules.specs.Run.{answerTo, leftBy, answers, payloadIn, payloads}
-use Rattle.count_rules.specs.Count.{fault, firstFault, Outcome}
+use Rattle.count_rules.specs.Count.{firstFault, Outcome}
 use Rattle.count_rules.specs.Walk.{faultAt, seenAt, Held, heldAfter, heldAll, walk, atFirst, walkEntries, CountsTo, NoSecond, Agrees}
 
 module _ (l : Limits) (room : ℕ) where

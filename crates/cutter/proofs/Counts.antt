@@ -7,7 +7,7 @@ use native.Mathlib.Nat.{suc-mul, zero-mul, mul-le-mul-right, div-mul-le-self, lt
 use native.Mathlib.Numerals.{add-one, one-add}
 use native.Mathlib.Omega.{arith}
 use native.Mathlib.Decide.{decLe}
-use lib.Dec.{eqb, leb, eqb·suc-zero}
+use lib.Dec.{eqb·suc-zero}
 use lib.ListN.{length, take, drop, length-take, length-drop}
 use lib.Seq.{take-add, take-all}
 use borrow.Author.Tests.{leb-false}

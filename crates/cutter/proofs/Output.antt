@@ -8,7 +8,6 @@ use lib.Dec.{eqb}
 use lib.ListN.{length, take, drop, length-append}
 use lib.Seq.{take-append-seam}
 use Rattle.wire.specs.Bytes.{bytes}
-use Rattle.wire.specs.Overlay.{overlay}
 use Rattle.wire.proofs.Numbers.{length-bytes}
 use Rattle.wire.proofs.Overlays.{overlay-eq}
 use Rattle.datagram.specs.Limits.{maxPayload, maxFragments}

@@ -5,7 +5,7 @@ use mathlib.Core.List.{List, [], _∷_, _++_, append-assoc}
 use Prim.Native.Nat.{ℕ, _+_, _-_, _≤_, _<_}
 use native.Mathlib.Omega.{arith}
 use native.Mathlib.Decide.{ℕ-discrete}
-use lib.Dec.{eqb, leb, ltb}
+use lib.Dec.{eqb, leb}
 use lib.ListN.{length, take, drop, length-append}
 use lib.Seq.{drop-at, take-length, take-append-seam}
 use borrow.Author.Tests.{eq-eqb, ne-eqb, le-leb, le-ltb, leb-true}
@@ -17,13 +17,14 @@ use Rattle.datagram.specs.Limits.{maxDatagram}
 use Rattle.datagram.specs.Name.{nameLength}
 use Rattle.forms.specs.Form.{goodStart}
 use Rattle.datagram.specs.Read.{num, smallMagic, goodForm, readSmall, readDatagram, partOf}
-use Rattle.datagram.specs.Said.{Fragment, Said, small, fragment, says, said}
+use Rattle.datagram.specs.Said.{small, fragment, says, said}
 use Rattle.datagram.specs.Lawful.{LawfullyCut}
 use Rattle.datagram.specs.declared.Named.the-variants.{Long}
 use Rattle.datagram.specs.declared.Read.the-variants.{Good}
 use Rattle.datagram.proofs.Names.{name-read}
 use Rattle.cutter.specs.Cut.{Sized, isSmall, carries, beginsAt, countOf, pieceOf, headBytes, smallBytes, fragmentBytes, datagramOf}
-use Rattle.cutter.specs.Trip.{Cuttable, cutFragment, cutSaid, smallHeader, cutHeader}
+use Rattle.cutter.specs.Trip.{Cuttable, cutFragment, cutSaid}
+use Rattle.cutter.specs.Inside.{smallHeader, cutHeader}
 use Rattle.cutter.proofs.Written.{length-head, fragment-first, fragment-later}
 use Rattle.cutter.proofs.Counts.{begins-next, begins-below, count-some, piece-length, piece-full, piece-last}
 use Rattle.cutter.proofs.Headers.{num-at, Headed, headed, read-first, read-later}

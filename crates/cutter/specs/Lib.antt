@@ -1,4 +1,5 @@
 pub mod Limits
 pub mod Cut
 pub mod Trip
+pub mod Inside
 pub mod Worked

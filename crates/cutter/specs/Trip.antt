@@ -1,15 +1,13 @@
 -- What each datagram of a cut message is to be read as. Definitions only.
 use mathlib.Core.Path.{_≡_}
-use mathlib.Core.Bool.{true, false}
+use mathlib.Core.Bool.{true}
 use mathlib.Core.List.{List, [], _++_}
-use Prim.Native.Nat.{ℕ, zero, suc, _+_, _^_, _≤_, _<_}
+use Prim.Native.Nat.{ℕ, zero, suc, _^_, _≤_, _<_}
 use lib.Dec.{eqb}
 use lib.ListN.{length}
 use Rattle.wire.specs.Choice.{pick}
 use Rattle.names.specs.Name.{goodName}
-use Rattle.datagram.specs.Read.{place}
 use Rattle.datagram.specs.Said.{Fragment, Said, small, fragment}
-use Rattle.datagram.specs.declared.Header.{Header}
 use Rattle.cutter.specs.Cut.{Sized, isSmall, countOf, beginsAt, pieceOf}
 
 -- a message that can be cut, for a reader that takes payloads of at most maxSize bytes in at most maxCount fragments
@@ -37,31 +35,6 @@ cutFragment q name payload m k = record {
 -- what datagram k says
 abbrev pub cutSaid : ℕ → List ℕ → List ℕ → ℕ → ℕ → Said
 cutSaid q name payload m k = pick (isSmall (length name) (length payload) m) (small q name payload) (fragment (cutFragment q name payload m k))
-
--- the same with places: the header that a small datagram and fragment k are to have
-abbrev pub smallHeader : ℕ → List ℕ → List ℕ → Header
-smallHeader q name payload = record {
-  small = true;
-  sequence = q;
-  size = length payload;
-  offset = 0;
-  number = 0;
-  count = 1;
-  name = place 8 (length name);
-  payload = place (9 + length name) (length payload);
-}
-
-abbrev pub cutHeader : ℕ → List ℕ → List ℕ → ℕ → ℕ → Header
-cutHeader q name payload m k = record {
-  small = false;
-  sequence = q;
-  size = length payload;
-  offset = beginsAt (length name) m k;
-  number = k;
-  count = countOf (length name) (length payload) m;
-  name = place 20 (pick (eqb k 0) (length name) 0);
-  payload = place (pick (eqb k 0) (21 + length name) 20) (length (pieceOf name payload m k));
-}
 
 -- the first n pieces, one after another
 unfoldable pub joined : (ℕ → List ℕ) → ℕ → List ℕ

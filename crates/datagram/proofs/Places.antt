@@ -1,12 +1,12 @@
 -- What is known of a datagram that the reader accepts: its header keeps document 01's rules, and its name and payload lie inside it. Assumes nothing.
-use mathlib.Core.Path.{_≡_, refl, sym, ap, _∙_, subst}
+use mathlib.Core.Path.{_≡_, refl, subst}
 use mathlib.Core.Logic.{_≢_}
-use mathlib.Core.Bool.{Bool, true, false, _&&_, _||_}
-use mathlib.Core.List.{List, []}
-use Prim.Native.Nat.{ℕ, _+_, _-_, _≤_, _<_}
+use mathlib.Core.Bool.{true, _||_}
+use mathlib.Core.List.{List}
+use Prim.Native.Nat.{ℕ, _+_, _≤_, _<_}
 use native.Mathlib.Omega.{arith}
 use lib.Dec.{eqb, leb, ltb}
-use lib.ListN.{length, take, drop, length-drop}
+use lib.ListN.{length, drop, length-drop}
 use lib.Seq.{length-take-le}
 use borrow.Author.Tests.{ltb-false, leb-false, eqb-true, eqb-false}
 use Rattle.wire.specs.Choice.{pick}
@@ -14,7 +14,7 @@ use Rattle.wire.proofs.Choices.{pick-all, or-l, or-r}
 use Rattle.datagram.specs.Limits.{maxDatagram}
 use Rattle.names.specs.Name.{goodName}
 use Rattle.datagram.specs.Name.{nameLength}
-use Rattle.datagram.specs.Read.{magicIn, sizeIn, numberIn, countIn, smallMagic, fragmentMagic, place, smallHeader, fragmentHeader, goodForm, formed, smallTo, zeroTo, readSmall, readFragment, readDatagram, partOf}
+use Rattle.datagram.specs.Read.{magicIn, sizeIn, numberIn, countIn, smallMagic, fragmentMagic, place, fragmentHeader, goodForm, formed, smallTo, zeroTo, readSmall, readFragment, readDatagram, partOf}
 use Rattle.datagram.specs.declared.Named.{Named}
 use Rattle.datagram.specs.declared.Named.the-variants.{Nameless, Long}
 use Rattle.datagram.specs.declared.Place.{Place}

@@ -15,7 +15,7 @@ use Rattle.datagram.specs.Limits.{maxDatagram}
 use Rattle.names.specs.Name.{goodName}
 use Rattle.forms.specs.Form.{goodStart}
 use Rattle.datagram.specs.Read.{goodForm, readDatagram, partOf}
-use Rattle.datagram.specs.Said.{Fragment, Said, refused, small, fragment, fragmentIn, says, said, Reads}
+use Rattle.datagram.specs.Said.{Fragment, refused, small, fragment, fragmentIn, says, said, Reads}
 use Rattle.datagram.specs.declared.Header.{Header}
 use Rattle.datagram.specs.declared.Read.{Read}
 use Rattle.datagram.specs.declared.Read.the-variants.{Good, Refused}
@@ -38,6 +38,8 @@ pub record Formed (maxSize maxCount : ℕ) (f : Fragment) : Type 0 where
 pub record SmallRead (d name payload : List ℕ) : Type 0 where
   pub named : goodName name ≡ true
   pub stands : drop (9 + length name) d ≡ payload
+  -- 8 bytes, the name, a zero byte and the payload are all of it
+  pub ends : 9 + length name + length payload ≡ length d
   pub short : length d ≤ maxDatagram
 
 not-fragment : {q : ℕ} {a b : List ℕ} {f : Fragment} → small q a b ≡ fragment f → ⊥
@@ -114,7 +116,13 @@ module _ (C N : ℕ) (d : List ℕ) where
           let at : 9 + length name ≡ h .payload .at = omega (arith, k .place) in
           let all : take (h .payload .len) (drop (h .payload .at) d) ≡ drop (h .payload .at) d =
           take-all (h .payload .len) (drop (h .payload .at) d) (rw length-drop (omega (arith, i .payload-in))) in
-          record { named = subst (λ (x : List ℕ). goodName x ≡ true) n (k .named); stands = ap (λ (x : ℕ). drop x d) at ∙ sym all ∙ w; short = i .short }
+          let q : length payload ≡ h .payload .len = ap length (sym w) ∙ part-length d (h .payload) (omega (arith, i .payload-in)) in
+          record {
+            named = subst (λ (x : List ℕ). goodName x ≡ true) n (k .named);
+            stands = ap (λ (x : ℕ). drop x d) at ∙ sym all ∙ w;
+            ends = omega (arith, i .payload-in, at);
+            short = i .short;
+          }
 
       go : (r : Read) → readDatagram C N d ≡ r → says d r ≡ small q name payload → SmallRead d name payload
       go (Refused n) p e = absurd (refused-small e)

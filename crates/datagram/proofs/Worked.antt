@@ -1,5 +1,5 @@
 -- The worked cases, computed in one statement; and refusal 3 exactly for datagrams over 65,535 bytes. Assumes nothing.
-use mathlib.Core.Path.{_≡_, refl, subst}
+use mathlib.Core.Path.{_≡_, refl}
 use mathlib.Core.Logic.{_≢_}
 use mathlib.Core.Bool.{Bool, true, false, _||_}
 use mathlib.Core.List.{List, map}
@@ -16,12 +16,11 @@ use Rattle.datagram.specs.Limits.{maxPayload, maxFragments}
 use Rattle.names.specs.Name.{goodName}
 use Rattle.datagram.specs.Name.{untilZero, nameLength}
 use Rattle.datagram.specs.Read.{magicIn, sizeIn, numberIn, countIn, smallMagic, fragmentMagic, place, fragmentHeader, goodForm, formed, smallTo, zeroTo, readSmall, readFragment, readDatagram, partOf}
-use Rattle.datagram.specs.Said.{Said, refused, small, fragment, fragmentIn, says, said}
+use Rattle.datagram.specs.Said.{refused, small, fragment, fragmentIn, says, said}
 use Rattle.datagram.specs.Worked.{Case, cases}
 use Rattle.datagram.specs.declared.Named.{Named}
 use Rattle.datagram.specs.declared.Named.the-variants.{Nameless, Long}
 use Rattle.datagram.specs.declared.Place.{Place}
-use Rattle.datagram.specs.declared.Header.{Header}
 use Rattle.datagram.specs.declared.Read.{Read}
 use Rattle.datagram.specs.declared.Read.the-variants.{Good, Refused}
 

@@ -1,5 +1,5 @@
 -- What a datagram says, as numbers and places: document 01, "Datagrams", and refusals 3, 1, 2, 5, 6, 4, 7 in that order. Definitions only.
-use mathlib.Core.Bool.{Bool, true, false, _&&_, _||_}
+use mathlib.Core.Bool.{Bool, true, false, _||_}
 use mathlib.Core.List.{List}
 use Prim.Native.Nat.{ℕ, _+_, _-_}
 use lib.Dec.{eqb, leb, ltb}

@@ -1,6 +1,6 @@
 -- Laws of `fits_all`: one fragment after the other; a run of fragments whose bits stand in one word; and what decides. Assumes nothing.
 use mathlib.Core.Path.{_≡_, refl, sym, _∙_, ap}
-use mathlib.Core.Logic.{_⊎_, inl, inr}
+use mathlib.Core.Logic.{inl, inr}
 use mathlib.Core.Bool.{Bool, true, false, not, _&&_, _||_}
 use mathlib.Core.List.{List}
 use Prim.Native.Nat.{ℕ, suc, _+_, _-_, _*_, _/_, _%_, _^_, _≤_, _<_}
@@ -11,8 +11,7 @@ use native.Mathlib.Omega.{arith}
 use lib.Dec.{eqb, leb, ltb}
 use lib.ListN.{getD}
 use borrow.Author.Tests.{eq-eqb, ne-eqb, lt-ltb, le-ltb, lt-leb, le-leb, eqb-true, leb-false}
-use Rattle.wire.specs.Choice.{pick}
-use Rattle.wire.proofs.Choices.{either, and-l, and-r, or-l, or-r}
+use Rattle.wire.proofs.Choices.{either, and-l, and-r, and-true, or-l, or-r}
 use Rattle.steps.specs.Search.{allBelow}
 use Rattle.steps.specs.Held.{isHeld}
 use Rattle.steps.specs.Receive.{inOrder}
@@ -20,7 +19,8 @@ use Rattle.steps.proofs.Tables.{and-none, all-of, all-not, all-none, all-cong}
 use Rattle.held_bits.proofs.Runs.{all-split}
 use Rattle.held_bits.proofs.Bits.{held-bit}
 use Rattle.fragment_fit.specs.Fits.{fitsIn}
-use Rattle.fragment_fit.specs.Apart.{crosses, apartIn, apartAt, nearFit}
+use Rattle.fragment_fit.specs.Apart.{apartAt, nearFit}
+use Rattle.fragment_fit.specs.Inside.{apartIn}
 
 -- ---- tests that a number passes
 
@@ -91,6 +91,36 @@ module _ (h l : List ℕ) (k o d j m : ℕ) (inside : m ≤ 64 - j % 64) (side :
 -- a word with no bit set holds nothing
 pub zero-apart : (w m : ℕ) (l : List ℕ) (at : ℕ) (below : Bool) (o d : ℕ) → w ≡ 0 → allBelow m (apartIn w l at below o d) ≡ true
 zero-apart w m l at below o d e = all-of m (apartIn w l at below o d) (λ b g. rw (e, zero-div (2 ^ b)) refl)
+
+-- ---- at most 64 fragments: their bits stand in the first word, and k parts it
+
+module _ (h l : List ℕ) (n k o d : ℕ) (c : k < n) (few : n ≤ 64) where
+  abbrev apart : ℕ → Bool
+  apart = apartAt h l k o d
+
+  below-are : allBelow k apart ≡ allBelow k (apartIn (getD h 0 0) l 0 true o d)
+  unfolding isHeld
+  below-are = all-cong k apart (apartIn (getD h 0 0) l 0 true o d) (λ b g.
+      let q : b / 64 ≡ 0 = omega arith in
+      let r : b % 64 ≡ b = omega arith in
+      let at : 0 + 2 * b ≡ 2 * b = omega arith in
+      rw (q, r, at, lt-ltb b k g) refl)
+
+  above-are : (w : ℕ) → w ≡ getD h 0 0 / 2 ^ k → allBelow (n - k) (λ b. apart (k + b)) ≡ allBelow (n - k) (apartIn w l (2 * k) false o d)
+  above-are w e =
+      let q : k / 64 ≡ 0 = omega arith in
+      let r : k % 64 ≡ k = omega arith in
+      run-word h l k o d k (n - k) (omega arith) (λ z. omega arith) w (rw (q, r) e)
+      ∙ ap (λ (below : Bool). allBelow (n - k) (apartIn w l (2 * k) below o d)) (le-ltb k k (omega arith))
+
+  pub few-below : allBelow k (apartIn (getD h 0 0) l 0 true o d) ≡ false → allBelow n apart ≡ false
+  few-below e = let w = all-none k apart (below-are ∙ e) in all-not n apart (w .0) (omega (arith, w .1)) (w .2)
+
+  pub few-all : (w : ℕ) → w ≡ getD h 0 0 / 2 ^ k → allBelow k (apartIn (getD h 0 0) l 0 true o d) ≡ true
+      → allBelow (n - k) (apartIn w l (2 * k) false o d) ≡ allBelow n apart
+  few-all w e a =
+      let s : k + (n - k) ≡ n = omega arith in
+      sym (ap (λ (m : ℕ). allBelow m apart) (sym s) ∙ all-split apart k (n - k) ∙ (λ i. above-are w e i && (below-are ∙ a) i) ∙ and-true (allBelow (n - k) (apartIn w l (2 * k) false o d)))
 
 -- ---- fragment k among n: its neighbours decide, and then whether one crosses it
 

@@ -6,16 +6,11 @@ use lib.Dec.{leb, ltb}
 use lib.ListN.{getD}
 use Rattle.wire.specs.Choice.{pick}
 use Rattle.steps.specs.Held.{isHeld}
-use Rattle.held_bits.specs.Bits.{bitIn}
 use Rattle.fragment_fit.specs.Fits.{fitsIn}
 
 -- d bytes from o on, and e bytes from p on, which are the lower where they are below: the lower reach past where the higher begin
 abbrev pub crosses : Bool → ℕ → ℕ → ℕ → ℕ → Bool
 crosses below o d p e = pick below (ltb o (p + e)) (ltb p (o + d))
-
--- fragment b of a run, whose bit is bit b of a word, and whose entry stands b entries after a place, is not held or does not cross
-abbrev pub apartIn : ℕ → List ℕ → ℕ → Bool → ℕ → ℕ → ℕ → Bool
-apartIn w l at below o d b = not (bitIn w b && crosses below o d (getD l (at + 2 * b) 0) (getD l (at + 2 * b + 1) 0))
 
 -- fragment j of all, beside fragment k
 abbrev pub apartAt : List ℕ → List ℕ → ℕ → ℕ → ℕ → ℕ → Bool

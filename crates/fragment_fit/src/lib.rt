@@ -6,7 +6,8 @@ ghost use lib.Dec.{ltb};
 ghost use lib.ListN.{length};
 ghost use Rattle.steps.specs.Search.{allBelow};
 ghost use Rattle.fragment_fit.specs.Fits.{agreesAt, fitsIn};
-ghost use Rattle.fragment_fit.specs.Apart.{crosses, apartIn, apartAt, nearFit};
+ghost use Rattle.fragment_fit.specs.Apart.{crosses, apartAt, nearFit};
+ghost use Rattle.fragment_fit.specs.Inside.{apartIn};
 
 // ---- one by one, over any slices
 
@@ -145,6 +146,22 @@ fn run_length(j: usize, k: usize, n: usize) -> usize
     wire::least(n - j, rest)
 }
 
+// No held one of at most 64 crosses fragment k: those below it, then those above.
+fn few_apart(held: &[u64], ledger: &[u32], n: usize, k: usize, offset: u32, len: u32) -> bool
+    requires { ⌜ (k < n) × (n ≤ 64) × (2 * n ≤ length (now ledger)) ⌝ }
+    ensures { λ r. ⌜ r ≡ allBelow n (apartAt (now (held .entry)) (now (ledger .entry)) k offset len) ⌝ }
+{
+    let w = words::word(held, 0);
+    if !run_apart(w, ledger, 0, k, true, offset, len) {
+        return false;
+    }
+    let above = w >> k;
+    if above == 0 {
+        return true;
+    }
+    run_apart(above, ledger, 2 * k, n - k, false, offset, len)
+}
+
 // No held one below n crosses fragment k. A word with no bit set is passed over.
 fn all_apart(held: &[u64], ledger: &[u32], n: usize, k: usize, offset: u32, len: u32) -> bool
     requires { ⌜ (k ≤ n) × (n < 2 ^ 32) × (2 * n ≤ length (now ledger)) ⌝ }
@@ -172,7 +189,11 @@ fn fits_apart(held: &[u64], ledger: &[u32], n: usize, k: u32, offset: u32, len: 
     if !near_fit(held, ledger, n, k, offset, len) {
         return false;
     }
-    all_apart(held, ledger, n, words::as_size(k), offset, len)
+    let number = words::as_size(k);
+    if n <= held_bits::WORD_BITS {
+        return few_apart(held, ledger, n, number, offset, len);
+    }
+    all_apart(held, ledger, n, number, offset, len)
 }
 
 // Fragment k, from an offset on as long as that, agrees with every held one below n; the slot's ledger has offset and length of each.

@@ -1,6 +1,6 @@
 -- The lines of the program `gaps`, in ASCII, and what they are about. Definitions only.
 use mathlib.Core.Path.{_≡_}
-use mathlib.Core.List.{List, [], _∷_, _++_}
+use mathlib.Core.List.{List, _++_}
 use Prim.Native.Nat.{ℕ}
 use Rattle.wire.specs.Text.{ascii}
 use Rattle.datagram.specs.declared.Read.{Read}

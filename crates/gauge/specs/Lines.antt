@@ -1,7 +1,8 @@
 -- The lines of the program `gauge`, in ASCII, and what they are about. Definitions only.
 use mathlib.Core.Path.{_≡_}
+use mathlib.Core.Option.{Option, none, some}
 use mathlib.Core.List.{List, [], _∷_, _++_, map}
-use Prim.Native.Nat.{ℕ, zero, suc}
+use Prim.Native.Nat.{ℕ}
 use lib.Dec.{eqb}
 use lib.ListN.{length}
 use Rattle.wire.specs.Text.{ascii}
@@ -9,7 +10,6 @@ use Rattle.wire.specs.Choice.{pick}
 use Rattle.watch.specs.Noted.{Noted, first, forward, same, late, restarted, refused}
 use Rattle.moss.specs.Limits.{letterU}
 use Rattle.moss.specs.Packet.{Given, gives, refuses, Packet, packetOf}
-use Rattle.moss.specs.Message.{messageIn}
 use Rattle.gauge_watch.specs.declared.Gauge.{Gauge}
 use Rattle.gauge_watch.specs.Heard.{asked, after}
 use Rattle.text.specs.Text.{decimal}
@@ -34,10 +34,14 @@ spaced (n ∷ l) = (32 ∷ decimal n) ++ spaced l
 abbrev pub messagesText : ℕ → List ℕ → List ℕ
 messagesText kind lengths = pick (eqb kind letterU) (ascii " messages" ++ spaced lengths) []
 
--- the lengths of the first k messages, by the n-th message
-abbrev pub firstLengths : Given Packet → ℕ → List ℕ
-firstLengths g zero = []
-firstLengths g (suc k) = firstLengths g k ++ length (messageIn g k) ∷ []
+-- the lengths of messages that blocks hold, and of a packet's
+abbrev pub lengthsIn : Option (List (List ℕ)) → List ℕ
+lengthsIn none = []
+lengthsIn (some ms) = map length ms
+
+abbrev pub lengthsOf : Given Packet → List ℕ
+lengthsOf (refuses number) = []
+lengthsOf (gives p) = map length (p .messages)
 
 -- line n of a packet, of which so is noted
 abbrev pub line : ℕ → Given Packet → Noted → List ℕ

@@ -1,13 +1,16 @@
 // What the tide gauge's packets say, and which messages were missed. Standard input holds MossUDP packets, each after a 2-byte big-endian
 // length; one gauge hears them all, and a line says what it notes of each.
 ghost use Prim.Native.Nat.{_≤_};
-ghost use lib.ListN.{length};
+ghost use lib.ListN.{length, drop};
 ghost use mathlib.Core.Path.{_≡_};
 ghost use Rattle.watch.specs.Noted.{notes};
-ghost use Rattle.moss.specs.Packet.{packetOf};
+ghost use Rattle.moss.specs.Blocks.{messagesIn};
+ghost use Rattle.moss.specs.Packet.{gives, packetOf, fillFault};
+ghost use Rattle.moss.specs.Answers.{headersOf};
 ghost use Rattle.output.specs.Output.{Pours, lineLimit};
-ghost use Rattle.gauge.specs.Lines.{notedText, spaced, firstLengths, messagesText, line, Tells};
+ghost use Rattle.gauge.specs.Lines.{notedText, spaced, lengthsIn, lengthsOf, messagesText, line, Tells};
 use gauge_watch::Gauge;
+use moss::Header;
 use moss::Read;
 use stream::Input;
 use stream::Kind;
@@ -36,26 +39,28 @@ fn pour_noted(out: &mut [u8], at: usize, answer: Answer) -> usize
     }
 }
 
-// The lengths of the first messages of a packet, each after a space.
-fn pour_lengths(out: &mut [u8], at: usize, p: &[u8], count: usize) -> usize
-    ensures { λ r. ⌜ Pours (now (out .entry)) at (spaced (firstLengths (packetOf (now (p .entry))) count)) (now (out .exit)) r ⌝ }
+// The lengths of the messages whose blocks lie from a place on, each after a space.
+fn pour_lengths(out: &mut [u8], at: usize, p: &[u8], from: usize) -> usize
+    requires { ⌜ fillFault (messagesIn (drop from (now p))) ≡ 0 ⌝ }
+    ensures { λ r. ⌜ Pours (now (out .entry)) at (spaced (lengthsIn (messagesIn (drop from (now (p .entry)))))) (now (out .exit)) r ⌝ }
 {
     let mut next = at;
-    let mut i: usize = 0;
-    while i < count {
-        let m = moss::message(p, i);
-        next = output::pour_counted(out, next, b" ", m.len() as u64);
-        i += 1;
+    let mut block = from;
+    while block < p.len() {
+        let m = wire::number(p, block, 2);
+        next = output::pour_counted(out, next, b" ", m);
+        block += 2 + m as usize;
     }
     next
 }
 
-fn pour_messages(out: &mut [u8], at: usize, p: &[u8], kind: u8, count: usize) -> usize
-    ensures { λ r. ⌜ Pours (now (out .entry)) at (messagesText kind (firstLengths (packetOf (now (p .entry))) count)) (now (out .exit)) r ⌝ }
+fn pour_messages(out: &mut [u8], at: usize, p: &[u8], header: Header) -> usize
+    requires { ⌜ gives header ≡ headersOf (packetOf (now p)) ⌝ }
+    ensures { λ r. ⌜ Pours (now (out .entry)) at (messagesText (header .kind) (lengthsOf (packetOf (now (p .entry))))) (now (out .exit)) r ⌝ }
 {
-    if kind == moss::U {
+    if header.kind == moss::U {
         let next = output::pour(out, at, b" messages");
-        return pour_lengths(out, next, p, count);
+        return pour_lengths(out, next, p, moss::HEAD);
     }
     at
 }
@@ -73,7 +78,7 @@ fn pour_line(out: &mut [u8], at: usize, n: u64, p: &[u8], answer: Answer) -> usi
     let b = output::pour(out, a, b" ");
     let c = output::pour(out, b, wire::part(p, KIND_AT, 1));
     let d = pour_noted(out, c, answer);
-    let e = pour_messages(out, d, p, header.kind, header.count);
+    let e = pour_messages(out, d, p, header);
     output::pour(out, e, b"\n")
 }
 

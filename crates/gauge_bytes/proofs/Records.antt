@@ -3,13 +3,13 @@ use mathlib.Core.Path.{_≡_, ap, sym, _∙_, subst}
 use mathlib.Core.List.{List, _++_}
 use Prim.Native.Nat.{ℕ, _+_, _^_, _≤_, _<_}
 use native.Mathlib.Omega.{arith}
-use lib.ListN.{length, getD, take, drop, replicate, length-take}
+use lib.ListN.{length, getD, take, drop, replicate}
 use lib.Seq.{take-at, length-take-le}
 use borrow.Author.Tests.{lt-ltb, le-ltb}
 use Rattle.wire.specs.Bytes.{be, Bytes}
 use Rattle.wire.specs.Overlay.{overlay}
 use Rattle.wire.proofs.Overlays.{overlay-eq, overlay-all}
-use Rattle.wire.proofs.Numbers.{be-lt}
+use Rattle.wire.proofs.Numbers.{be-lt, drop-bytes}
 use Rattle.moss.specs.Limits.{sessionLength, maxPacket}
 use Rattle.moss.specs.Packet.{Given, gives, refuses}
 use Rattle.moss_writer.specs.Write.{writes}
@@ -17,7 +17,6 @@ use Rattle.moss_writer.specs.Write.{packetBytes, writtenOf, outputOf, WritesPac
 use Rattle.moss_writer.specs.declared.Written.{Written}
 use Rattle.moss_writer.specs.declared.Written.the-variants as written
 use Rattle.moss_writer.proofs.Plans.{Makes, written-makes}
-use Rattle.moss_writer.proofs.Laying.{bytes-drop}
 use Rattle.moss_writer.proofs.Trips.{packet-length}
 use Rattle.text.specs.Text.{decimal}
 use Rattle.gauge_bytes.specs.Lines.{recordHead, recordBytes, recordAnswer, answerText, line}
@@ -72,6 +71,6 @@ module _ (n : ℕ) (b out out′ session blocks : List ℕ) (sequence : ℕ) (r 
   pub line-bytes : (k : ℕ) → r ≡ written.Bytes k → decimal n ++ answerText (gives k) (take k out′) ≡ line n b
   line-bytes k e =
       let v = subst (λ (x : Written). WritesPacket (take sessionLength b) (be 4 (drop 10 b)) (getD b 14 0) (drop recordHead b) out x out′) e moved in
-      let h : be 4 (drop 10 b) < 2 ^ 32 = omega (arith, be-lt 4 (drop 10 b) (bytes-drop 10 b all)) in
+      let h : be 4 (drop 10 b) < 2 ^ 32 = omega (arith, be-lt 4 (drop 10 b) (drop-bytes b 10 all)) in
       ap (λ (x : List ℕ). decimal n ++ answerText (gives k) x) (record-written b out k out′ whole h (all 14) v)
       ∙ ap (λ (g : Given ℕ). decimal n ++ answerText g (recordBytes b)) (sym (answered ∙ ap writes e))

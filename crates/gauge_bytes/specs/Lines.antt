@@ -1,5 +1,5 @@
 -- The lines of the program `gauge_bytes`, in ASCII, and what they are about. Definitions only.
-use mathlib.Core.List.{List, [], _∷_, _++_}
+use mathlib.Core.List.{List, _++_}
 use Prim.Native.Nat.{ℕ}
 use lib.Dec.{ltb}
 use lib.ListN.{length, getD, take, drop}

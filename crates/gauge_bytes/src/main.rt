@@ -2,7 +2,7 @@
 // sequence, a type byte, and the message blocks as they will lie; a line gives the bytes of each packet, or its refusal.
 ghost use Prim.Native.Nat.{_≤_};
 ghost use mathlib.Core.Path.{_≡_};
-ghost use mathlib.Core.List.{[], _∷_, _++_};
+ghost use mathlib.Core.List.{_++_};
 ghost use lib.ListN.{length, take, drop};
 ghost use Rattle.wire.specs.Text.{ascii};
 ghost use Rattle.wire.specs.Bytes.{be};

@@ -1,25 +1,24 @@
 -- The gauge by its cases. Assumes nothing.
 use mathlib.Core.Path.{_≡_, refl, ap, sym, _∙_}
-use mathlib.Core.Bool.{Bool, true, false, _&&_}
+use mathlib.Core.Bool.{true, false}
 use mathlib.Core.List.{List}
-use Prim.Native.Nat.{ℕ, zero, suc, _+_, _-_, _%_, _^_, _≤_, _<_}
+use Prim.Native.Nat.{ℕ}
 use native.Mathlib.Omega.{arith}
 use lib.ListN.{length, take, drop, replicate, length-drop}
-use Rattle.wire.specs.Choice.{pick}
 use Rattle.wire.specs.Same.{same}
 use Rattle.wire.specs.Overlay.{overlay}
 use Rattle.wire.proofs.Choices.{and-false}
 use Rattle.wire.proofs.Overlays.{overlay-all}
-use Rattle.watch.specs.Noted.{Noted, first}
+use Rattle.watch.specs.Noted.{first}
 use Rattle.watch.specs.Difference.{difference, told}
 use Rattle.watch.specs.Watching.{moves}
-use Rattle.moss.specs.Limits.{sessionLength, headLength}
+use Rattle.moss.specs.Limits.{sessionLength}
 use Rattle.moss.specs.Packet.{Given, gives, refuses, Packet, sessionPlace, sessionIn, packetOf}
 use Rattle.moss.specs.Answers.{headerOf, headersOf}
 use Rattle.moss.specs.declared.Header.{Header}
-use Rattle.moss.proofs.Packets.{Good, packet-good}
+use Rattle.moss.proofs.Packets.{packet-good}
 use Rattle.gauge_watch.specs.declared.Gauge.{Gauge}
-use Rattle.gauge_watch.specs.Heard.{goesOn, notedOf, movedTo, asked, after}
+use Rattle.gauge_watch.specs.Heard.{notedOf, movedTo, after}
 
 -- the packet of a header
 pub record Headed (g : Given Packet) (h : Header) : Type 0 where

@@ -2,7 +2,7 @@
 use mathlib.Core.Path.{_≡_, refl, ap, sym, _∙_, subst}
 use mathlib.Core.Bool.{true}
 use mathlib.Core.List.{List, [], _∷_, map}
-use Prim.Native.Nat.{ℕ, zero, suc, _+_, _-_, _%_, _^_, _≤_, _<_}
+use Prim.Native.Nat.{ℕ, zero, suc, _+_, _%_, _^_}
 use native.Mathlib.Omega.{arith}
 use lib.ListN.{length, replicate}
 use Rattle.wire.specs.Same.{same}
@@ -12,12 +12,12 @@ use Rattle.watch.specs.Noted.{Noted, first, forward, restarted}
 use Rattle.watch.specs.Watching.{moves}
 use Rattle.watch.specs.Difference.{difference, told}
 use Rattle.watch.proofs.Tells.{restarted-number}
-use Rattle.watch.proofs.Runs.{step-told, forward-distance}
-use Rattle.moss.specs.Packet.{Given, gives, refuses, Packet, packetOf}
+use Rattle.watch.proofs.Runs.{step-told, forward-distance, cons-eq}
+use Rattle.moss.specs.Packet.{gives, Packet, packetOf}
 use Rattle.gauge_watch.specs.declared.Gauge.{Gauge}
-use Rattle.gauge_watch.specs.Heard.{silent, notedOf, movedTo, asked, after}
+use Rattle.gauge_watch.specs.Heard.{notedOf, movedTo, asked, after}
 use Rattle.gauge_watch.specs.Runs.{notedAll, Expects, Follows, nextAfter, LeavesOut, done, next, Carries, none, more}
-use Rattle.gauge_watch.proofs.Hears.{noted-silent, noted-other, noted-same, after-moves}
+use Rattle.gauge_watch.proofs.Hears.{noted-same, after-moves}
 
 -- ---- one packet
 
@@ -96,9 +96,6 @@ from-first g b p xs bs r n l = from-moved g b p first xs bs r n refl l
 pub from-restart : (g : Gauge) (b : List ℕ) (p : Packet) (m : ℕ) (xs : List ℕ) (bs : List (List ℕ)) → packetOf b ≡ gives p → notedOf g p ≡ restarted m
     → LeavesOut (p .session) (nextAfter p) xs bs → notedAll g (b ∷ bs) ≡ restarted m ∷ map forward xs
 from-restart g b p m xs bs r n l = from-moved g b p (restarted m) xs bs r n refl l
-
-cons-eq : {x : Noted} {a b : List Noted} {y : Noted} → _≡_ {A = List Noted} (x ∷ a) (y ∷ b) → (x ≡ y) × (a ≡ b)
-cons-eq e = (cc, cc)
 
 -- Over any run of Forwards what is missing and what is carried add up to the way from the number first expected to the last one.
 pub run-missing : (g : Gauge) (s : List ℕ) (e : ℕ) (bs : List (List ℕ)) (n final : ℕ) (missing : List ℕ) → Expects g s e → Carries s e bs n final

@@ -12,7 +12,8 @@ use Rattle.datagram.proofs.Places.{accepted-good}
 use Rattle.cutter.specs.Cut.{Answer, says, cutOutput, datagramOf, CutTo}
 use Rattle.cutter.specs.declared.Cut.{Cut}
 use Rattle.host.specs.Code.{codeOf, CutTold}
-use Rattle.host.specs.Fields.{PlacesFit, Told}
+use Rattle.host.specs.Fields.{Told}
+use Rattle.host.specs.Inside.{PlacesFit}
 
 pub places-fit : (C N : ℕ) (d : List ℕ) (h : Header) → readDatagram C N d ≡ Good h → PlacesFit h
 places-fit C N d h e =

@@ -2,7 +2,7 @@
 use mathlib.Core.Path.{_≡_, refl, sym, ap, _∙_, subst}
 use mathlib.Core.Bool.{Bool, true, false}
 use mathlib.Core.List.{List}
-use Prim.Native.Nat.{ℕ, _+_, _-_, _*_, _/_, _^_, _≤_, _<_}
+use Prim.Native.Nat.{ℕ, _+_, _-_, _^_, _<_}
 use native.Mathlib.Omega.{arith}
 use lib.Dec.{ltb}
 use lib.ListN.{length}
@@ -15,7 +15,8 @@ use Rattle.log.specs.Entries.{Entry, entryBytes}
 use Rattle.log_append.specs.Writes.{Answer, wrote, refused, says, fitted, beginAnswer, appendAnswer, output, Began, Appended}
 use Rattle.log_append.specs.declared.Written.{Written}
 use Rattle.log_append.proofs.Writing.{entry-most, seven-most}
-use Rattle.host.specs.Flight.{lengthCode, Spans, BeginTold, AppendTold, logLength}
+use Rattle.host.specs.Flight.{lengthCode, BeginTold, AppendTold, logLength}
+use Rattle.host.specs.Inside.{Spans}
 
 spans-fitted : (n at : ℕ) (b : List ℕ) → length b < 2 ^ 32 → Spans at (fitted n at b)
 spans-fitted n at b h = by-test (ltb n (at + length b))

@@ -2,7 +2,7 @@
 use mathlib.Core.Path.{_≡_}
 use mathlib.Core.Bool.{Bool}
 use mathlib.Core.List.{List, [], _∷_}
-use Prim.Native.Nat.{ℕ, _^_, _<_}
+use Prim.Native.Nat.{ℕ}
 use lib.Dec.{ltb}
 use lib.ListN.{length}
 use Rattle.wire.specs.Choice.{pick}
@@ -47,10 +47,3 @@ toldFields (Good h) list = pick (ltb (length list) fieldCount) list (overlay lis
 pub record Told (r : Read) (list : List ℕ) (answer : ℕ) (list′ : List ℕ) : Type 0 where
   pub gave : answer ≡ toldAnswer r list
   pub left : list′ ≡ toldFields r list
-
--- places that fit a field of 32 bits
-pub record PlacesFit (h : Header) : Type 0 where
-  pub name-at : h .name .at < 2 ^ 32
-  pub name-len : h .name .len < 2 ^ 32
-  pub payload-at : h .payload .at < 2 ^ 32
-  pub payload-len : h .payload .len < 2 ^ 32

@@ -1,7 +1,7 @@
 -- What the C host is told when it keeps a flight, in one number, and what the header's macro takes from it. Definitions only.
 use mathlib.Core.Path.{_≡_}
 use mathlib.Core.List.{List}
-use Prim.Native.Nat.{ℕ, _-_, _*_, _/_, _^_, _≤_, _<_}
+use Prim.Native.Nat.{ℕ, _-_, _*_, _/_, _^_}
 use lib.ListN.{length}
 use Rattle.log.specs.Editions.{edition2, headBytes}
 use Rattle.log.specs.Entries.{Entry, entryBytes}
@@ -11,11 +11,6 @@ use Rattle.log_append.specs.Writes.{Answer, wrote, refused, beginAnswer, append
 abbrev pub lengthCode : ℕ → Answer → ℕ
 lengthCode at (wrote next) = (next - at) * 2 ^ 32
 lengthCode at (refused n) = n
-
--- what was written at the place has a length of 32 bits
-abbrev pub Spans : ℕ → Answer → Type 0
-Spans at (wrote next) = (at ≤ next) × (next - at < 2 ^ 32)
-Spans at (refused n) = Unit
 
 pub record BeginTold (out : List ℕ) (limit answer : ℕ) (out′ : List ℕ) : Type 0 where
   pub gave : answer ≡ lengthCode 0 (beginAnswer (length out) limit)

@@ -2,7 +2,8 @@
 ghost use mathlib.Core.Path.{_≡_};
 ghost use Rattle.log.specs.Entries.{entryOf};
 ghost use Rattle.log_append.specs.Writes.{says};
-ghost use Rattle.host.specs.Flight.{lengthCode, Spans, BeginTold, AppendTold};
+ghost use Rattle.host.specs.Flight.{lengthCode, BeginTold, AppendTold};
+ghost use Rattle.host.specs.Inside.{Spans};
 use log_append::Written;
 
 // How many bytes were written at a place, times 2^32, or the number of the refusal.

@@ -7,7 +7,8 @@ ghost use Prim.Native.Nat.{_%_, _^_};
 ghost use Rattle.wire.specs.Sum.{sum};
 ghost use Rattle.datagram.specs.Limits.{maxPayload, maxFragments};
 ghost use Rattle.datagram.specs.Read.{readDatagram};
-ghost use Rattle.host.specs.Fields.{kindOf, PlacesFit, Told};
+ghost use Rattle.host.specs.Fields.{kindOf, Told};
+ghost use Rattle.host.specs.Inside.{PlacesFit};
 ghost use Rattle.host.specs.Code.{CutTold};
 
 mod flight;

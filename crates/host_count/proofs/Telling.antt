@@ -1,20 +1,18 @@
 -- Both ways in which a count is told; no second answer. Assumes nothing.
 use mathlib.Core.Path.{_≡_, refl, sym, ap, _∙_}
-use mathlib.Core.Bool.{Bool, true, false}
 use mathlib.Core.List.{List}
 use Prim.Native.Nat.{ℕ, _≤_, _<_}
 use lib.ListN.{length}
 use borrow.Author.Tests.{lt-ltb, le-ltb}
-use Rattle.wire.specs.Choice.{pick}
 use Rattle.wire.specs.Overlay.{overlay}
-use Rattle.count_rules.specs.Count.{Outcome, reported, noReport, countLog}
+use Rattle.count_rules.specs.Count.{Outcome, reported, noReport}
 use Rattle.count.specs.declared.Answer.{Answer}
 use Rattle.count.specs.declared.Answer.the-variants.{Given, Refused}
 use Rattle.count.specs.declared.Counted.{Counted}
 use Rattle.count.specs.declared.Report.{Report}
 use Rattle.count.specs.Counts.{counted, Loan, loan, Counts}
 use Rattle.host_count.specs.Numbers.{reportLength, numbersOf}
-use Rattle.host_count.specs.Told.{codeOf, reportLeft, short, CountTold}
+use Rattle.host_count.specs.Told.{codeOf, reportLeft, CountTold}
 
 -- what the code answers and writes, by the struct
 abbrev pub codeBy : Answer → ℕ

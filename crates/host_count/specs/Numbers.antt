@@ -1,6 +1,6 @@
 -- A report as the C host is told it: a run of numbers, in the order of the header. Definitions only.
 use mathlib.Core.List.{List, [], _∷_, _++_}
-use Prim.Native.Nat.{ℕ, _+_, _*_}
+use Prim.Native.Nat.{ℕ}
 use Rattle.count.specs.declared.Report.{Report}
 
 -- entries and the three answers, ten refusals, lists and tiles, and three numbers of each of 256 tiles

@@ -1,6 +1,6 @@
 -- The watch in lent lists: what is read from them, what is written, that an answer which moves nothing writes nothing; no second answer. Assumes nothing.
 use mathlib.Core.Path.{_≡_, refl, sym, ap, _∙_}
-use mathlib.Core.Bool.{Bool, true, false, _||_}
+use mathlib.Core.Bool.{Bool, true, false, or-true}
 use mathlib.Core.List.{List, [], _∷_}
 use Prim.Native.Nat.{ℕ, zero, suc, _+_, _*_, _^_, _≤_, _<_}
 use native.Mathlib.Omega.{arith}
@@ -20,14 +20,6 @@ use Rattle.host_flight.specs.Watches.{watchIn, notedCode, lacking, sende
 
 -- ---- lists
 
--- a whole list is written over
-pub overlay-whole : (d s : List ℕ) → length s ≡ length d → overlay d 0 s ≡ s
-unfolding overlay
-overlay-whole [] [] e = refl
-overlay-whole [] (y ∷ s) e = absurd (omega arith)
-overlay-whole (x ∷ d) [] e = absurd (omega arith)
-overlay-whole (x ∷ d) (y ∷ s) e = ap (λ (l : List ℕ). y ∷ l) (overlay-whole d s (omega arith))
-
 -- a list's own start written over it leaves it
 overlay-own : (d : List ℕ) (n : ℕ) → overlay d 0 (take n d) ≡ d
 unfolding overlay
@@ -37,10 +29,6 @@ overlay-own (x ∷ d) zero = refl
 overlay-own (x ∷ d) (suc n) = ap (λ (l : List ℕ). x ∷ l) (overlay-own d n)
 
 -- ---- whether there is room
-
-or-true : (b : Bool) → (b || true) ≡ true
-or-true true = refl
-or-true false = refl
 
 pub lacks-senders : (senders lasts : List ℕ) → length senders < 1 + maxSenders → lacking senders lasts ≡ true
 lacks-senders senders lasts h = rw (lt-ltb (length senders) (1 + maxSenders) h)

@@ -11,7 +11,8 @@ use Rattle.steps.specs.declared.Answer.{Answer}
 use Rattle.steps.specs.declared.Answer.the-variants.{Refused, Kept, Repeat, Delivered}
 use Rattle.receiver.specs.declared.Outcome.{Outcome}
 use Rattle.wire.specs.Slices.{Buffer}
-use Rattle.host_receiver.specs.Outcomes.{placeNumbers, answerNumbers, outcomeNumbers, answerCode, unlessRefused, Writes, Tells}
+use Rattle.host_receiver.specs.Outcomes.{placeNumbers, answerNumbers, outcomeNumbers, answerCode, unlessRefused, Tells}
+use Rattle.host_receiver.specs.Inside.{Writes}
 
 place-four : (p : PayloadAt) (len : ℕ) → length (placeNumbers p len) ≡ 4
 place-four (InDatagram at) len = refl

@@ -1,2 +1,3 @@
 pub mod Outcomes
+pub mod Inside
 pub mod Calls

@@ -2,7 +2,6 @@
 use mathlib.Core.Path.{_≡_}
 use mathlib.Core.List.{List, [], _∷_, _++_}
 use Prim.Native.Nat.{ℕ}
-use lib.ListN.{length}
 use Rattle.wire.specs.Overlay.{overlay}
 use Rattle.steps.specs.declared.PayloadAt.{PayloadAt}
 use Rattle.steps.specs.declared.PayloadAt.the-variants.{InDatagram, InStore}
@@ -46,12 +45,6 @@ unlessRefused (Refused n) lent new = lent
 unlessRefused Kept lent new = new
 unlessRefused Repeat lent new = new
 unlessRefused (Delivered place len) lent new = new
-
--- the numbers and the name at the start of what was lent, whatever the answer
-pub record Writes (o : Outcome) (told name : Buffer) (answer : ℕ) : Type 0 where
-  pub gave : answer ≡ 0
-  pub numbers : told .after ≡ overlay (told .before) 0 (outcomeNumbers o)
-  pub bytes : name .after ≡ overlay (name .before) 0 (o .name)
 
 -- as the answer has it
 pub record Tells (o : Outcome) (told name : Buffer) (answer : ℕ) : Type 0 where

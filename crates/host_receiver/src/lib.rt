@@ -7,7 +7,8 @@ use steps::PayloadAt;
 ghost use mathlib.Core.Path.{_≡_};
 ghost use Rattle.receiver.specs.Lent.{lentBefore, lentAfter};
 ghost use Rattle.wire.specs.Slices.{buffer};
-ghost use Rattle.host_receiver.specs.Outcomes.{placeNumbers, answerNumbers, emptiedNumbers, Writes, Tells};
+ghost use Rattle.host_receiver.specs.Outcomes.{placeNumbers, answerNumbers, emptiedNumbers, Tells};
+ghost use Rattle.host_receiver.specs.Inside.{Writes};
 ghost use Rattle.host_receiver.specs.Calls.{lacking, ReceiveTold, WithinTold};
 
 // A delivered message: where its payload is, and how long.

@@ -1,20 +1,17 @@
 -- Counted, judged and then entered. Assumes nothing.
 use mathlib.Core.Path.{_≡_, refl, sym, ap, subst, _∙_}
-use mathlib.Core.Bool.{Bool, true, false, _||_}
-use mathlib.Core.List.{List, [], _∷_, _++_}
-use Prim.Native.Nat.{ℕ, _+_, _-_, _*_, _≤_, _<_}
+use mathlib.Core.Bool.{Bool, true, false}
+use mathlib.Core.List.{List, []}
+use Prim.Native.Nat.{ℕ, _+_, _*_, _≤_}
 use native.Mathlib.Omega.{arith}
 use lib.Dec.{ltb}
 use lib.ListN.{length, take}
 use borrow.Author.Tests.{ltb-false}
-use Rattle.wire.specs.Choice.{pick}
-use Rattle.wire.specs.Overlay.{overlay}
 use Rattle.wire.specs.Taken.{Taken, taken, refused}
 use Rattle.wire.proofs.Choices.{or-l, or-r}
 use Rattle.log.specs.Editions.{Edition, headIn, limitsOf}
 use Rattle.log.specs.Told.{firstOf, firstIn}
 use Rattle.log.specs.declared.reader.Limits.{Limits}
-use Rattle.log.specs.declared.reader.First.{First}
 use Rattle.log.specs.declared.reader.First.the-variants as first
 use Rattle.log_index.specs.Limits.{maxIndex, batchRows}
 use Rattle.log_index.specs.Rows.{Row, sorted}
@@ -24,7 +21,7 @@ use Rattle.log_index.proofs.Batches.{added-fresh}
 use Rattle.index_builder.specs.declared.Indexed.{Indexed}
 use Rattle.index_builder.specs.declared.Indexed.the-variants.{Entries, Refused}
 use Rattle.index_builder.specs.Adds.{says, indexWords, extendedWords, Indexes, Adds}
-use Rattle.index_builder.specs.Walk.{totalOf, Walked}
+use Rattle.index_builder.specs.InsideWalk.{Walked}
 
 -- ---- room
 

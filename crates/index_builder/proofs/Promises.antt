@@ -1,9 +1,8 @@
 -- What the index promises: extended, it is the index worked out afresh; a key is found where the log first has it. Assumes nothing.
-use mathlib.Core.Path.{_≡_, refl, sym, ap, subst, _∙_}
+use mathlib.Core.Path.{_≡_, refl, sym, ap, _∙_}
 use mathlib.Core.Logic.{inl, inr}
 use mathlib.Core.Bool.{Bool, true, false}
-use mathlib.Core.Option.{Option}
-use mathlib.Core.List.{List, [], _∷_, _++_}
+use mathlib.Core.List.{List, _++_}
 use Prim.Native.Nat.{ℕ, _+_, _*_, _≤_}
 use native.Mathlib.Omega.{arith}
 use lib.ListN.{length, take, drop, length-append, length-take, take-append-drop}
@@ -12,7 +11,7 @@ use Rattle.wire.specs.Choice.{pick}
 use Rattle.wire.specs.Overlay.{overlay}
 use Rattle.wire.proofs.Choices.{either}
 use Rattle.wire.proofs.Overlays.{overlay-at}
-use Rattle.log_index.specs.Rows.{Row, sorted, firstOf}
+use Rattle.log_index.specs.Rows.{Row, sorted}
 use Rattle.log_index.specs.Index.{Gathered, gathered, stopped, rowsIn, rowsAdded, firstTo, firstEntry, Answer, holds, refuses, noRoom, answerOf}
 use Rattle.log_index.specs.Words.{wordsOf, foundIn}
 use Rattle.log_index.proofs.Gathers.{ahead}
@@ -23,7 +22,7 @@ use Rattle.log_index.proofs.Batches.{added-fresh}
 use Rattle.log_index.proofs.Looks.{found-first}
 use Rattle.index_builder.specs.declared.Indexed.{Indexed}
 use Rattle.index_builder.specs.declared.Indexed.the-variants.{Entries, Refused}
-use Rattle.index_builder.specs.Adds.{says, indexWords, extendedWords, IndexOf, Indexes, Adds, Extends}
+use Rattle.index_builder.specs.Adds.{says, indexWords, extendedWords, IndexOf, Indexes, Extends}
 use Rattle.index_builder.proofs.Answers.{room-for, answer-full, answer-holds}
 
 -- ---- extended

@@ -2,8 +2,8 @@
 use mathlib.Core.Path.{_≡_, refl, sym, ap, _∙_}
 use mathlib.Core.Logic.{inl, inr}
 use mathlib.Core.Bool.{true}
-use mathlib.Core.List.{List, [], _∷_, _++_, append-nil}
-use Prim.Native.Nat.{ℕ, suc, _+_, _-_, _*_, _/_, _≤_, _<_}
+use mathlib.Core.List.{List, [], _++_, append-nil}
+use Prim.Native.Nat.{ℕ, _+_, _-_, _*_, _/_, _≤_, _<_}
 use native.Mathlib.Omega.{arith}
 use native.Mathlib.Decide.{decLe}
 use lib.Dec.{ltb}
@@ -16,8 +16,8 @@ use Rattle.datagram.specs.declared.Read.the-variants.{Good, Refused}
 use Rattle.datagram.specs.declared.Header.{Header}
 use Rattle.log_index.specs.Limits.{maxIndex, batchRows}
 use Rattle.log_index.specs.Rows.{Row, rowOf, sorted}
-use Rattle.log_index.specs.Index.{rowFor, Gathered, gathered, stopped, Answer, holds, refuses, noRoom}
-use Rattle.log_index.specs.Words.{wordsOf, rankIn, inserted, entered, enteredAll, merged, mergedRows, added}
+use Rattle.log_index.specs.Index.{rowFor, Gathered, gathered, stopped, holds, refuses, noRoom}
+use Rattle.log_index.specs.Words.{wordsOf, rankIn, entered, enteredAll, merged, mergedRows, added}
 use Rattle.log_index.proofs.Sorts.{sorted-length}
 use Rattle.log_index.proofs.Wordings.{words-length}
 use Rattle.log_index.proofs.Fresh.{entered-sorted}
@@ -26,7 +26,8 @@ use Rattle.log_index.proofs.Moves.{inserted-length}
 use Rattle.log_index.proofs.Gathers.{ahead}
 use Rattle.log_index.proofs.Added.{ahead-none, ahead-both}
 use Rattle.index_builder.specs.declared.Indexed.{Indexed}
-use Rattle.index_builder.specs.Walk.{totalOf, Walked, Settles, Finishes, Takes}
+use Rattle.index_builder.specs.Walk.{totalOf, Settles, Takes}
+use Rattle.index_builder.specs.InsideWalk.{Walked, Finishes}
 
 -- ---- the words stay as many
 

@@ -1,25 +1,17 @@
 -- What the walk hands on: for the contracts of private functions only. Definitions only.
 use mathlib.Core.Path.{_≡_}
 use mathlib.Core.List.{List}
-use Prim.Native.Nat.{ℕ, _+_, _*_, _≤_, _<_}
+use Prim.Native.Nat.{ℕ, _+_, _≤_, _<_}
 use lib.ListN.{length}
 use Rattle.log_index.specs.Limits.{batchRows}
 use Rattle.log_index.specs.Rows.{Row}
 use Rattle.log_index.specs.Index.{Gathered, gathered, stopped, Answer, holds, refuses}
-use Rattle.log_index.specs.Words.{enteredAll, merged, added}
-use Rattle.index_builder.specs.declared.Indexed.{Indexed}
-use Rattle.index_builder.specs.Adds.{says}
+use Rattle.log_index.specs.Words.{enteredAll, merged}
 
 -- how many rows there are then
 abbrev pub totalOf : ℕ → Gathered → Answer
 totalOf n (gathered rs) = holds (n + length rs)
 totalOf n (stopped k) = refuses k
-
--- with so many words for a batch
-pub record Walked (g : Gathered) (w : List ℕ) (n room : ℕ) (r : Indexed) (w′ : List ℕ) : Type 0 where
-  pub answer : says r ≡ totalOf n g
-  pub size : length w′ ≡ length w
-  pub words : 3 * batchRows ≤ room → (rs : List Row) → g ≡ gathered rs → w′ ≡ added w n rs
 
 -- a full batch is merged, and one that is not waits
 pub record Settles (w : List ℕ) (n : ℕ) (batch : List ℕ) (m rows waiting : ℕ) (w′ : List ℕ) : Type 0 where
@@ -27,12 +19,6 @@ pub record Settles (w : List ℕ) (n : ℕ) (batch : List ℕ) (m rows waiting :
   pub size : length w′ ≡ length w
   pub waits : m < batchRows → (waiting ≡ m) × (w′ ≡ w)
   pub settles : batchRows ≤ m → (waiting ≡ 0) × (w′ ≡ merged w n batch m)
-
--- the last batch is merged
-pub record Finishes (w : List ℕ) (n : ℕ) (batch : List ℕ) (m : ℕ) (r : Indexed) (w′ : List ℕ) : Type 0 where
-  pub answer : says r ≡ holds (n + m)
-  pub size : length w′ ≡ length w
-  pub words : w′ ≡ merged w n batch m
 
 -- some rows, at most one, entered
 pub record Takes (rs : List Row) (w : List ℕ) (n : ℕ) (r : ℕ) (w′ : List ℕ) : Type 0 where

@@ -1,15 +1,14 @@
 // The index of a log: worked out afresh, or extended by the entries that were added. The log is gone over first to count and judge, and then to
 // enter, so that a refusal leaves the index.
 ghost use mathlib.Core.Path.{_≡_};
-ghost use mathlib.Core.Bool.{_||_};
-ghost use Prim.Native.Nat.{_+_, _*_, _^_, _≤_, _<_};
-ghost use lib.Dec.{ltb};
+ghost use Prim.Native.Nat.{_+_, _^_, _≤_, _<_};
 ghost use lib.ListN.{length};
 ghost use Rattle.datagram.specs.Read.{readDatagram};
 ghost use Rattle.log_index.specs.Limits.{maxIndex};
 ghost use Rattle.log_index.specs.Index.{rowFor, rowsFrom, noRoom};
 ghost use Rattle.index_builder.specs.Adds.{Indexes, Adds, Extends};
-ghost use Rattle.index_builder.specs.Walk.{Walked, Settles, Finishes, Takes};
+ghost use Rattle.index_builder.specs.Walk.{Settles, Takes};
+ghost use Rattle.index_builder.specs.InsideWalk.{Walked, Finishes};
 use datagram::Read;
 use log::First;
 use log::Limits;

@@ -1,6 +1,6 @@
 -- The lines of the programs over an index, in ASCII. Definitions only.
 use mathlib.Core.Option.{Option, none, some}
-use mathlib.Core.List.{List, [], _∷_, _++_}
+use mathlib.Core.List.{List, _++_}
 use Prim.Native.Nat.{ℕ}
 use Rattle.wire.specs.Text.{ascii}
 use Rattle.text.specs.Text.{decimal}

@@ -1,5 +1,4 @@
 // What the programs over an index share: their lines.
-ghost use mathlib.Core.Path.{_≡_};
 ghost use Rattle.output.specs.Output.{Pours};
 ghost use Rattle.log_index.specs.Rows.{rowOf};
 ghost use Rattle.log_index.specs.Words.{says};

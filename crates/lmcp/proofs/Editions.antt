@@ -1,27 +1,26 @@
 -- The round trips of number lists, in either version, from those over any table; the old reader answers 24 to version 2. Assumes nothing.
 use mathlib.Core.Path.{_≡_, refl, ap, sym, _∙_, subst}
 use mathlib.Core.Bool.{Bool, true, false, _||_}
-use mathlib.Core.List.{List, [], _∷_, _++_}
-use Prim.Native.Nat.{ℕ, _+_, _^_, _≤_, _<_}
+use mathlib.Core.List.{List, [], _∷_}
+use Prim.Native.Nat.{ℕ, _^_, _<_}
 use native.Mathlib.Omega.{arith}
-use lib.Dec.{ltb, eqb, lit<}
+use lib.Dec.{eqb, lit<}
 use lib.IntN.{ℤ, pos, negsuc}
-use lib.ListN.{length, drop}
+use lib.ListN.{drop}
 use lib.Seq.{drop-drop}
 use lib.Signed.{mag}
-use borrow.Author.Tests.{eqb-true, eqb-false, ltb-false, le-ltb, ne-eqb}
+use borrow.Author.Tests.{eqb-true, ne-eqb}
 use Rattle.wire.specs.Choice.{pick}
 use Rattle.wire.specs.Bytes.{be, Bytes}
 use Rattle.wire.proofs.Choices.{never, and-false}
 use Rattle.lmcp.specs.Limits.{deepest}
 use Rattle.lmcp.specs.Run.{got, refused, tag, bad, prepend, whole}
-use Rattle.lmcp.specs.Table.{Table, Sound, pitsurv}
+use Rattle.lmcp.specs.Table.{Table, pitsurv}
 use Rattle.lmcp.specs.Walk.{root, object, isNull}
-use Rattle.lmcp.specs.Read.{Read, reading, known, readHeader, readHead}
-use Rattle.lmcp.specs.Write.{Write}
+use Rattle.lmcp.specs.Read.{reading, known, readHeader, readHead}
 use Rattle.lmcp.specs.Message.{rootOf, frame, readMessage, choice, writeMessage}
 use Rattle.lmcp.specs.Lists.{versionOf, readAs, readList, isVersion, writeList}
-use Rattle.lmcp.proofs.Undo.{got-unless, got-where, tag-unless, tag-where, tag-number, not-refused, followed, prepended}
+use Rattle.lmcp.proofs.Undo.{got-unless, got-where, not-refused, followed, prepended}
 use Rattle.lmcp.proofs.Goes.{inside, object-is, root-stops}
 use Rattle.lmcp.proofs.Heads.{known-version, Headed, read-headed}
 use Rattle.lmcp.proofs.Trips.{whole-got, write-read, read-write}

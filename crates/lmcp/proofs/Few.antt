@@ -1,21 +1,19 @@
 -- A count is no promise of work: every element takes at least one byte, so an array holds no more elements than bytes are left, whatever its count
 -- says, and a walk ends at the first refusal. Assumes nothing.
-use mathlib.Core.Path.{_≡_, refl, ap, sym, _∙_, subst}
-use mathlib.Core.Bool.{Bool, true, false}
-use mathlib.Core.List.{List, [], _∷_, _++_}
-use Prim.Native.Nat.{ℕ, zero, suc, _+_, _-_, _≤_, _<_}
+use mathlib.Core.Path.{_≡_, subst}
+use mathlib.Core.List.{List, [], _∷_}
+use Prim.Native.Nat.{ℕ, zero, suc, _+_, _≤_}
 use native.Mathlib.Omega.{arith}
 use lib.Dec.{ltb, eqb}
-use lib.IntN.{ℤ, pos}
+use lib.IntN.{ℤ}
 use lib.ListN.{length, drop, length-drop}
 use borrow.Author.Tests.{ltb-false, eqb-false}
-use Rattle.wire.specs.Choice.{pick}
 use Rattle.wire.specs.Bytes.{be}
 use Rattle.wire.proofs.Choices.{pick-all}
 use Rattle.lmcp.specs.declared.Row.{Row}
 use Rattle.lmcp.specs.Run.{got, refused, Tag, tag, bad, prepend, andThen, after, repeat}
 use Rattle.lmcp.specs.Table.{objectKind, Table, RowFits, RowsFit, fieldsOf, rowsOf}
-use Rattle.lmcp.specs.Value.{fault, numberOf}
+use Rattle.lmcp.specs.Value.{fault}
 use Rattle.lmcp.specs.Read.{Read, reading, judged, readValue, readCount, known, readHeader, readHead}
 use Rattle.lmcp.specs.Walk.{item, field, fields, object}
 use Rattle.lmcp.proofs.Tables.{fields-fit}

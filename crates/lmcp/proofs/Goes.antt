@@ -1,12 +1,11 @@
 -- How a walk goes on, in places: each step of the code is one of these, for the reader and the writer. Assumes nothing.
 use mathlib.Core.Path.{_≡_, refl, ap, sym, _∙_, subst}
-use mathlib.Core.Bool.{Bool, true, false}
+use mathlib.Core.Bool.{false}
 use mathlib.Core.List.{List, [], _∷_, _++_, append-assoc, append-nil}
 use Prim.Native.Nat.{ℕ, zero, suc, _+_, _-_, _≤_, _<_}
 use native.Mathlib.Nat.{add-zero, le-antisymm}
 use native.Mathlib.Numerals.{add-one}
 use native.Mathlib.Omega.{arith}
-use lib.Dec.{eqb}
 use lib.ListN.{length, drop, set, getD, length-append, length-drop, drop-of-length-le}
 use lib.Seq.{sets, slice, slice-cons, slice-empty}
 use borrow.Author.Tests.{eq-eqb, ne-eqb}
@@ -17,7 +16,7 @@ use Rattle.lmcp.specs.declared.Went.the-variants.{To, Stopped}
 use Rattle.lmcp.specs.declared.Mark.{Mark}
 use Rattle.lmcp.specs.declared.Mark.the-variants.{Of, Bad}
 use Rattle.lmcp.specs.Run.{Run, got, refused, Tag, tag, bad, prepend, andThen, after, repeat, whole}
-use Rattle.lmcp.specs.Table.{objectKind, Table, RowFits, fieldsOf, rowsOf, startsOf, nothing}
+use Rattle.lmcp.specs.Table.{objectKind, Table, fieldsOf, nothing}
 use Rattle.lmcp.specs.Walk.{Way, item, field, fields, isNull, object, root}
 use Rattle.lmcp.specs.Ends.{Sofar, EndsBy, Marked, MarksBy}
 

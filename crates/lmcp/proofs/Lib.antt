@@ -1,4 +1,5 @@
 pub mod Answers
+pub mod Codes
 pub mod Editions
 pub mod Few
 pub mod Goes
@@ -8,6 +9,7 @@ pub mod Makes
 pub mod Never
 pub mod Once
 pub mod Pitsurv
+pub mod Rows
 pub mod Sizes
 pub mod Spells
 pub mod Tables
@@ -15,4 +17,5 @@ pub mod Trips
 pub mod Types
 pub mod Undo
 pub mod Values
+pub mod Widths
 pub mod Works

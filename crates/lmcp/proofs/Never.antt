@@ -1,30 +1,30 @@
 -- The sum that is never zero: the bytes "LMCP" alone sum to 300, and no message within the whole-length limit sums to 2 ^ 32. Assumes nothing.
-use mathlib.Core.Path.{_≡_, refl, ap, sym, _∙_, subst}
+use mathlib.Core.Path.{_≡_, refl, ap, _∙_, subst}
 use mathlib.Core.Bool.{Bool, true, false, not}
 use mathlib.Core.List.{List, [], _∷_, _++_}
 use Prim.Native.Nat.{ℕ, zero, suc, _+_, _*_, _/_, _%_, _^_, _≤_, _<_}
 use native.Mathlib.Omega.{arith}
-use lib.Dec.{ltb, eqb, lit<}
+use lib.Dec.{eqb, lit<}
 use lib.IntN.{ℤ}
 use lib.Signed.{mag}
-use lib.ListN.{length, getD, length-append}
-use borrow.Author.Tests.{ltb-false, ne-eqb}
+use lib.ListN.{length}
+use borrow.Author.Tests.{ne-eqb}
 use Rattle.wire.specs.Choice.{pick}
-use Rattle.wire.specs.Bytes.{be, bytes, Bytes}
+use Rattle.wire.specs.Bytes.{bytes, Bytes}
 use Rattle.wire.specs.Signed.{unsigned}
 use Rattle.wire.specs.Sum.{sum}
 use Rattle.wire.proofs.Choices.{pick-all}
 use Rattle.wire.proofs.Numbers.{length-bytes}
 use Rattle.wire.proofs.Sums.{sum-append}
 use Rattle.lmcp.specs.Limits.{maxMessage, SumsBelow, magic, series}
-use Rattle.lmcp.specs.Run.{Run, got, refused, tag, bad, whole}
-use Rattle.lmcp.specs.Table.{charKind, Table}
+use Rattle.lmcp.specs.Run.{got, whole}
+use Rattle.lmcp.specs.Table.{Table}
 use Rattle.lmcp.specs.Walk.{root}
-use Rattle.lmcp.specs.Value.{below, fits, denial}
+use Rattle.lmcp.specs.Value.{below, fits}
 use Rattle.lmcp.specs.Write.{Write, writeValue, writeCount, header, typedBy, writeHead, writing}
 use Rattle.lmcp.specs.Message.{checksumOf, stored, choice, headOn, messageOn, writeMessage}
-use Rattle.lmcp.proofs.Makes.{Fine, FineTag, Pieces, fine-root}
-use Rattle.lmcp.proofs.Trips.{whole-got, message, stored-is, Framed, framed-got, framed-sum}
+use Rattle.lmcp.proofs.Makes.{Fine, FineTag, fine-root}
+use Rattle.lmcp.proofs.Trips.{whole-got, message, stored-is, framed-got, framed-sum}
 
 -- ---- all that is written is bytes
 

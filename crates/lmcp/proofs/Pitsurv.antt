@@ -1,14 +1,14 @@
 -- Series PITSURV: its table is sound in either version, by one computed test over all rows. Assumes nothing.
-use mathlib.Core.Path.{_≡_, refl, ap, sym, subst}
+use mathlib.Core.Path.{_≡_, refl, sym, subst}
 use mathlib.Core.Bool.{Bool, true, false, _&&_, _||_}
 use mathlib.Core.List.{List, [], _∷_}
 use Prim.Native.Nat.{ℕ, _^_, _<_}
-use lib.Dec.{leb, eqb, lit<, lit≤}
+use lib.Dec.{leb, eqb, lit≤}
 use lib.ListN.{length, getD}
 use borrow.Author.Tests.{leb-true, ne-eqb}
 use Rattle.wire.proofs.Choices.{and-l, and-r}
 use Rattle.lmcp.specs.declared.Row.{Row}
-use Rattle.lmcp.specs.Table.{objectKind, signedKind, RowFits, RowsFit, Sound, joined, beginnings, rowsOf, startsOf, nothing, second, typesOf, pitsurv}
+use Rattle.lmcp.specs.Table.{objectKind, signedKind, RowFits, RowsFit, Sound, joined, rowsOf, nothing, second, typesOf, pitsurv}
 use Rattle.lmcp.proofs.Tables.{row-fits}
 
 -- ---- the test, and what it says
@@ -52,11 +52,3 @@ row-fit v i h e = subst RowFits (sym e) (row-fits (rowsOf (pitsurv v)) (rows-fit
 
 pub sound : (v : ℕ) → v < 256 ^ 2 → Sound (pitsurv v)
 sound v h = record { version-fits = h; types-fit = lit≤ tt; rows-fit = rows-fit v }
-
--- ---- the rows and their beginnings, by the edition
-
-pub rows-are : (v i : ℕ) (two : Bool) → second v ≡ two → getD (joined (typesOf two)) i nothing ≡ getD (rowsOf (pitsurv v)) i nothing
-rows-are v i two e = ap (λ (t : Bool). getD (joined (typesOf t)) i nothing) (sym e)
-
-pub starts-are : (v t : ℕ) (two : Bool) → second v ≡ two → getD (beginnings 0 (typesOf two)) t 0 ≡ getD (startsOf (pitsurv v)) t 0
-starts-are v t two e = ap (λ (b : Bool). getD (beginnings 0 (typesOf b)) t 0) (sym e)

@@ -2,7 +2,7 @@
 use mathlib.Core.Path.{_≡_, refl, sym, ap, _∙_, subst}
 use mathlib.Core.Logic.{_⊎_, inl, inr}
 use mathlib.Core.Bool.{Bool, true, false, _&&_, _||_}
-use mathlib.Core.List.{List, [], _∷_, _++_, append-nil, append-assoc}
+use mathlib.Core.List.{List, [], _∷_, _++_, append-nil}
 use Prim.Native.Nat.{ℕ, zero, suc, _-_, _^_, _≤_, _<_}
 use native.Mathlib.Omega.{arith}
 use native.Mathlib.Decide.{ℕ-discrete}
@@ -24,7 +24,7 @@ use Rattle.lmcp.specs.Read.{Read, judged, readValue, readCount, typed, k
 use Rattle.lmcp.specs.Walk.{item, field, fields, isNull, object, root}
 use Rattle.lmcp.specs.Message.{frame, rootOf, readMessage}
 use Rattle.lmcp.specs.Lists.{versionOf, readAs, readList}
-use Rattle.lmcp.specs.Spelled.{Spot, nowhere, spot, Element, null, marked, spellSpot, spellElement, spellAll, spellList, Spelled, PitKeeps, PitsKeep, SpelledBy}
+use Rattle.lmcp.specs.Spelled.{Spot, nowhere, spot, Element, null, marked, spellSpot, spellElement, spellAll, Spelled, PitKeeps, PitsKeep, SpelledBy}
 use Rattle.lmcp.proofs.Undo.{prepended}
 use Rattle.lmcp.proofs.Heads.{known-type}
 use Rattle.lmcp.proofs.Values.{bytes-drop}

@@ -1,19 +1,19 @@
 -- The two round trips of whole messages, once over any sound table. Assumes nothing.
-use mathlib.Core.Path.{_≡_, refl, ap, sym, _∙_, subst}
-use mathlib.Core.Bool.{Bool, true, false, not, _&&_, _||_}
+use mathlib.Core.Path.{_≡_, refl, ap, sym, _∙_}
+use mathlib.Core.Bool.{Bool, true, false, not, _||_}
 use mathlib.Core.List.{List, [], _∷_, _++_, append-assoc, append-nil}
-use Prim.Native.Nat.{ℕ, zero, suc, _+_, _-_, _*_, _%_, _^_, _≤_, _<_}
+use Prim.Native.Nat.{ℕ, zero, suc, _+_, _-_, _^_, _≤_, _<_}
 use native.Mathlib.Omega.{arith}
-use lib.Dec.{ltb, leb, eqb, lit<}
+use lib.Dec.{ltb, eqb, lit<}
 use lib.IntN.{ℤ}
-use lib.ListN.{length, getD, take, drop, length-append, take-append-drop, length-drop}
+use lib.ListN.{length, take, drop, length-append, take-append-drop, length-drop}
 use lib.Seq.{drop-drop, take-at, drop-at, take-all, length-take-le}
-use borrow.Author.Tests.{lt-ltb, le-ltb, eq-eqb, ne-eqb, le-leb, ltb-true, ltb-false, eqb-true, eqb-false, not-false}
+use borrow.Author.Tests.{le-ltb, eq-eqb, le-leb, ltb-false, eqb-true, not-false}
 use Rattle.wire.specs.Choice.{pick}
 use Rattle.wire.specs.Bytes.{be, bytes, Bytes}
 use Rattle.wire.specs.Sum.{sum}
 use Rattle.wire.specs.Same.{same}
-use Rattle.wire.proofs.Choices.{never, or-l, or-r}
+use Rattle.wire.proofs.Choices.{or-l, or-r}
 use Rattle.wire.proofs.Parts.{same-true}
 use Rattle.wire.proofs.Numbers.{length-bytes, be-bytes, be-lt, bytes-be}
 use Rattle.lmcp.specs.declared.Found.the-variants.{Numbers}
@@ -21,7 +21,7 @@ use Rattle.lmcp.specs.Limits.{maxMessage, magic}
 use Rattle.lmcp.specs.Run.{Run, got, refused, whole}
 use Rattle.lmcp.specs.Table.{Table, Sound}
 use Rattle.lmcp.specs.Walk.{root}
-use Rattle.lmcp.specs.Read.{Read, reading}
+use Rattle.lmcp.specs.Read.{reading}
 use Rattle.lmcp.specs.Write.{Write, writing}
 use Rattle.lmcp.specs.Message.{checksumOf, before, stored, rootOf, frame, readMessage, choice, found, headOn, messageOn, framed, writeMessage}
 use Rattle.lmcp.proofs.Undo.{got-unless, got-where, got-made, got-rest, not-refused, Leaves, undo-root}

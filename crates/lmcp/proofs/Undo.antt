@@ -10,7 +10,7 @@ use borrow.Author.Tests.{eqb-false}
 use Rattle.wire.specs.Choice.{pick}
 use Rattle.lmcp.specs.declared.Row.{Row}
 use Rattle.lmcp.specs.Limits.{deepest}
-use Rattle.lmcp.specs.Run.{Run, got, refused, Tag, tag, bad, prepend, andThen, after, repeat, whole}
+use Rattle.lmcp.specs.Run.{Run, got, refused, Tag, tag, bad, prepend, andThen, after, repeat}
 use Rattle.lmcp.specs.Table.{objectKind, Table, RowFits, RowsFit, fieldsOf}
 use Rattle.lmcp.specs.Walk.{Way, item, field, fields, isNull, object, root}
 use Rattle.lmcp.proofs.Goes.{inside, object-is}

@@ -11,19 +11,19 @@ use lib.Signed.{mag}
 use lib.ListN.{length, take, drop, length-append, take-append-drop}
 use lib.Pow.{pow-add}
 use lib.Seq.{drop-at, getD-append-add}
-use borrow.Author.Tests.{lt-ltb, le-ltb, eq-eqb, ne-eqb, ltb-true, ltb-false, eqb-true, eqb-false}
+use borrow.Author.Tests.{lt-ltb, le-ltb, ltb-true, ltb-false, eqb-true}
 use Rattle.wire.specs.Choice.{pick}
 use Rattle.wire.specs.Bytes.{be, bytes, Bytes}
-use Rattle.wire.specs.Signed.{signed, unsigned, Within}
+use Rattle.wire.specs.Signed.{signed, unsigned}
 use Rattle.wire.proofs.Choices.{never}
 use Rattle.wire.proofs.Numbers.{length-bytes, be-bytes, be-lt, bytes-be}
 use Rattle.wire.proofs.Signs.{unsigned-signed, signed-within, unsigned-lt, signed-unsigned}
-use Rattle.lmcp.specs.Run.{got, refused, tag, bad}
+use Rattle.lmcp.specs.Run.{got, tag}
 use Rattle.lmcp.specs.Table.{signedKind, boolKind, charKind}
 use Rattle.lmcp.specs.Value.{fault, numberOf, below, values, fits, denial}
 use Rattle.lmcp.specs.Read.{judged, readValue, readCount}
 use Rattle.lmcp.specs.Write.{writeValue, writeCount}
-use Rattle.lmcp.proofs.Undo.{got-unless, got-where, tag-unless, tag-where, got-made, got-rest, tag-number, tag-made, tag-rest, not-refused, not-bad, Undone, UndoneTag, Undoes, UndoesTag}
+use Rattle.lmcp.proofs.Undo.{got-unless, got-where, tag-unless, tag-where, got-made, got-rest, tag-number, tag-made, tag-rest, not-refused, not-bad, Undoes, UndoesTag}
 
 -- ---- powers, and the front of a list
 

@@ -2,7 +2,6 @@
 use mathlib.Core.Path.{_≡_}
 use mathlib.Core.List.{List, []}
 use Prim.Native.Nat.{ℕ, _+_, _*_, _≤_}
-use lib.IntN.{ℤ}
 use lib.ListN.{length, drop}
 use lib.Seq.{sets}
 use Rattle.lmcp.specs.declared.Went.{Went}
@@ -40,9 +39,6 @@ module _ {A B : Type 0} where
   MarksBy Few s out0 to0 W (Of n at to) out = Marked Few s out0 to0 W n at to out
   MarksBy Few s out0 to0 W (Bad n) out = W ≡ bad n
 
--- the reader makes at most one number of a byte, the writer at most 15 bytes of a number, after the 8 before the root
-abbrev pub Few1 : ℕ → ℕ → Type 0
-Few1 to at = to ≤ at
-
+-- the writer makes at most 15 bytes of a number, after the 8 before the root
 abbrev pub Few15 : ℕ → ℕ → Type 0
 Few15 to at = to ≤ 15 * at + 8

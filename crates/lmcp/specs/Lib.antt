@@ -1,6 +1,8 @@
 pub mod Limits
 pub mod Run
 pub mod Table
+pub mod Packed
+pub mod InsidePacked
 pub mod Walk
 pub mod Value
 pub mod Read

@@ -1,5 +1,5 @@
 -- How the writer takes values, counts and types from a list of numbers. Definitions only.
-use mathlib.Core.Bool.{Bool, true, false}
+use mathlib.Core.Bool.{Bool, false}
 use mathlib.Core.List.{List, [], _∷_, _++_}
 use Prim.Native.Nat.{ℕ, _*_, _^_}
 use lib.Dec.{eqb}

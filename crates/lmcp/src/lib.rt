@@ -1,9 +1,10 @@
 // Survey messages: the message table of series PITSURV, and what the reader and the writer answer.
 ghost use mathlib.Core.Path.{_≡_};
-ghost use Prim.Native.Nat.{_-_, _*_, _^_, min};
-ghost use lib.ListN.{length, getD};
+ghost use Prim.Native.Nat.{_-_, _*_, _^_, _<_, min};
+ghost use lib.ListN.{getD};
 ghost use lib.Signed.{mag};
 ghost use Rattle.lmcp.specs.Table.{pitsurv, rowsOf, startsOf, nothing};
+ghost use Rattle.lmcp.specs.Packed.{packedOf, cell};
 ghost use Rattle.lmcp.specs.Read.{typed};
 
 // The longest whole message, in bytes.
@@ -61,181 +62,6 @@ pub enum Made {
     Refused(u32),
 }
 
-const INT16: Row = Row {
-    count: 0,
-    fixed: 1,
-    kind: SIGNED_KIND,
-    arg: 2,
-};
-
-const INT32: Row = Row {
-    count: 0,
-    fixed: 1,
-    kind: SIGNED_KIND,
-    arg: 4,
-};
-
-const INT64: Row = Row {
-    count: 0,
-    fixed: 1,
-    kind: SIGNED_KIND,
-    arg: 8,
-};
-
-// In centimetres.
-const DEPTH: Row = INT16;
-
-const UINT16: Row = Row {
-    count: 0,
-    fixed: 1,
-    kind: UNSIGNED_KIND,
-    arg: 2,
-};
-
-const UINT32: Row = Row {
-    count: 0,
-    fixed: 1,
-    kind: UNSIGNED_KIND,
-    arg: 4,
-};
-
-const BOOL: Row = Row {
-    count: 0,
-    fixed: 1,
-    kind: BOOL_KIND,
-    arg: 1,
-};
-
-// Its bits, not negative.
-const REAL32: Row = Row {
-    count: 0,
-    fixed: 1,
-    kind: UNSIGNED_KIND,
-    arg: 4,
-};
-
-// The signed number with the same bits.
-const REAL64: Row = Row {
-    count: 0,
-    fixed: 1,
-    kind: SIGNED_KIND,
-    arg: 8,
-};
-
-const BYTES4: Row = Row {
-    count: 0,
-    fixed: 4,
-    kind: UNSIGNED_KIND,
-    arg: 1,
-};
-
-const STRING: Row = Row {
-    count: 2,
-    fixed: 0,
-    kind: CHAR_KIND,
-    arg: 1,
-};
-
-const PLACE: Row = Row {
-    count: 0,
-    fixed: 1,
-    kind: OBJECT_KIND,
-    arg: 2,
-};
-
-const TILE_HEAD: Row = Row {
-    count: 0,
-    fixed: 1,
-    kind: OBJECT_KIND,
-    arg: 3,
-};
-
-const PIT_MARKS: Row = Row {
-    count: 2,
-    fixed: 0,
-    kind: OBJECT_KIND,
-    arg: 4,
-};
-
-// The same with its count in 4 bytes.
-const MANY_PIT_MARKS: Row = Row {
-    count: 4,
-    fixed: 0,
-    kind: OBJECT_KIND,
-    arg: 4,
-};
-
-const LMCP_OBJECT: Row = Row {
-    count: 0,
-    fixed: 1,
-    kind: OBJECT_KIND,
-    arg: 0,
-};
-
-// Series PITSURV, version 1: the fields of one type after the other.
-const FIRST: [Row; 19] = [
-    // 2 Place: lat, lon, height
-    INT32,
-    INT32,
-    INT16,
-    // 3 TileHead: tile, column, row, corner
-    UINT32,
-    UINT16,
-    UINT16,
-    PLACE,
-    // 4 PitMark: pit, sure, at
-    UINT32,
-    BOOL,
-    PLACE,
-    // 5 PitList: tile, pits
-    UINT32,
-    PIT_MARKS,
-    // 6 Note: text, about
-    STRING,
-    LMCP_OBJECT,
-    // 7 Frame: camera, stamp, tilt, tick, head
-    BYTES4,
-    REAL64,
-    REAL32,
-    INT64,
-    TILE_HEAD,
-];
-
-// Version 2: PitMark has a depth at its end, and PitList its count in 4 bytes.
-const SECOND: [Row; 20] = [
-    // 2 Place: lat, lon, height
-    INT32,
-    INT32,
-    INT16,
-    // 3 TileHead: tile, column, row, corner
-    UINT32,
-    UINT16,
-    UINT16,
-    PLACE,
-    // 4 PitMark: pit, sure, at, depth
-    UINT32,
-    BOOL,
-    PLACE,
-    DEPTH,
-    // 5 PitList: tile, pits
-    UINT32,
-    MANY_PIT_MARKS,
-    // 6 Note: text, about
-    STRING,
-    LMCP_OBJECT,
-    // 7 Frame: camera, stamp, tilt, tick, head
-    BYTES4,
-    REAL64,
-    REAL32,
-    INT64,
-    TILE_HEAD,
-];
-
-// Where the rows of each type begin, null and Ping first, and at last where they all end.
-const FIRST_STARTS: [usize; 9] = [0, 0, 0, 3, 7, 10, 12, 14, 19];
-
-const SECOND_STARTS: [usize; 9] = [0, 0, 0, 3, 7, 11, 13, 15, 20];
-
 // What stands past the last row.
 const NOTHING: Row = Row {
     count: 0,
@@ -247,18 +73,251 @@ const NOTHING: Row = Row {
 // How many types there are, null among them.
 const TYPES: u64 = 8;
 
+// ---- the table as bytes: made once a message and lent to the walks
+
+// A row has eight bytes. The first four are its field: the bytes of the count (0: none), the elements where there is no count, their
+// kind, and their bytes or, of objects, the declared type (0: any).
+pub const COUNT: usize = 0;
+
+pub const FIXED: usize = 1;
+
+pub const KIND: usize = 2;
+
+pub const ARG: usize = 3;
+
+// A run is plain numbers in a row, up to and with a bool where one ends it. Before that bool nothing but 25 can be wrong, so that one test
+// of the length answers for all of it. The bytes of the run that begins with the row (0: none does), its rows (1 where there is none), and
+// whether a bool ends it.
+pub const RUN_BYTES: usize = 4;
+
+pub const RUN_ROWS: usize = 5;
+
+pub const RUN_BOOL: usize = 6;
+
+// Kind and bytes in one number.
+pub const CODE: usize = 7;
+
+pub const BYTE_CODE: u8 = 0;
+
+pub const UINT16_CODE: u8 = 1;
+
+pub const UINT32_CODE: u8 = 2;
+
+pub const INT16_CODE: u8 = 3;
+
+pub const INT32_CODE: u8 = 4;
+
+pub const INT64_CODE: u8 = 5;
+
+pub const OBJECT_CODE: u8 = 6;
+
+const NO_COUNT: u8 = 0;
+
+const NO_RUN: u8 = 0;
+
+const NO_BOOL: u8 = 0;
+
+const A_BOOL: u8 = 1;
+
+// Declared types.
+const ANY_TYPE: u8 = 0;
+
+const PLACE_TYPE: u8 = 2;
+
+const TILE_HEAD_TYPE: u8 = 3;
+
+const PIT_MARK_TYPE: u8 = 4;
+
+// 2 Place: lat, lon, height
+const LAT: [u8; 8] = [NO_COUNT, 1, SIGNED_KIND, 4, 10, 3, NO_BOOL, INT32_CODE];
+
+const LON: [u8; 8] = [NO_COUNT, 1, SIGNED_KIND, 4, 6, 2, NO_BOOL, INT32_CODE];
+
+const HEIGHT: [u8; 8] = [NO_COUNT, 1, SIGNED_KIND, 2, 2, 1, NO_BOOL, INT16_CODE];
+
+// 3 TileHead: tile, column, row, corner
+const TILE: [u8; 8] = [NO_COUNT, 1, UNSIGNED_KIND, 4, 8, 3, NO_BOOL, UINT32_CODE];
+
+const COLUMN: [u8; 8] = [NO_COUNT, 1, UNSIGNED_KIND, 2, 4, 2, NO_BOOL, UINT16_CODE];
+
+const ROW: [u8; 8] = [NO_COUNT, 1, UNSIGNED_KIND, 2, 2, 1, NO_BOOL, UINT16_CODE];
+
+const CORNER: [u8; 8] = [
+    NO_COUNT,
+    1,
+    OBJECT_KIND,
+    PLACE_TYPE,
+    NO_RUN,
+    1,
+    NO_BOOL,
+    OBJECT_CODE,
+];
+
+// 4 PitMark: pit, sure, at; in version 2 depth, in centimetres
+const PIT: [u8; 8] = [NO_COUNT, 1, UNSIGNED_KIND, 4, 5, 2, A_BOOL, UINT32_CODE];
+
+const SURE: [u8; 8] = [NO_COUNT, 1, BOOL_KIND, 1, 1, 1, A_BOOL, BYTE_CODE];
+
+const AT: [u8; 8] = [
+    NO_COUNT,
+    1,
+    OBJECT_KIND,
+    PLACE_TYPE,
+    NO_RUN,
+    1,
+    NO_BOOL,
+    OBJECT_CODE,
+];
+
+const DEPTH: [u8; 8] = [NO_COUNT, 1, SIGNED_KIND, 2, 2, 1, NO_BOOL, INT16_CODE];
+
+// 5 PitList: tile, pits, whose count has 2 bytes; in version 2 it has 4
+const TILE_OF_PITS: [u8; 8] = [NO_COUNT, 1, UNSIGNED_KIND, 4, 4, 1, NO_BOOL, UINT32_CODE];
+
+const PITS: [u8; 8] = [
+    2,
+    0,
+    OBJECT_KIND,
+    PIT_MARK_TYPE,
+    NO_RUN,
+    1,
+    NO_BOOL,
+    OBJECT_CODE,
+];
+
+const MANY_PITS: [u8; 8] = [
+    4,
+    0,
+    OBJECT_KIND,
+    PIT_MARK_TYPE,
+    NO_RUN,
+    1,
+    NO_BOOL,
+    OBJECT_CODE,
+];
+
+// 6 Note: text, about
+const TEXT: [u8; 8] = [2, 0, CHAR_KIND, 1, NO_RUN, 1, NO_BOOL, BYTE_CODE];
+
+const ABOUT: [u8; 8] = [
+    NO_COUNT,
+    1,
+    OBJECT_KIND,
+    ANY_TYPE,
+    NO_RUN,
+    1,
+    NO_BOOL,
+    OBJECT_CODE,
+];
+
+// 7 Frame: camera; stamp, a real64, which is the signed number with its bits; tilt, a real32, which is its bits; tick, head
+const CAMERA: [u8; 8] = [NO_COUNT, 4, UNSIGNED_KIND, 1, 24, 4, NO_BOOL, BYTE_CODE];
+
+const STAMP: [u8; 8] = [NO_COUNT, 1, SIGNED_KIND, 8, 20, 3, NO_BOOL, INT64_CODE];
+
+const TILT: [u8; 8] = [NO_COUNT, 1, UNSIGNED_KIND, 4, 12, 2, NO_BOOL, UINT32_CODE];
+
+const TICK: [u8; 8] = [NO_COUNT, 1, SIGNED_KIND, 8, 8, 1, NO_BOOL, INT64_CODE];
+
+const HEAD: [u8; 8] = [
+    NO_COUNT,
+    1,
+    OBJECT_KIND,
+    TILE_HEAD_TYPE,
+    NO_RUN,
+    1,
+    NO_BOOL,
+    OBJECT_CODE,
+];
+
+// What stands past the last row of version 1, which has one less.
+const NO_FIELD: [u8; 8] = [0, 0, 0, 0, 0, 0, 0, 0];
+
+// Behind the rows: the row with which each type begins, from type 0 on, which is null, and the row after its last.
+pub const BEGINS: usize = 20;
+
+pub const ENDS: usize = 21;
+
+const FIRST: [[u8; 8]; 22] = [
+    LAT,
+    LON,
+    HEIGHT,
+    TILE,
+    COLUMN,
+    ROW,
+    CORNER,
+    PIT,
+    SURE,
+    AT,
+    TILE_OF_PITS,
+    PITS,
+    TEXT,
+    ABOUT,
+    CAMERA,
+    STAMP,
+    TILT,
+    TICK,
+    HEAD,
+    NO_FIELD,
+    [0, 0, 0, 3, 7, 10, 12, 14],
+    [0, 0, 3, 7, 10, 12, 14, 19],
+];
+
+const SECOND: [[u8; 8]; 22] = [
+    LAT,
+    LON,
+    HEIGHT,
+    TILE,
+    COLUMN,
+    ROW,
+    CORNER,
+    PIT,
+    SURE,
+    AT,
+    DEPTH,
+    TILE_OF_PITS,
+    MANY_PITS,
+    TEXT,
+    ABOUT,
+    CAMERA,
+    STAMP,
+    TILT,
+    TICK,
+    HEAD,
+    [0, 0, 0, 3, 7, 11, 13, 15],
+    [0, 0, 3, 7, 11, 13, 15, 20],
+];
+
+// The table of a version.
+pub fn table(version: u64) -> [[u8; 8]; 22]
+    ensures { λ r. ⌜ r ≡ packedOf version ⌝ }
+{
+    if version == 2 {
+        return SECOND;
+    }
+    FIRST
+}
+
+// A byte of a table.
+fn entry(rows: &[[u8; 8]; 22], i: usize, k: usize) -> usize
+    requires { ⌜ (i < 22) × (k < 8) ⌝ }
+    ensures { λ r. ⌜ r ≡ cell (now (rows .entry)) i k ⌝ }
+{
+    wire::wide(rows[i][k]) as usize
+}
+
 // Row i of the table of a version.
 pub fn row_at(version: u64, i: usize) -> Row
     ensures { λ r. ⌜ r ≡ getD (rowsOf (pitsurv version)) i nothing ⌝ }
 {
-    if version == 2 {
-        if i < 20 {
-            return SECOND[i];
-        }
-        return NOTHING;
-    }
-    if i < 19 {
-        return FIRST[i];
+    if i < BEGINS {
+        let rows = table(version);
+        return Row {
+            count: entry(&rows, i, COUNT),
+            fixed: entry(&rows, i, FIXED),
+            kind: rows[i][KIND],
+            arg: entry(&rows, i, ARG),
+        };
     }
     NOTHING
 }
@@ -267,11 +326,12 @@ pub fn row_at(version: u64, i: usize) -> Row
 pub fn start_of(version: u64, t: usize) -> usize
     ensures { λ r. ⌜ r ≡ getD (startsOf (pitsurv version)) t 0 ⌝ }
 {
-    if t < 9 {
-        if version == 2 {
-            return SECOND_STARTS[t];
-        }
-        return FIRST_STARTS[t];
+    let rows = table(version);
+    if t < 8 {
+        return entry(&rows, BEGINS, t);
+    }
+    if t == 8 {
+        return entry(&rows, ENDS, 7);
     }
     0
 }

@@ -7,6 +7,7 @@ use lib.IntN.{ℤ}
 use lib.ListN.{length, take, drop}
 use lib.Seq.{sets}
 use lib.Dec.{ltb, eqb}
+use Rattle.wire.specs.Slices.{Slice, SignedSlice}
 use Rattle.wire.specs.Text.{ascii}
 use Rattle.wire.specs.Bytes.{be}
 use Rattle.wire.specs.Signed.{signed}
@@ -37,22 +38,34 @@ abbrev pub madeText : List ℕ → Made → List ℕ
 madeText bytes (Bytes n) = ascii " bytes " ++ hex (take n bytes) ++ ascii "\n"
 madeText bytes (Refused e) = ascii " refused " ++ decimal e ++ ascii "\n"
 
+-- what the program holds: the number list, the message's bytes, and the output
+pub record Holds : Type 0 where
+  pub list : List ℤ
+  pub bytes : List ℕ
+  pub out : List ℕ
+
+abbrev pub holdsBefore : SignedSlice → Slice → Slice → Holds
+holdsBefore list bytes out = record { list = list .entry .now; bytes = bytes .entry .now; out = out .entry .now }
+
+abbrev pub holdsAfter : SignedSlice → Slice → Slice → Holds
+holdsAfter list bytes out = record { list = list .exit .now; bytes = bytes .exit .now; out = out .exit .now }
+
 -- The list that a body holds was written as a message, and line n gives its bytes or its refusal.
-pub record Made′ (calculate : Bool) (body : List ℕ) (n : ℕ) (list : List ℤ) (bytes out : List ℕ) (at : ℕ) (list′ : List ℤ) (bytes′ out′ : List ℕ) (r : ℕ) : Type 0 where
-  pub taken : list′ ≡ sets list 0 (numbersOf (length body / 8) body)
+pub record Made′ (calculate : Bool) (body : List ℕ) (n : ℕ) (h : Holds) (at : ℕ) (h′ : Holds) (r : ℕ) : Type 0 where
+  pub taken : h′ .list ≡ sets (h .list) 0 (numbersOf (length body / 8) body)
   pub made : Made
-  pub written : WrittenTo (writeList calculate (numbersOf (length body / 8) body)) bytes made bytes′
-  pub said : Pours out at (decimal n ++ madeText bytes′ made) out′ r
+  pub written : WrittenTo (writeList calculate (numbersOf (length body / 8) body)) (h .bytes) made (h′ .bytes)
+  pub said : Pours (h .out) at (decimal n ++ madeText (h′ .bytes) made) (h′ .out) r
 
 -- It has more numbers than the program's list, and line n says so; nothing else is touched.
-pub record Longer (n : ℕ) (list : List ℤ) (bytes out : List ℕ) (at : ℕ) (list′ : List ℤ) (bytes′ out′ : List ℕ) (r : ℕ) : Type 0 where
-  pub same-list : list′ ≡ list
-  pub same-bytes : bytes′ ≡ bytes
-  pub said : Pours out at (decimal n ++ longerText (length list)) out′ r
+pub record Longer (n : ℕ) (h : Holds) (at : ℕ) (h′ : Holds) (r : ℕ) : Type 0 where
+  pub same-list : h′ .list ≡ h .list
+  pub same-bytes : h′ .bytes ≡ h .bytes
+  pub said : Pours (h .out) at (decimal n ++ longerText (length (h .list))) (h′ .out) r
 
-abbrev pub byLength : Bool → Bool → List ℕ → ℕ → List ℤ → List ℕ → List ℕ → ℕ → List ℤ → List ℕ → List ℕ → ℕ → Type 0
-byLength true calculate body n list bytes out at list′ bytes′ out′ r = Longer n list bytes out at list′ bytes′ out′ r
-byLength false calculate body n list bytes out at list′ bytes′ out′ r = Made′ calculate body n list bytes out at list′ bytes′ out′ r
+abbrev pub byLength : Bool → Bool → List ℕ → ℕ → Holds → ℕ → Holds → ℕ → Type 0
+byLength true calculate body n h at h′ r = Longer n h at h′ r
+byLength false calculate body n h at h′ r = Made′ calculate body n h at h′ r
 
-abbrev pub Written : Bool → List ℕ → ℕ → List ℤ → List ℕ → List ℕ → ℕ → List ℤ → List ℕ → List ℕ → ℕ → Type 0
-Written calculate body n list = byLength (ltb (length list) (length body / 8)) calculate body n list
+abbrev pub Written : Bool → List ℕ → ℕ → Holds → ℕ → Holds → ℕ → Type 0
+Written calculate body n h = byLength (ltb (length (h .list)) (length body / 8)) calculate body n h

@@ -2,13 +2,12 @@
 // 4-byte big-endian count and that many 8-byte big-endian two's-complement numbers; a line gives the bytes of each, or its refusal, or says
 // that the list is longer than the program holds.
 ghost use mathlib.Core.Path.{_≡_};
-ghost use mathlib.Core.List.{[], _∷_, _++_};
 ghost use Prim.Native.Nat.{_/_, _≤_};
 ghost use lib.ListN.{length, take};
 ghost use lib.Seq.{sets};
 ghost use Rattle.wire.specs.Signed.{signed};
 ghost use Rattle.output.specs.Output.{Pours, lineLimit};
-ghost use Rattle.lmcp_bytes.specs.Lines.{numbersOf, calculated, longerText, madeText, Written};
+ghost use Rattle.lmcp_bytes.specs.Lines.{numbersOf, calculated, longerText, madeText, Written, holdsBefore, holdsAfter};
 use lmcp::Made;
 use stream::Input;
 use stream::Kind;
@@ -92,7 +91,7 @@ fn one_more(
     bytes: &mut [u8],
     body: &[u8],
 ) -> usize
-    ensures { λ r. ⌜ Written calculate (now (body .entry)) n (now (list .entry)) (now (bytes .entry)) (now (out .entry)) at (now (list .exit)) (now (bytes .exit)) (now (out .exit)) r ⌝ }
+    ensures { λ r. ⌜ Written calculate (now (body .entry)) n (holdsBefore list bytes out) at (holdsAfter list bytes out) r ⌝ }
 {
     let next = output::pour_decimal(out, at, n);
     if list.len() < body.len() / 8 {

@@ -1,7 +1,6 @@
 // What is in survey messages. Standard input holds messages, each after a 4-byte big-endian length; a line gives the numbers of each,
 // or its refusal.
 ghost use Prim.Native.Nat.{_≤_};
-ghost use mathlib.Core.List.{[], _∷_, _++_};
 ghost use lib.ListN.{take, length};
 ghost use Rattle.output.specs.Output.{Pours, lineLimit};
 ghost use Rattle.lmcp_list.specs.Lines.{spaced, foundText, line, Listed};

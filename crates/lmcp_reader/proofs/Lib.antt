@@ -1,3 +1,4 @@
-pub mod Answers
 pub mod Cases
-pub mod Frames
+pub mod Counts
+pub mod Puts
+pub mod Roots

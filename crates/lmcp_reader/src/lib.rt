@@ -1,29 +1,66 @@
-// The reader of survey messages: a message's bytes to a list of numbers, by the message table.
+// The reader of survey messages: a message's bytes to a list of numbers, by the message table. One walk checks (`lmcp_check`), and this one
+// writes what is in order, so that it need not look again.
 use lmcp::Found;
-use lmcp::Mark;
-use lmcp::Row;
-use lmcp::Went;
 ghost use mathlib.Core.Path.{_≡_};
 ghost use mathlib.Core.List.{[], _∷_};
-ghost use Prim.Native.Nat.{_+_, _-_, _*_, _^_, _≤_, _<_};
+ghost use Prim.Native.Nat.{_+_, _-_, _*_, _^_, _≤_, _<_, min};
 ghost use lib.IntN.{pos};
-ghost use lib.ListN.{length, drop, set, getD};
+ghost use lib.ListN.{length, drop, set};
+ghost use lib.Seq.{sets};
 ghost use Rattle.wire.specs.Signed.{signed};
-ghost use Rattle.lmcp.specs.Run.{prepend, repeat, whole};
-ghost use Rattle.lmcp.specs.Table.{RowFits, rowsOf, fieldsOf, pitsurv, nothing, signedKind};
-ghost use Rattle.lmcp.specs.Value.{fault, numberOf};
-ghost use Rattle.lmcp.specs.Read.{readValue, readCount, known, readHead};
-ghost use Rattle.lmcp.specs.Message.{frame, ReadTo};
-ghost use Rattle.lmcp.specs.Lists.{versionOf, readList};
-ghost use Rattle.lmcp_reader.specs.Steps.{readObject, readItem, readField, readFields, readRoot, Listed, Ends, Marks};
+ghost use Rattle.wire.specs.Bytes.{be};
+ghost use Rattle.lmcp.specs.Run.{repeat, prepend, whole};
+ghost use Rattle.lmcp.specs.Table.{fieldsOf, rowsOf, pitsurv};
+ghost use Rattle.lmcp.specs.Packed.{cell};
+ghost use Rattle.lmcp.specs.InsidePacked.{widthOf};
+ghost use Rattle.lmcp.specs.Message.{ReadTo};
+ghost use Rattle.lmcp.specs.Lists.{readList};
+ghost use Rattle.lmcp_check.specs.InsideSteps.{readObject, readRow, readFields, readRoot};
+ghost use Rattle.lmcp_check.specs.InsideChecks.{Lent};
+ghost use Rattle.lmcp_reader.specs.InsidePuts.{Ahead, Lays, Rooms, coded, codedAll};
+
+// Where the walk stands, in the bytes and in the list.
+struct Spot {
+    p: usize,
+    q: usize,
+}
+
+// A byte of the table.
+fn entry(table: &[[u8; 8]; 22], i: usize, k: usize) -> usize
+    requires { ⌜ (i < 22) × (k < 8) ⌝ }
+    ensures { λ r. ⌜ r ≡ cell (now (table .entry)) i k ⌝ }
+{
+    wire::wide(table[i][k]) as usize
+}
 
 // The number z at a place, if the list reaches so far.
-fn put(list: &mut [i64], to: usize, z: i64)
-    ensures { λ _. ⌜ now (list .exit) ≡ set (now (list .entry)) to z ⌝ }
+fn put(list: &mut [i64], q: usize, z: i64)
+    ensures { λ _. ⌜ now (list .exit) ≡ set (now (list .entry)) q z ⌝ }
 {
-    if to < list.len() {
-        list[to] = z;
+    if q < list.len() {
+        list[q] = z;
     }
+}
+
+fn two(s: &[u8], at: usize) -> u64
+    requires { ⌜ at + 2 ≤ length (now s) ⌝ }
+    ensures { λ r. ⌜ (r ≡ be 2 (drop at (now (s .entry)))) × (r < 65536) ⌝ }
+{
+    wire::wide(s[at]) * 256 + wire::wide(s[at + 1])
+}
+
+fn four(s: &[u8], at: usize) -> u64
+    requires { ⌜ at + 4 ≤ length (now s) ⌝ }
+    ensures { λ r. ⌜ (r ≡ be 4 (drop at (now (s .entry)))) × (r < 4294967296) ⌝ }
+{
+    two(s, at) * 65536 + two(s, at + 2)
+}
+
+fn eight(s: &[u8], at: usize) -> u64
+    requires { ⌜ at + 8 ≤ length (now s) ⌝ }
+    ensures { λ r. ⌜ (r ≡ be 8 (drop at (now (s .entry)))) × (r < 18446744073709551616) ⌝ }
+{
+    four(s, at) * 4294967296 + four(s, at + 4)
 }
 
 // A number that is not signed.
@@ -34,12 +71,11 @@ fn plain_of(v: u64) -> i64
     v as i64
 }
 
-// The signed number of w bytes whose bits are v.
-fn signed_of(w: usize, v: u64) -> i64
-    requires { ⌜ ((1 ≤ w) × (w ≤ 8)) × (v < 256 ^ w) ⌝ }
+// The signed number of w bytes whose bits are v; h is half of their range.
+fn signed_of(w: usize, h: u64, v: u64) -> i64
+    requires { ⌜ (((1 ≤ w) × (w ≤ 8)) × (v < 256 ^ w)) × (h ≡ 2 ^ (8 * min w 8 - 1)) ⌝ }
     ensures { λ r. ⌜ r ≡ signed (8 * w) v ⌝ }
 {
-    let h = lmcp::half(w);
     if v < h {
         return v as i64;
     }
@@ -48,353 +84,208 @@ fn signed_of(w: usize, v: u64) -> i64
     -1 - m
 }
 
-// The number of the list for a value of a kind.
-fn number_of(kind: u8, w: usize, v: u64) -> i64
-    requires { ⌜ ((1 ≤ w) × (w ≤ 8)) × (((kind ≡ signedKind → ⊥) → w ≤ 7) × (v < 256 ^ w)) ⌝ }
-    ensures { λ r. ⌜ r ≡ numberOf kind w v ⌝ }
+// The number of a code at a place.
+fn value_of(s: &[u8], p: usize, code: usize) -> i64
+    requires { ⌜ p + widthOf code ≤ length (now s) ⌝ }
+    ensures { λ r. ⌜ r ≡ coded code (drop p (now (s .entry))) ⌝ }
 {
-    if kind == lmcp::SIGNED_KIND {
-        return signed_of(w, v);
+    if code == 0 {
+        return plain_of(wire::wide(s[p]));
     }
-    plain_of(v)
+    if code == 1 {
+        return plain_of(two(s, p));
+    }
+    if code == 2 {
+        return plain_of(four(s, p));
+    }
+    if code == 3 {
+        return signed_of(2, 32768, two(s, p));
+    }
+    if code == 4 {
+        return signed_of(4, 2147483648, four(s, p));
+    }
+    signed_of(8, 9223372036854775808, eight(s, p))
 }
 
-// What is wrong with a value of a kind: 0 for nothing, else the number of the refusal.
-fn fault_of(kind: u8, v: u64) -> u32
-    ensures { λ r. ⌜ r ≡ fault kind v ⌝ }
+// n numbers of a code, of w bytes each.
+fn put_values(s: &[u8], p: usize, q: usize, code: usize, w: usize, n: usize, list: &mut [i64])
+    requires { ⌜ ((p + n * w ≤ length (now s)) × (q + n ≤ 4294967296)) × ((w ≡ widthOf code) × (length (now s) < 4294967296)) ⌝ }
+    ensures { λ _. ⌜ now (list .exit) ≡ sets (now (list .entry)) q (codedAll n code w (drop p (now (s .entry)))) ⌝ }
 {
-    if kind == lmcp::BOOL_KIND {
-        if 1 < v {
-            return 23;
-        }
-        return 0;
-    }
-    if kind == lmcp::CHAR_KIND {
-        if 127 < v {
-            return 27;
-        }
-        return 0;
-    }
-    0
-}
-
-// One value of a kind that is no object.
-fn value_at(s: &[u8], at: usize, kind: u8, w: usize, list: &mut [i64], to: usize) -> Went
-    requires { ⌜ ((to ≤ at) × (at ≤ length (now s))) × (((1 ≤ w) × (w ≤ 8)) × ((kind ≡ signedKind → ⊥) → w ≤ 7)) ⌝ }
-    ensures { λ r. ⌜ Ends (now (s .entry)) (now (list .entry)) to (readValue kind w (drop at (now (s .entry)))) r (now (list .exit)) ⌝ }
-{
-    if s.len() - at < w {
-        return Went::Stopped(25);
-    }
-    let v = wire::number(s, at, w);
-    let n = fault_of(kind, v);
-    if n != 0 {
-        return Went::Stopped(n);
-    }
-    put(list, to, number_of(kind, w, v));
-    Went::To(at + w, to + 1)
-}
-
-// The count of a variable array, in w bytes.
-fn count_at(s: &[u8], at: usize, w: usize, list: &mut [i64], to: usize) -> Mark
-    requires { ⌜ ((to ≤ at) × (at ≤ length (now s))) × ((1 ≤ w) × (w ≤ 7)) ⌝ }
-    ensures { λ r. ⌜ Marks (now (s .entry)) (now (list .entry)) to (readCount w (drop at (now (s .entry)))) r (now (list .exit)) ⌝ }
-{
-    if s.len() - at < w {
-        return Mark::Bad(25);
-    }
-    let n = wire::number(s, at, w);
-    put(list, to, plain_of(n));
-    Mark::Of(n as usize, at + w, to + 1)
-}
-
-// Whether the 14 bytes of a header are in the table.
-fn known_at(s: &[u8], at: usize, version: u64, declared: usize) -> bool
-    requires { ⌜ at + 14 ≤ length (now s) ⌝ }
-    ensures { λ r. ⌜ r ≡ known (pitsurv version) declared (drop at (now (s .entry))) ⌝ }
-{
-    if wire::number(s, at, 8) != lmcp::SERIES {
-        return false;
-    }
-    if wire::number(s, at + 12, 2) != version {
-        return false;
-    }
-    lmcp::typed_in(version, declared, wire::number(s, at + 8, 4))
-}
-
-// The head of an object: its existence byte, its depth, its header.
-fn head_at(
-    s: &[u8],
-    at: usize,
-    version: u64,
-    deep: usize,
-    declared: usize,
-    list: &mut [i64],
-    to: usize,
-) -> Mark
-    requires { ⌜ (to ≤ at) × (at ≤ length (now s)) ⌝ }
-    ensures { λ r. ⌜ Marks (now (s .entry)) (now (list .entry)) to (readHead (pitsurv version) deep declared (drop at (now (s .entry)))) r (now (list .exit)) ⌝ }
-{
-    if s.len() - at < 1 {
-        return Mark::Bad(25);
-    }
-    let exists = wire::number(s, at, 1);
-    if 1 < exists {
-        return Mark::Bad(23);
-    }
-    if exists == 0 {
-        put(list, to, 0);
-        return Mark::Of(0, at + 1, to + 1);
-    }
-    if deep == 0 {
-        return Mark::Bad(26);
-    }
-    if s.len() - at < 15 {
-        return Mark::Bad(25);
-    }
-    if known_at(s, at + 1, version, declared) {
-        let n = wire::number(s, at + 9, 4);
-        put(list, to, plain_of(n));
-        let next = at + 15;
-        return Mark::Of(n as usize, next, to + 1);
-    }
-    Mark::Bad(24)
-}
-
-// One element of a field.
-fn item_at(
-    s: &[u8],
-    at: usize,
-    version: u64,
-    deep: usize,
-    f: Row,
-    list: &mut [i64],
-    to: usize,
-) -> Went
-    requires { ⌜ ((to ≤ at) × (at ≤ length (now s))) × RowFits f ⌝ }
-    ensures { λ r. ⌜ Ends (now (s .entry)) (now (list .entry)) to (readItem version deep f (drop at (now (s .entry)))) r (now (list .exit)) ⌝ }
-{
-    let kind = f.kind;
-    let arg = f.arg;
-    if kind == lmcp::OBJECT_KIND {
-        return object_at(s, at, version, deep, arg, list, to);
-    }
-    value_at(s, at, kind, arg, list, to)
-}
-
-// n elements of a field.
-fn items_at(
-    s: &[u8],
-    at: usize,
-    version: u64,
-    deep: usize,
-    f: Row,
-    n: usize,
-    list: &mut [i64],
-    to: usize,
-) -> Went
-    requires { ⌜ ((to ≤ at) × (at ≤ length (now s))) × RowFits f ⌝ }
-    ensures { λ r. ⌜ Ends (now (s .entry)) (now (list .entry)) to (repeat n (readItem version deep f) (drop at (now (s .entry)))) r (now (list .exit)) ⌝ }
-{
-    let mut p = at;
-    let mut q = to;
     let mut k: usize = 0;
+    let mut at = p;
     while k < n {
-        let r = item_at(s, p, version, deep, f, list, q);
-        match r {
-            Went::Stopped(e) => return Went::Stopped(e),
-            Went::To(a, t) => {
-                p = a;
-                q = t;
-            }
-        }
+        put(list, q + k, value_of(s, at, code));
+        at += w;
         k += 1;
     }
-    Went::To(p, q)
 }
 
 // One field: row i of the table.
-fn field_at(
+fn put_row(
     s: &[u8],
-    at: usize,
+    p: usize,
+    q: usize,
+    table: &[[u8; 8]; 22],
     version: u64,
     deep: usize,
     i: usize,
     list: &mut [i64],
-    to: usize,
-) -> Went
-    requires { ⌜ ((to ≤ at) × (at ≤ length (now s))) × (i < length (rowsOf (pitsurv version))) ⌝ }
-    ensures { λ r. ⌜ Ends (now (s .entry)) (now (list .entry)) to (readField version deep (getD (rowsOf (pitsurv version)) i nothing) (drop at (now (s .entry)))) r (now (list .exit)) ⌝ }
+) -> Spot
+    requires { ⌜ Lent (now s) p (now table) version × (((i < 20) × (i < length (rowsOf (pitsurv version)))) × Ahead (readRow version deep i (drop p (now s))) q) ⌝ }
+    ensures { λ r. ⌜ Lays (now (s .entry)) (now (list .entry)) q (readRow version deep i (drop p (now (s .entry)))) (r .p) (r .q) (now (list .exit)) ⌝ }
 {
-    let f = lmcp::row_at(version, i);
-    let w = f.count;
-    let fixed = f.fixed;
+    let code = entry(table, i, lmcp::CODE);
+    let w = entry(table, i, lmcp::COUNT);
+    let arg = entry(table, i, lmcp::ARG);
     if w == 0 {
-        return items_at(s, at, version, deep, f, fixed, list, to);
+        if code == 6 {
+            return put_object(s, p, q, table, version, deep, arg, list);
+        }
+        let n = entry(table, i, lmcp::FIXED);
+        if n == 1 {
+            put(list, q, value_of(s, p, code));
+            return Spot {
+                p: p + arg,
+                q: q + 1,
+            };
+        }
+        put_values(s, p, q, code, arg, n, list);
+        return Spot {
+            p: p + n * arg,
+            q: q + n,
+        };
     }
-    let c = count_at(s, at, w, list, to);
-    match c {
-        Mark::Bad(e) => Went::Stopped(e),
-        Mark::Of(n, p, q) => items_at(s, p, version, deep, f, n, list, q),
+    let count = wire::number(s, p, w);
+    put(list, q, plain_of(count));
+    let m = count as usize;
+    if code == 6 {
+        return put_objects(s, p + w, q + 1, table, version, deep, arg, m, list);
+    }
+    put_values(s, p + w, q + 1, code, arg, m, list);
+    Spot {
+        p: p + w + m * arg,
+        q: q + 1 + m,
     }
 }
 
 // All fields of type t.
-fn fields_at(
+fn put_fields(
     s: &[u8],
-    at: usize,
+    p: usize,
+    q: usize,
+    table: &[[u8; 8]; 22],
     version: u64,
     deep: usize,
     t: usize,
     list: &mut [i64],
-    to: usize,
-) -> Went
-    requires { ⌜ ((to ≤ at) × (at ≤ length (now s))) × (t < length ((pitsurv version) .types)) ⌝ }
-    ensures { λ r. ⌜ Ends (now (s .entry)) (now (list .entry)) to (readFields version deep (fieldsOf (pitsurv version) t) (drop at (now (s .entry)))) r (now (list .exit)) ⌝ }
+) -> Spot
+    requires { ⌜ Lent (now s) p (now table) version × ((t < 8) × Ahead (readFields version deep (fieldsOf (pitsurv version) t) (drop p (now s))) q) ⌝ }
+    ensures { λ r. ⌜ Lays (now (s .entry)) (now (list .entry)) q (readFields version deep (fieldsOf (pitsurv version) t) (drop p (now (s .entry)))) (r .p) (r .q) (now (list .exit)) ⌝ }
 {
-    let mut p = at;
-    let mut q = to;
-    let mut i = lmcp::start_of(version, t);
-    let end = lmcp::start_of(version, t + 1);
+    let mut a = p;
+    let mut b = q;
+    let mut i = entry(table, lmcp::BEGINS, t);
+    let end = entry(table, lmcp::ENDS, t);
     while i < end {
-        let r = field_at(s, p, version, deep, i, list, q);
-        match r {
-            Went::Stopped(e) => return Went::Stopped(e),
-            Went::To(a, u) => {
-                p = a;
-                q = u;
-            }
-        }
+        let r = put_row(s, a, b, table, version, deep, i, list);
+        a = r.p;
+        b = r.q;
         i += 1;
     }
-    Went::To(p, q)
+    Spot { p: a, q: b }
 }
 
-// An object of a declared type, 0 for any, where objects may still nest so deep.
-fn object_at(
+// n objects of a declared type.
+fn put_objects(
     s: &[u8],
-    at: usize,
+    p: usize,
+    q: usize,
+    table: &[[u8; 8]; 22],
+    version: u64,
+    deep: usize,
+    declared: usize,
+    n: usize,
+    list: &mut [i64],
+) -> Spot
+    requires { ⌜ Lent (now s) p (now table) version × Ahead (repeat n (readObject version deep declared) (drop p (now s))) q ⌝ }
+    ensures { λ r. ⌜ Lays (now (s .entry)) (now (list .entry)) q (repeat n (readObject version deep declared) (drop p (now (s .entry)))) (r .p) (r .q) (now (list .exit)) ⌝ }
+{
+    let mut a = p;
+    let mut b = q;
+    let mut k: usize = 0;
+    while k < n {
+        let r = put_object(s, a, b, table, version, deep, declared, list);
+        a = r.p;
+        b = r.q;
+        k += 1;
+    }
+    Spot { p: a, q: b }
+}
+
+// An object of a declared type.
+fn put_object(
+    s: &[u8],
+    p: usize,
+    q: usize,
+    table: &[[u8; 8]; 22],
     version: u64,
     deep: usize,
     declared: usize,
     list: &mut [i64],
-    to: usize,
-) -> Went
-    requires { ⌜ (to ≤ at) × (at ≤ length (now s)) ⌝ }
-    ensures { λ r. ⌜ Ends (now (s .entry)) (now (list .entry)) to (readObject version deep declared (drop at (now (s .entry)))) r (now (list .exit)) ⌝ }
+) -> Spot
+    requires { ⌜ Lent (now s) p (now table) version × Ahead (readObject version deep declared (drop p (now s))) q ⌝ }
+    ensures { λ r. ⌜ Lays (now (s .entry)) (now (list .entry)) q (readObject version deep declared (drop p (now (s .entry)))) (r .p) (r .q) (now (list .exit)) ⌝ }
 {
-    let h = head_at(s, at, version, deep, declared, list, to);
-    match h {
-        Mark::Bad(e) => Went::Stopped(e),
-        Mark::Of(n, p, q) => {
-            if n == 0 {
-                return Went::To(p, q);
-            }
-            fields_at(s, p, version, deep - 1, n, list, q)
-        }
+    let exists = wire::wide(s[p]);
+    if exists == 0 {
+        put(list, q, 0);
+        return Spot { p: p + 1, q: q + 1 };
     }
+    let t = four(s, p + 9);
+    put(list, q, plain_of(t));
+    put_fields(s, p + 15, q + 1, table, version, deep - 1, t as usize, list)
 }
 
-// The root, which is no null: all of s, into the start of the list.
-fn root_at(s: &[u8], version: u64, list: &mut [i64]) -> Went
-    ensures { λ r. ⌜ Ends (now (s .entry)) (now (list .entry)) 0 (readRoot version (now (s .entry))) r (now (list .exit)) ⌝ }
+// Whether the list has room for the version and the numbers of a root that is in order. A number takes a byte at least, so a list longer than
+// the root has; else the walk goes once over no list at all, and counts.
+fn has_room(s: &[u8], table: &[[u8; 8]; 22], version: u64, list: &mut [i64]) -> bool
+    requires { ⌜ Lent (now s) 0 (now table) version × Ahead (readObject version 16 0 (now s)) 1 ⌝ }
+    ensures { λ r. ⌜ (now (list .exit) ≡ now (list .entry)) × Rooms (readObject version 16 0 (now (s .entry))) (length (now (list .entry))) r ⌝ }
 {
-    if s.len() == 0 {
-        return Went::Stopped(25);
+    if s.len() < list.len() {
+        return true;
     }
-    if wire::number(s, 0, 1) == 0 {
-        return Went::Stopped(23);
-    }
-    object_at(s, 0, version, lmcp::DEEPEST, 0, list, 0)
-}
-
-// The same walk over no list at all: it checks and counts, and writes nothing.
-fn count_root(s: &[u8], version: u64, list: &mut [i64]) -> Went
-    ensures { λ r. ⌜ (now (list .exit) ≡ now (list .entry)) × Ends (now (s .entry)) [] 0 (readRoot version (now (s .entry))) r [] ⌝ }
-{
     let none = 0;
-    root_at(s, version, &mut list[..none])
+    let done = put_object(s, 0, 1, table, version, lmcp::DEEPEST, 0, &mut list[..none]);
+    let most = done.q;
+    most <= list.len()
 }
 
-// The version of a message, by its root: 2 where the root's header says so, else 1, whose table refuses any other.
-fn version_of(s: &[u8]) -> u64
-    ensures { λ r. ⌜ r ≡ versionOf (now (s .entry)) ⌝ }
-{
-    let v = wire::number(s, 13, 2);
-    if v == 2 {
-        return v;
-    }
-    1
-}
-
-// The version, and behind it the numbers of the root, where the list has room for them.
-fn put_list(s: &[u8], version: u64, list: &mut [i64])
-    requires { ⌜ (version < 2 ^ 63) × (1 ≤ length (now list)) ⌝ }
-    ensures { λ _. ⌜ Listed version (now (s .entry)) (now (list .entry)) (now (list .exit)) ⌝ }
-{
-    put(list, 0, plain_of(version));
-    root_at(s, version, &mut list[1..]);
-}
-
-// The numbers of a root of a version: one walk that checks and counts, and then, where all is in order, the same walk, which writes.
-fn read_root(s: &[u8], version: u64, list: &mut [i64]) -> Found
-    requires { ⌜ version < 2 ^ 63 ⌝ }
+// The version, and behind it the numbers of a root that is in order, where the list has room for them.
+fn put_list(s: &[u8], version: u64, list: &mut [i64]) -> Found
+    requires { ⌜ (version < 2 ^ 63) × ((length (now s) < 4294967296) × Ahead (whole (readRoot version (now s))) 1) ⌝ }
     ensures { λ r. ⌜ ReadTo (prepend (pos version ∷ []) (whole (readRoot version (now (s .entry))))) (now (list .entry)) r (now (list .exit)) ⌝ }
 {
-    let first = count_root(s, version, list);
-    match first {
-        Went::Stopped(e) => Found::Refused(e),
-        Went::To(at, count) => {
-            if at != s.len() {
-                return Found::Refused(28);
-            }
-            if list.len() <= count {
-                return Found::Refused(13);
-            }
-            put_list(s, version, list);
-            Found::Numbers(1 + count)
-        }
+    let table = lmcp::table(version);
+    if !has_room(s, &table, version, list) {
+        return Found::Refused(13);
     }
-}
-
-// 0, or what is wrong with a message before its root.
-fn frame_of(m: &[u8]) -> u32
-    ensures { λ r. ⌜ r ≡ frame (now (m .entry)) ⌝ }
-{
-    if m.len() < 12 {
-        return 20;
-    }
-    let magic = lmcp::MAGIC;
-    if !wire::same_at(m, 0, &magic) {
-        return 20;
-    }
-    if lmcp::MAX_MESSAGE < m.len() {
-        return 21;
-    }
-    let n = wire::number(m, 4, 4) as usize;
-    if m.len() != 12 + n {
-        return 21;
-    }
-    let end = m.len() - 4;
-    let sum = wire::number(m, end, 4);
-    if sum == 0 {
-        return 0;
-    }
-    if sum == checksum::checksum(&m[..end]) as u64 {
-        return 0;
-    }
-    22
+    put(list, 0, plain_of(version));
+    let done = put_object(s, 0, 1, &table, version, lmcp::DEEPEST, 0, list);
+    let count = done.q;
+    Found::Numbers(count)
 }
 
 // Reads a message of either version into the start of the list.
 pub fn read_message(message: &[u8], list: &mut [i64]) -> Found
     ensures { λ r. ⌜ ReadTo (readList (now (message .entry))) (now (list .entry)) r (now (list .exit)) ⌝ }
 {
-    let wrong = frame_of(message);
+    let wrong = lmcp_check::check_message(message);
     if wrong != 0 {
         return Found::Refused(wrong);
     }
     let end = message.len() - 4;
     let s = &message[8..end];
-    read_root(s, version_of(s), list)
+    put_list(s, lmcp_check::version_of(s), list)
 }

@@ -1,17 +1,16 @@
 -- From a walk of the list to the writer's answer. Assumes nothing.
 use mathlib.Core.Path.{_≡_, refl, ap, sym, _∙_, subst}
 use mathlib.Core.Bool.{Bool, true, false}
-use mathlib.Core.List.{List, [], _∷_, _++_, append-assoc, append-nil}
+use mathlib.Core.List.{List, [], _∷_, _++_, append-assoc}
 use Prim.Native.Nat.{ℕ, suc, _+_, _-_, _≤_, _<_}
 use native.Mathlib.Omega.{arith}
-use lib.Dec.{ltb}
 use lib.IntN.{ℤ, pos}
 use lib.ListN.{length, getD, take, drop, length-append}
 use lib.Seq.{sets, take-length}
 use lib.Signed.{mag}
 use borrow.Author.Tests.{lt-ltb, le-ltb, le-leb, lt-leb}
 use Rattle.wire.specs.Choice.{pick}
-use Rattle.wire.specs.Bytes.{be, bytes, Bytes}
+use Rattle.wire.specs.Bytes.{bytes}
 use Rattle.wire.specs.Overlay.{overlay}
 use Rattle.wire.proofs.Numbers.{length-bytes}
 use Rattle.wire.proofs.Overlays.{overlay-sets, overlay-next, overlay-at}

@@ -12,7 +12,7 @@ use lib.Signed.{mag, ltZ}
 use lib.ListN.{length, getD, drop, drop-of-length-le}
 use lib.Pow.{pow-add, pow-mono}
 use lib.Seq.{sets, drop-cons}
-use borrow.Author.Tests.{le-ltb, eq-eqb, ne-eqb, ltb-true, eqb-true}
+use borrow.Author.Tests.{le-ltb, eq-eqb, ne-eqb, ltb-true}
 use Rattle.wire.specs.Choice.{pick}
 use Rattle.wire.specs.Bytes.{bytes}
 use Rattle.wire.specs.Overlay.{overlay}

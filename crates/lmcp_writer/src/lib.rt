@@ -5,7 +5,7 @@ use lmcp::Row;
 use lmcp::Went;
 ghost use mathlib.Core.Path.{_≡_};
 ghost use mathlib.Core.List.{[]};
-ghost use Prim.Native.Nat.{_+_, _-_, _*_, _^_, _≤_, _<_};
+ghost use Prim.Native.Nat.{_+_, _*_, _^_, _≤_, _<_, min};
 ghost use lib.ListN.{length, take, drop, getD};
 ghost use Rattle.wire.specs.Choice.{pick};
 ghost use Rattle.wire.specs.Bytes.{bytes};
@@ -18,6 +18,51 @@ ghost use Rattle.lmcp.specs.Write.{writeValue, writeCount, header, typedBy, wri
 ghost use Rattle.lmcp.specs.Message.{checksumOf, writeMessage, WrittenTo};
 ghost use Rattle.lmcp.specs.Lists.{isVersion, writeList};
 ghost use Rattle.lmcp_writer.specs.Steps.{writeObject, writeItem, writeField, writeFields, writeRoot, Laid, Ends, Marks};
+
+// The low two bytes of v, where they have room.
+fn put_two(out: &mut [u8], to: usize, v: u64)
+    requires { ⌜ to + 2 ≤ length (now out) ⌝ }
+    ensures { λ _. ⌜ now (out .exit) ≡ overlay (now (out .entry)) to (bytes 2 v) ⌝ }
+{
+    out[to] = (v / 256 % 256) as u8;
+    out[to + 1] = (v % 256) as u8;
+}
+
+// The low four bytes of v, where they have room.
+fn put_four(out: &mut [u8], to: usize, v: u64)
+    requires { ⌜ to + 4 ≤ length (now out) ⌝ }
+    ensures { λ _. ⌜ now (out .exit) ≡ overlay (now (out .entry)) to (bytes 4 v) ⌝ }
+{
+    put_two(out, to, v / 256 / 256);
+    put_two(out, to + 2, v);
+}
+
+// As wire's, by the width: the compiler makes one move of the bytes of a width that it knows. Over no output at all nothing is done.
+fn put_number(out: &mut [u8], to: usize, w: usize, v: u64)
+    ensures { λ _. ⌜ now (out .exit) ≡ overlay (now (out .entry)) to (bytes (min w 8) v) ⌝ }
+{
+    if out.len() <= to {
+        return;
+    }
+    if out.len() - to < 8 {
+        wire::put_number(out, to, w, v);
+        return;
+    }
+    if w == 4 {
+        put_four(out, to, v);
+        return;
+    }
+    if w == 2 {
+        put_two(out, to, v);
+        return;
+    }
+    if w == 8 {
+        put_four(out, to, v / 256 / 256 / 256 / 256);
+        put_four(out, to + 4, v);
+        return;
+    }
+    wire::put_number(out, to, w, v);
+}
 
 // The 64 bits of a number.
 fn bits_of(z: i64) -> u64
@@ -98,7 +143,7 @@ fn put_value(list: &[i64], at: usize, kind: u8, w: usize, out: &mut [u8], to: us
     }
     let z = list[at];
     if fits_in(kind, w, z) {
-        wire::put_number(out, to, w, bits_of(z));
+        put_number(out, to, w, bits_of(z));
         return Went::To(at + 1, to + w);
     }
     Went::Stopped(denial_of(kind))
@@ -115,7 +160,7 @@ fn put_count(list: &[i64], at: usize, w: usize, out: &mut [u8], to: usize) -> Ma
     let z = list[at];
     if below_of(values_of(lmcp::UNSIGNED_KIND, w), z) {
         let n = lmcp::size_of(z);
-        wire::put_number(out, to, w, n);
+        put_number(out, to, w, n);
         return Mark::Of(n as usize, at + 1, to + w);
     }
     Mark::Bad(29)
@@ -136,10 +181,10 @@ fn put_header(out: &mut [u8], to: usize, version: u64, n: u64)
     requires { ⌜ to + 16 < 2 ^ 64 ⌝ }
     ensures { λ _. ⌜ now (out .exit) ≡ overlay (now (out .entry)) to (header (pitsurv version) n) ⌝ }
 {
-    wire::put_number(out, to, 1, 1);
-    wire::put_number(out, to + 1, 8, lmcp::SERIES);
-    wire::put_number(out, to + 9, 4, n);
-    wire::put_number(out, to + 13, 2, version);
+    put_number(out, to, 1, 1);
+    put_number(out, to + 1, 8, lmcp::SERIES);
+    put_number(out, to + 9, 4, n);
+    put_number(out, to + 13, 2, version);
 }
 
 // The head of an object: null, its depth, its type.
@@ -160,7 +205,7 @@ fn put_head(
     }
     let z = list[at];
     if below_of(1, z) {
-        wire::put_number(out, to, 1, 0);
+        put_number(out, to, 1, 0);
         return Mark::Of(0, at + 1, to + 1);
     }
     if deep == 0 {
@@ -337,10 +382,10 @@ fn put_checksum(out: &mut [u8], calculate: bool, end: usize)
 {
     if calculate {
         let sum = checksum::checksum(&out[..end]);
-        wire::put_number(out, end, 4, sum as u64);
+        put_number(out, end, 4, sum as u64);
         return;
     }
-    wire::put_number(out, end, 4, 0);
+    put_number(out, end, 4, 0);
 }
 
 // The message of a list whose root ends at a place: "LMCP", the root's length, the root, the checksum.
@@ -350,7 +395,7 @@ fn put_message(list: &[i64], version: u64, calculate: bool, end: usize, out: &mu
 {
     let magic = lmcp::MAGIC;
     wire::put_bytes(out, 0, &magic);
-    wire::put_number(out, 4, 4, (end - 8) as u64);
+    put_number(out, 4, 4, (end - 8) as u64);
     put_root(list, version, out);
     put_checksum(out, calculate, end);
 }

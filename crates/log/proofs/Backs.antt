@@ -1,24 +1,24 @@
 -- The edition, in edition 2 the limit, and the entries together determine the log, and the log determines them. Assumes nothing.
-use mathlib.Core.Path.{_≡_, refl, sym, _∙_, ap, subst}
+use mathlib.Core.Path.{_≡_, refl, sym, _∙_, ap}
 use mathlib.Core.Bool.{Bool, true, false}
 use mathlib.Core.Option.{some}
 use mathlib.Core.List.{List, [], _∷_, _++_, append-assoc}
-use Prim.Native.Nat.{ℕ, zero, suc, _+_, _-_, _≤_, _<_, _^_}
+use Prim.Native.Nat.{ℕ, zero, suc, _≤_, _<_, _^_}
 use native.Mathlib.Omega.{arith}
 use lib.Dec.{ltb, eqb}
-use lib.ListN.{length, take, drop, length-append, length-drop, take-append-drop}
+use lib.ListN.{length, take, drop, length-append, take-append-drop}
 use lib.Seq.{take-append-seam, drop-append-seam, length-take-le}
 use borrow.Author.Tests.{le-ltb, ltb-false, eqb-true}
 use Rattle.wire.specs.Bytes.{Bytes}
 use Rattle.wire.specs.Choice.{pick}
-use Rattle.wire.specs.Taken.{Taken, taken, refused, follow}
+use Rattle.wire.specs.Taken.{Taken, taken, refused}
 use Rattle.varint.specs.Seven.{seven, sevenIn}
 use Rattle.varint.proofs.Sevens.{seven-back, back-seven, groups-some}
 use Rattle.datagram.specs.Limits.{maxDatagram, maxPayload}
 use Rattle.log.specs.Editions.{Edition, edition1, edition2, firstByte, secondByte, Lawful, headBytes, limited, limitIn, headIn, headIn1, editionIn}
 use Rattle.log.specs.Entries.{Entry, entryOf, Keeps, AllKeep, entryBytes, bodyOf, logOf}
 use Rattle.log.specs.Listed.{datagramIn, lengthIn, tickIn, entryIn, Listed, whole, broken, after, more, oneMore, listBy, entriesAfter, entriesIn}
-use Rattle.log.proofs.Takes.{Both, both, rest-bytes}
+use Rattle.log.proofs.Takes.{both, rest-bytes}
 
 -- ---- an entry: what is written reads back
 

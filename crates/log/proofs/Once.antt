@@ -4,7 +4,7 @@ use mathlib.Core.List.{List}
 use mathlib.Core.Option.{some}
 use Rattle.log.specs.Editions.{Edition, Lawful, editionIn}
 use Rattle.log.specs.Entries.{Entry, AllKeep, logOf}
-use Rattle.log.specs.Listed.{Listed, whole, entriesIn}
+use Rattle.log.specs.Listed.{whole, entriesIn}
 use Rattle.log.proofs.Backs.{entries-of-log}
 
 -- no two editions, limits or lists of entries have one log

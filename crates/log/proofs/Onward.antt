@@ -1,24 +1,21 @@
 -- What the reader's answers say of the log, and that reading on to the end gives the entries in it. Assumes nothing.
-use mathlib.Core.Path.{_≡_, refl, sym, _∙_, ap, subst}
-use mathlib.Core.Bool.{Bool, true, false}
+use mathlib.Core.Path.{_≡_, refl, sym, _∙_, ap}
 use mathlib.Core.List.{List, [], _∷_, _++_, append-assoc}
 use Prim.Native.Nat.{ℕ, zero, suc, _+_, _-_, _≤_, _<_}
 use native.Mathlib.Omega.{arith}
-use lib.ListN.{length, take, drop, length-append, length-drop, drop-of-length-le}
+use lib.ListN.{length, take, drop, length-append, length-drop}
 use lib.Seq.{drop-drop, take-append-seam, drop-append-seam}
 use Rattle.wire.specs.Bytes.{Bytes}
-use Rattle.wire.specs.Choice.{pick}
 use Rattle.wire.specs.Taken.{Taken, taken, refused}
 use Rattle.wire.proofs.Numbers.{drop-bytes}
 use Rattle.varint.specs.Seven.{seven}
 use Rattle.varint.proofs.Sevens.{groups-some}
 use Rattle.log.specs.Editions.{Edition, edition1, edition2, headBytes, headIn, limitsOf}
 use Rattle.log.specs.Entries.{Entry, entryOf, entryBytes}
-use Rattle.log.specs.Listed.{entryIn, Listed, whole, broken, after, more, oneMore, listBy, entriesAfter, entriesIn}
-use Rattle.log.specs.Told.{firstOf, entryAt, stepOf, stepIn, nextAt, entrySaid, Said, entry, ended, number, says, saidOf, saidIn, readAt, placeAfter, onward, readOn, readAll}
-use Rattle.log.specs.declared.reader.Step.{Step}
-use Rattle.log.specs.declared.reader.Step.the-variants.{Found, End, Refused}
-use Rattle.log.proofs.Backs.{Back, back-entry, back-head}
+use Rattle.log.specs.Listed.{entryIn, after, more, listBy, entriesAfter, entriesIn}
+use Rattle.log.specs.Told.{firstOf, entryAt, stepOf, stepIn, nextAt, entrySaid, says, saidOf, saidIn, readAt, placeAfter, onward, readOn, readAll}
+use Rattle.log.specs.declared.reader.Step.the-variants.{End, Refused}
+use Rattle.log.proofs.Backs.{back-entry, back-head}
 use Rattle.log.proofs.Reading.{read-on, read-first, read-refused}
 
 -- ---- where an entry lies

@@ -1,28 +1,19 @@
 -- The reader's answers by its branches, and what they say in the paper's values. Assumes nothing.
-use mathlib.Core.Path.{_≡_, refl, sym, _∙_, ap}
-use mathlib.Core.Bool.{Bool, true, false}
-use mathlib.Core.List.{List, [], _∷_, _++_}
-use Prim.Native.Nat.{ℕ, zero, suc, _+_, _-_, _≤_, _<_}
-use native.Mathlib.Numerals.{add-one}
+use mathlib.Core.Path.{_≡_, refl, _∙_, ap}
+use mathlib.Core.List.{List, [], _∷_}
+use Prim.Native.Nat.{ℕ, _+_, _-_, _≤_, _<_}
 use native.Mathlib.Omega.{arith}
-use lib.Dec.{eqb, ltb}
 use lib.ListN.{length, getD, take, drop, length-drop, drop-of-length-le}
-use lib.Seq.{drop-cons, drop-drop, length-take-le}
+use lib.Seq.{length-take-le}
 use borrow.Author.Tests.{lt-ltb, le-ltb, eq-eqb, ne-eqb}
-use Rattle.wire.specs.Bytes.{Bytes}
-use Rattle.wire.specs.Choice.{pick}
-use Rattle.wire.specs.Taken.{Taken, taken, refused, follow}
+use Rattle.wire.specs.Taken.{Taken, taken, refused}
 use Rattle.varint.specs.Seven.{sevenIn}
 use Rattle.datagram.specs.Limits.{maxDatagram, maxPayload, maxFragments}
-use Rattle.log.specs.Editions.{Edition, edition1, edition2, firstByte, secondByte, limited, limitIn, headIn, limitsTo, limitsOf, limitsIn}
-use Rattle.log.specs.Entries.{Entry, entryOf}
+use Rattle.log.specs.Editions.{Edition, edition1, firstByte, secondByte, limited, limitIn, headIn, limitsTo, limitsOf, limitsIn}
 use Rattle.log.specs.Listed.{datagramIn, lengthIn, tickIn, entryIn}
-use Rattle.log.specs.Told.{firstOf, firstIn, entryAt, stepOf, stepIn, nextAt, readAt}
-use Rattle.log.specs.declared.reader.EntryAt.{EntryAt}
+use Rattle.log.specs.Told.{firstOf, firstIn, stepOf, stepIn, nextAt, readAt}
 use Rattle.log.specs.declared.reader.Limits.{Limits}
-use Rattle.log.specs.declared.reader.First.{First}
 use Rattle.log.specs.declared.reader.First.the-variants as first
-use Rattle.log.specs.declared.reader.Step.{Step}
 use Rattle.log.specs.declared.reader.Step.the-variants.{Found, End, Refused}
 
 -- ---- the head

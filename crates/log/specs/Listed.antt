@@ -5,8 +5,8 @@ use mathlib.Core.List.{List, [], _∷_}
 use Prim.Native.Nat.{ℕ, zero, suc}
 use lib.Dec.{ltb}
 use lib.ListN.{length, take, drop}
-use Rattle.wire.specs.Choice.{_when_else_}
 use Rattle.wire.specs.Taken.{Taken, taken, refused, follow}
+use Rattle.wire.specs.Choice.{_when_else_}
 use Rattle.varint.specs.Seven.{sevenIn}
 use Rattle.datagram.specs.Limits.{maxDatagram}
 use Rattle.log.specs.Editions.{Edition, headIn}

@@ -3,7 +3,7 @@ ghost use mathlib.Core.Path.{_≡_};
 ghost use Prim.Native.Nat.{_≤_};
 ghost use lib.ListN.{length, drop};
 ghost use Rattle.log.specs.Editions.{limited, limitIn, limitsIn};
-ghost use Rattle.log.specs.Listed.{datagramIn, lengthIn, tickIn, entryIn};
+ghost use Rattle.log.specs.Listed.{datagramIn, lengthIn, tickIn};
 ghost use Rattle.log.specs.Told.{firstOf, firstIn, stepOf, nextAt, readAt, placeAfter};
 use varint::Seven;
 

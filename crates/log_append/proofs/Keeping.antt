@@ -1,12 +1,11 @@
 -- `begin` with a limit, and then `append` of each entry, leave the log of edition 2, that limit and the entries at the start of the output. Assumes nothing.
-use mathlib.Core.Path.{_≡_, refl, sym, _∙_, ap, subst}
+use mathlib.Core.Path.{_≡_, refl, sym, _∙_, ap}
 use mathlib.Core.Bool.{Bool, true, false}
 use mathlib.Core.List.{List, [], _∷_, _++_, append-assoc, append-nil}
-use Prim.Native.Nat.{ℕ, zero, suc, _+_, _-_, _≤_, _<_}
+use Prim.Native.Nat.{ℕ, _+_, _≤_}
 use native.Mathlib.Omega.{arith}
-use native.Mathlib.Nat.{zero-add}
 use lib.Dec.{ltb}
-use lib.ListN.{length, take, drop, length-append}
+use lib.ListN.{length, take, length-append}
 use borrow.Author.Tests.{ltb-false, le-ltb}
 use Rattle.wire.specs.Choice.{pick}
 use Rattle.wire.specs.Overlay.{overlay}
@@ -14,8 +13,7 @@ use Rattle.wire.proofs.Overlays.{length-overlay, overlay-next, overlay-at}
 use Rattle.datagram.specs.Limits.{maxDatagram, maxPayload}
 use Rattle.log.specs.Editions.{Edition, edition2, headBytes}
 use Rattle.log.specs.Entries.{Entry, entryBytes, bodyOf, logOf}
-use Rattle.log_append.specs.Writes.{Answer, wrote, refused, fitted, beginAnswer, appendAnswer, output, Began, Appended, Kept, begun, added}
-use Rattle.log_append.specs.declared.Written.{Written}
+use Rattle.log_append.specs.Writes.{wrote, refused, fitted, beginAnswer, appendAnswer, Began, Appended, Kept, begun, added}
 use Rattle.log_append.specs.declared.Written.the-variants.{Next}
 
 -- ---- one entry more

@@ -3,16 +3,15 @@ use mathlib.Core.Path.{_≡_, refl, sym, ap, subst, _∙_}
 use mathlib.Core.List.{List, [], _∷_, _++_, append-assoc}
 use Prim.Native.Nat.{ℕ, zero, suc, _+_, _-_, _≤_, _<_}
 use native.Mathlib.Omega.{arith}
-use lib.ListN.{length, take, drop, length-append, length-drop}
-use lib.Seq.{drop-append-seam, take-append-seam}
+use lib.ListN.{length, drop, length-append}
+use lib.Seq.{drop-append-seam}
 use Rattle.wire.specs.Bytes.{Bytes}
 use Rattle.wire.specs.Taken.{Taken, taken, refused}
-use Rattle.wire.proofs.Numbers.{drop-bytes}
 use Rattle.datagram.specs.Read.{readDatagram}
 use Rattle.datagram.specs.declared.Read.{Read}
 use Rattle.datagram.specs.declared.Read.the-variants.{Good, Refused}
 use Rattle.log.specs.Editions.{Edition, Lawful, headBytes, headIn, limitsOf}
-use Rattle.log.specs.Entries.{Entry, Keeps, AllKeep, entryBytes, bodyOf}
+use Rattle.log.specs.Entries.{Entry, AllKeep, entryBytes, bodyOf}
 use Rattle.log.specs.Listed.{Listed, whole, broken, after, more, oneMore, listBy, entryIn}
 use Rattle.log.specs.declared.reader.Limits.{Limits}
 use Rattle.log.proofs.Backs.{entry-back, entry-some, HeadBack, back-body, back-head, head-back}

@@ -1,16 +1,16 @@
 -- A key at its place, or not. Assumes nothing.
-use mathlib.Core.Path.{_≡_, refl, sym, ap, _∙_}
+use mathlib.Core.Path.{_≡_, sym, ap, _∙_}
 use mathlib.Core.Bool.{Bool, true, false, _&&_}
-use mathlib.Core.Option.{Option, none, some}
+use mathlib.Core.Option.{none, some}
 use mathlib.Core.List.{List}
-use Prim.Native.Nat.{ℕ, _+_, _*_, _/_, _≤_, _<_}
+use Prim.Native.Nat.{ℕ, _+_, _*_, _<_}
 use native.Mathlib.Omega.{arith}
 use lib.Dec.{ltb}
 use lib.ListN.{length, getD}
 use borrow.Author.Tests.{ltb-true}
 use Rattle.wire.specs.Choice.{pick}
 use Rattle.wire.proofs.Choices.{and-l}
-use Rattle.log_index.specs.Rows.{Row, rowOf, isOf}
+use Rattle.log_index.specs.Rows.{rowOf, isOf}
 use Rattle.log_index.specs.Words.{rowAt, rankIn, held, atRank, foundIn}
 
 module _ (w : List ℕ) (n s q m i : ℕ) (e : m ≡ held w n) (r : i ≡ rankIn w m (rowOf s q 0)) where

@@ -1,6 +1,6 @@
 -- Rows that enter an index of others make the index of all, worked out afresh. Assumes nothing.
-use mathlib.Core.Path.{_≡_, refl, sym, ap, _∙_}
-use mathlib.Core.List.{List, [], _∷_, _++_}
+use mathlib.Core.Path.{_≡_, sym, ap, _∙_}
+use mathlib.Core.List.{List, _++_}
 use Prim.Native.Nat.{ℕ, _+_, _*_, _≤_}
 use native.Mathlib.Omega.{arith}
 use lib.ListN.{length, take, drop, length-append, length-drop, take-append-drop}
@@ -9,7 +9,7 @@ use Rattle.wire.specs.Overlay.{overlay}
 use Rattle.wire.proofs.Overlays.{overlay-eq}
 use Rattle.log_index.specs.Rows.{Row, sorted}
 use Rattle.log_index.specs.Words.{wordsOf, enteredAll}
-use Rattle.log_index.proofs.Sorts.{putAll, added-sorted, sorted-ordered, sorted-length}
+use Rattle.log_index.proofs.Sorts.{added-sorted, sorted-ordered, sorted-length}
 use Rattle.log_index.proofs.Wordings.{words-length, entered-all}
 
 pub entered-sorted : (w : List ℕ) (xs ys : List Row) → take (3 * length xs) w ≡ wordsOf (sorted xs) → 3 * (length xs + length ys) ≤ length w

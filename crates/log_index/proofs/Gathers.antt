@@ -1,22 +1,20 @@
 -- The rows of a log: entry by entry, and of a log that others were added to. Assumes nothing.
 use mathlib.Core.Path.{_≡_, refl, sym, ap, subst, _∙_}
-use mathlib.Core.List.{List, [], _∷_, _++_, append-assoc}
+use mathlib.Core.List.{List, [], _∷_, _++_}
 use Prim.Native.Nat.{ℕ, zero, suc, _+_, _-_, _≤_, _<_}
 use native.Mathlib.Omega.{arith}
 use lib.ListN.{length, take, drop, length-append, length-drop}
-use lib.Seq.{drop-append-seam}
 use Rattle.wire.specs.Bytes.{Bytes}
 use Rattle.wire.specs.Taken.{Taken, taken, refused}
 use Rattle.wire.proofs.Numbers.{drop-bytes}
 use Rattle.datagram.specs.Read.{readDatagram}
-use Rattle.log.specs.Entries.{Entry, AllKeep, entryBytes, bodyOf}
-use Rattle.log.specs.Listed.{Listed, whole, broken, after, more, oneMore, listBy, entryIn}
-use Rattle.log.specs.Told.{stepOf, stepIn, nextAt, entryAt, entrySaid}
+use Rattle.log.specs.Entries.{Entry, entryBytes}
+use Rattle.log.specs.Listed.{Listed, whole, broken, after, more, listBy, entryIn}
+use Rattle.log.specs.Told.{stepOf, stepIn, nextAt, entryAt}
 use Rattle.log.specs.declared.reader.EntryAt.{EntryAt}
 use Rattle.log.specs.declared.reader.Limits.{Limits}
-use Rattle.log.specs.declared.reader.Step.{Step}
 use Rattle.log.specs.declared.reader.Step.the-variants.{Found, End, Refused}
-use Rattle.log.proofs.Backs.{back-entry, entry-back, entry-some}
+use Rattle.log.proofs.Backs.{back-entry, entry-some}
 use Rattle.log.proofs.Takes.{rest-bytes}
 use Rattle.log.proofs.Onward.{found-at}
 use Rattle.log.proofs.Reading.{next-end}

@@ -1,4 +1,3 @@
-pub mod Halves
 pub mod Moves
 pub mod Finds
 pub mod Order

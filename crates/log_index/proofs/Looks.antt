@@ -5,19 +5,19 @@ use mathlib.Core.Bool.{Bool, true, false, _&&_}
 use mathlib.Core.Option.{Option, some}
 use mathlib.Core.Option as option
 use mathlib.Core.List.{List, [], _∷_, _++_}
-use Prim.Native.Nat.{ℕ, zero, suc, _+_, _*_, _/_, _≤_, _<_, min}
+use Prim.Native.Nat.{ℕ, zero, suc, _<_}
 use native.Mathlib.Omega.{arith}
 use lib.Dec.{eqb, ltb}
 use lib.ListN.{length, getD}
-use borrow.Author.Tests.{eq-eqb, ne-eqb, eqb-true, eqb-false, lt-ltb, le-ltb, ltb-true, ltb-false}
+use borrow.Author.Tests.{eq-eqb, eqb-true, lt-ltb, le-ltb, ltb-true, ltb-false}
 use Rattle.wire.specs.Choice.{pick}
 use Rattle.wire.proofs.Choices.{either, never, and-l, and-r}
 use Rattle.log_index.specs.Rows.{Row, rowOf, earlier, put, sorted, isOf, firstOf}
-use Rattle.log_index.specs.Words.{wordsOf, rowAt, rankIn, held, atRank, foundIn}
+use Rattle.log_index.specs.Words.{wordsOf, rankIn, held, atRank, foundIn}
 use Rattle.log_index.proofs.Order.{Before, by-sender, by-sequence, by-place, Behind, of-sender, of-sequence, of-place, test-before, test-behind, upto-trans}
-use Rattle.log_index.proofs.Halves.{Turns}
+use Rattle.wire.proofs.Halves.{Turns}
 use Rattle.log_index.proofs.Sorts.{none, All, Ordered, put-on, put-here, put-only, sorted-ordered, sorted-length, sorted-all, earlierAt, turns-rest}
-use Rattle.log_index.proofs.Wordings.{words-length, words-all, row-words, rank-turns}
+use Rattle.log_index.proofs.Wordings.{words-all, row-words, rank-turns}
 
 -- row by row: the first that is not before the key is one of its own, or there is none
 abbrev own : ℕ → ℕ → Row → Option ℕ

@@ -1,20 +1,20 @@
 -- A batch of sorted rows goes into an index, each row to where sorting puts it. Assumes nothing.
 use mathlib.Core.Path.{_≡_, refl, sym, ap, subst, _∙_}
 use mathlib.Core.Logic.{inl, inr}
-use mathlib.Core.Bool.{Bool, true, false, _&&_}
+use mathlib.Core.Bool.{false}
 use mathlib.Core.List.{List, [], _∷_, _++_, append-assoc}
 use Prim.Native.Nat.{ℕ, zero, suc, _+_, _-_, _*_, _/_, _≤_, _<_}
 use native.Mathlib.Omega.{arith}
-use lib.Dec.{leb}
-use lib.ListN.{length, getD, take, drop, length-append, length-drop, length-take, take-append-drop}
+use lib.ListN.{length, getD, take, drop, length-append, length-drop, length-take}
 use lib.Seq.{drop-at, take-add, take-suc}
 use borrow.Author.Tests.{le-leb, lt-leb}
 use Rattle.wire.specs.Overlay.{overlay}
 use Rattle.wire.proofs.Choices.{either}
 use Rattle.wire.proofs.Overlays.{overlay-eq}
-use Rattle.log_index.specs.Rows.{Row, rowOf, earlier, put, sorted}
-use Rattle.log_index.specs.Words.{wordsOf, rowAt, rankIn, inserted, mergedBy, merged, MergesOne}
-use Rattle.log_index.proofs.Sorts.{none, All, all-at, Ordered, put-on, put-here, put-only, put-swap, putAll, put-first, put-at}
+use Rattle.log_index.specs.Rows.{Row, earlier, put}
+use Rattle.log_index.specs.Words.{wordsOf, rankIn, inserted, mergedBy, merged}
+use Rattle.log_index.specs.Inside.{MergesOne}
+use Rattle.log_index.proofs.Sorts.{none, All, all-at, Ordered, put-on, put-here, put-only, put-swap, putAll, put-at}
 use Rattle.log_index.proofs.Wordings.{words-length, words-append, row-words, take-words, moved, rank-turns}
 
 -- ---- a turn at a time

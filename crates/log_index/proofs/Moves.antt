@@ -1,14 +1,14 @@
 -- Words moved up by a row, and a row put in front of them. Assumes nothing.
-use mathlib.Core.Path.{_≡_, refl, sym, ap, _∙_}
-use mathlib.Core.List.{List, [], _∷_, _++_}
+use mathlib.Core.Path.{_≡_, sym, ap, _∙_}
+use mathlib.Core.List.{List, [], _∷_}
 use Prim.Native.Nat.{ℕ, suc, _+_, _-_, _*_, _≤_, _<_}
 use native.Mathlib.Omega.{arith}
-use native.Mathlib.Numerals.{add-one}
 use lib.ListN.{length, getD, set, take, drop}
 use lib.Seq.{drop-cons}
 use Rattle.wire.specs.Overlay.{overlay}
 use Rattle.wire.proofs.Overlays.{overlay-nil, overlay-one, overlay-append, overlay-apart, overlay-before, length-overlay}
-use Rattle.log_index.specs.Words.{movedUp, inserted}
+use Rattle.log_index.specs.Words.{inserted}
+use Rattle.log_index.specs.Inside.{movedUp}
 use Rattle.log_index.specs.Rows.{Row}
 
 -- one more word in front

@@ -6,11 +6,10 @@ use mathlib.Core.List.{List, [], _∷_, _++_}
 use Prim.Native.Nat.{ℕ, zero, suc, _≤_, _<_}
 use native.Mathlib.Omega.{arith}
 use lib.ListN.{length, getD, take, drop}
-use Rattle.wire.specs.Choice.{pick}
 use Rattle.wire.proofs.Choices.{either}
 use Rattle.log_index.specs.Rows.{Row, rowOf, earlier, put, sorted}
 use Rattle.log_index.proofs.Order.{earlier-turned, upto-trans, upto-earlier, earlier-same}
-use Rattle.log_index.proofs.Halves.{Turns}
+use Rattle.wire.proofs.Halves.{Turns}
 
 abbrev pub All : (Row → Type 0) → List Row → Type 0
 All P [] = Unit {0}

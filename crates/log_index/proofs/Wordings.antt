@@ -1,19 +1,19 @@
 -- Sorted rows in words: a row that goes in by halving goes where sorting puts it. Assumes nothing.
-use mathlib.Core.Path.{_≡_, refl, sym, ap, subst, _∙_}
-use mathlib.Core.Bool.{Bool, true, false}
-use mathlib.Core.List.{List, [], _∷_, _++_, append-assoc}
+use mathlib.Core.Path.{_≡_, refl, sym, ap, _∙_}
+use mathlib.Core.Bool.{Bool, true}
+use mathlib.Core.List.{List, [], _∷_, _++_}
 use Prim.Native.Nat.{ℕ, zero, suc, _+_, _-_, _*_, _/_, _≤_, _<_}
 use native.Mathlib.Omega.{arith}
 use native.Mathlib.Numerals.{add-one}
-use lib.ListN.{length, getD, take, drop, length-append, length-drop, length-take}
+use lib.ListN.{length, getD, take, drop, length-append, length-drop}
 use lib.Seq.{drop-drop, drop-at, take-append-seam}
 use borrow.Author.Tests.{lt-ltb}
-use Rattle.wire.specs.Choice.{pick}
 use Rattle.wire.specs.Overlay.{overlay}
 use Rattle.wire.proofs.Overlays.{overlay-eq}
 use Rattle.log_index.specs.Rows.{Row, rowOf, earlier, put}
-use Rattle.log_index.specs.Words.{wordsOf, rowAt, halve, rankIn, inserted, entered, enteredAll}
-use Rattle.log_index.proofs.Halves.{Turns, halve-turns}
+use Rattle.wire.specs.Halving.{halve}
+use Rattle.log_index.specs.Words.{wordsOf, rowAt, rankIn, inserted, entered, enteredAll}
+use Rattle.wire.proofs.Halves.{Turns, halve-turns}
 use Rattle.log_index.proofs.Sorts.{none, Ordered, put-length, put-ordered, putAll, falls, earlierAt, put-at}
 
 pub words-length : (rs : List Row) → length (wordsOf rs) ≡ 3 * length rs

@@ -2,3 +2,4 @@ pub mod Limits
 pub mod Rows
 pub mod Index
 pub mod Words
+pub mod Inside

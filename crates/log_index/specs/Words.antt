@@ -1,13 +1,13 @@
 -- An index in lent words, three a row. For words that are no index this says what comes of them all the same. Definitions only.
-use mathlib.Core.Path.{_≡_}
-use mathlib.Core.Bool.{Bool, _&&_}
+use mathlib.Core.Bool.{_&&_}
 use mathlib.Core.Option.{Option, none, some}
-use mathlib.Core.List.{List, [], _∷_, _++_}
-use Prim.Native.Nat.{ℕ, zero, suc, _+_, _-_, _*_, _/_, _≤_, min}
+use mathlib.Core.List.{List, [], _∷_}
+use Prim.Native.Nat.{ℕ, zero, suc, _+_, _-_, _*_, _/_, min}
 use lib.Dec.{ltb, leb}
 use lib.ListN.{length, getD, take, drop}
 use Rattle.wire.specs.Choice.{pick}
 use Rattle.wire.specs.Overlay.{overlay}
+use Rattle.wire.specs.Halving.{halve}
 use Rattle.log_index.specs.Limits.{batchRows}
 use Rattle.log_index.specs.Rows.{Row, rowOf, earlier, sorted, isOf}
 use Rattle.log_index.specs.declared.Found.{Found}
@@ -22,26 +22,11 @@ rowAt w i = rowOf (getD w (3 * i) 0) (getD w (3 * i + 1) 0) (getD w (3 * i + 2) 
 
 -- ---- by halving
 
-abbrev pub middle : ℕ → ℕ → ℕ
-middle low high = low + (high - low) / 2
-
--- between low and high, the half where a test changes from true to false is looked at next
-unfoldable pub halve : ℕ → (ℕ → Bool) → ℕ → ℕ → ℕ
-halve zero p low high = low
-halve (suc k) p low high =
-    pick (ltb low high)
-    (halve k p (pick (p (middle low high)) (middle low high + 1) low) (pick (p (middle low high)) high (middle low high)))
-    low
-
 -- the place of a row among the first n; as many turns as there are rows are enough
 unfoldable pub rankIn : List ℕ → ℕ → Row → ℕ
 rankIn w n r = halve n (λ i. earlier (rowAt w i) r) 0 n
 
 -- ---- a row goes in
-
--- the words from a place up to another, so many further up
-abbrev pub movedUp : List ℕ → ℕ → ℕ → ℕ → List ℕ
-movedUp w from to by = overlay w (from + by) (take (to - from) (drop from w))
 
 -- k rows above a place, and those from the place up to the n-th behind it; so there is room for k rows that come before it
 unfoldable pub inserted : List ℕ → ℕ → ℕ → ℕ → Row → List ℕ
@@ -61,13 +46,6 @@ enteredAll w n (r ∷ rs) = enteredAll (entered w n r) (n + 1) rs
 unfoldable pub mergedBy : ℕ → List ℕ → List ℕ → ℕ → List ℕ
 mergedBy zero batch w n = w
 mergedBy (suc j) batch w n = mergedBy j batch (inserted w (rankIn w n (rowAt batch j)) n j (rowAt batch j)) (rankIn w n (rowAt batch j))
-
--- a turn of it
-pub record MergesOne (w : List ℕ) (n : ℕ) (batch : List ℕ) (j at : ℕ) (w′ : List ℕ) : Type 0 where
-  pub place : at ≡ rankIn w n (rowAt batch j)
-  pub within : at ≤ n
-  pub size : length w′ ≡ length w
-  pub words : w′ ≡ inserted w (rankIn w n (rowAt batch j)) n j (rowAt batch j)
 
 -- the first m rows of a batch, where both have words for them
 unfoldable pub merged : List ℕ → ℕ → List ℕ → ℕ → List ℕ

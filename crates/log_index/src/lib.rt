@@ -2,12 +2,12 @@
 // others, and a key, are found by halving.
 ghost use mathlib.Core.Path.{_≡_};
 ghost use mathlib.Core.Bool.{_&&_};
-ghost use Prim.Native.Nat.{_+_, _*_, _/_, _≤_, _<_};
+ghost use Prim.Native.Nat.{_+_, _*_, _≤_};
 ghost use lib.Dec.{ltb};
 ghost use lib.ListN.{length};
-ghost use Rattle.log_index.specs.Limits.{maxIndex};
 ghost use Rattle.log_index.specs.Rows.{rowOf, earlier, isOf};
-ghost use Rattle.log_index.specs.Words.{rowAt, rankIn, movedUp, inserted, entered, mergedBy, merged, MergesOne, held, foundIn, says};
+ghost use Rattle.log_index.specs.Words.{rowAt, rankIn, inserted, entered, mergedBy, merged, foundIn, says};
+ghost use Rattle.log_index.specs.Inside.{movedUp, MergesOne};
 
 // The most rows of an index.
 pub const MAX_INDEX: usize = 4096;

@@ -1,5 +1,4 @@
 // What the programs over a log share: their lines.
-ghost use mathlib.Core.Path.{_≡_};
 ghost use Rattle.output.specs.Output.{Pours};
 ghost use Rattle.log_lines.specs.Lines.{entryLine, lastLine, longerLine};
 use log::EntryAt;

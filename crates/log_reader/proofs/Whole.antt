@@ -1,14 +1,13 @@
 -- Reading on from the open reader to its end gives the entries in the log. Assumes nothing.
-use mathlib.Core.Path.{_≡_, refl, sym, _∙_, ap}
+use mathlib.Core.Path.{_≡_, refl, _∙_, ap}
 use mathlib.Core.List.{List}
 use Prim.Native.Nat.{ℕ, zero, suc}
 use lib.ListN.{length}
 use denote.Ref.{RefT, now}
 use Rattle.wire.specs.Bytes.{Bytes}
-use Rattle.log.specs.Listed.{Listed, whole, broken, after, entriesIn}
+use Rattle.log.specs.Listed.{after, entriesIn}
 use Rattle.log.specs.Told.{entrySaid, readAt, placeAfter, readOn, readAll}
 use Rattle.log.specs.Told as told
-use Rattle.log.specs.declared.reader.EntryAt.{EntryAt}
 use Rattle.log.specs.declared.reader.Step.{Step}
 use Rattle.log.specs.declared.reader.Step.the-variants.{Found, End, Refused}
 use Rattle.log.proofs.Onward.{read-all, refused-again}

@@ -1,13 +1,12 @@
 -- An entry that was appended where room was made goes out, and no refusal comes there. Assumes nothing.
 use mathlib.Core.Path.{_≡_, refl, sym, _∙_, ap, subst}
 use mathlib.Core.List.{List}
-use Prim.Native.Nat.{ℕ, _+_, _≤_, min}
+use Prim.Native.Nat.{ℕ, _+_, _≤_}
 use native.Mathlib.Omega.{arith}
 use lib.ListN.{length}
 use borrow.Author.Tests.{le-ltb}
 use Rattle.datagram.specs.Limits.{maxDatagram}
-use Rattle.text.specs.Put.{Put}
-use Rattle.output.specs.Output.{drained, Sends}
+use Rattle.output.specs.Output.{drained}
 use Rattle.output.proofs.Sending.{sends-line, drained-fits}
 use Rattle.log.specs.Entries.{Entry, entryOf, entryBytes}
 use Rattle.log_append.specs.Writes.{Answer, wrote, refused, says, appendAnswer, output, Appended}

@@ -1,6 +1,5 @@
 // Makes a log. Standard input holds records: an 8-byte sender, an 8-byte tick, a 2-byte length and so many bytes, all big-endian; standard
 // output is their log. Of an input that is cut the whole records are kept.
-ghost use mathlib.Core.Path.{_≡_};
 ghost use lib.ListN.{drop};
 ghost use Rattle.wire.specs.Bytes.{be};
 ghost use Rattle.log.specs.Entries.{entryOf};

@@ -1,6 +1,6 @@
 -- Every marked case gives what the paper says, computed in one statement. Assumes nothing.
 use mathlib.Core.Path.{_≡_, refl}
-use mathlib.Core.List.{List, map, zipWith}
+use mathlib.Core.List.{map, zipWith}
 use Rattle.wire.specs.Bytes.{be, bytes}
 use Rattle.wire.specs.Overlay.{overlay}
 use Rattle.wire.specs.Sum.{sum}
@@ -22,7 +22,7 @@ use Rattle.lmcp.specs.Read.{judged, readValue, readCount, typed, known, readHea
 use Rattle.lmcp.specs.Walk.{item, field, fields, object, root}
 use Rattle.lmcp.specs.Message.{frame, readMessage}
 use Rattle.lmcp.specs.Lists.{readAs, readList}
-use Rattle.marked.specs.Ask.{Given, given}
+use Rattle.marked.specs.Ask.{given}
 use Rattle.marked.specs.Table.{Case, cases}
 
 pub marked : map (λ (c : Case). given (c .ask)) cases ≡ map (λ (c : Case). c .gives) cases

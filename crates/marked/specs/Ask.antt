@@ -1,10 +1,7 @@
 -- What a marked case asks of which definition, and what it is given. Definitions only.
-use mathlib.Core.Bool.{Bool, true, false}
-use mathlib.Core.List.{List, [], _∷_, _++_, map}
+use mathlib.Core.List.{List, [], _∷_, map}
 use Prim.Native.Nat.{ℕ, zero, suc}
-use lib.IntN.{ℤ}
 use lib.ListN.{length, replicate}
-use Rattle.wire.specs.Choice.{pick}
 use Rattle.datagram.specs.Limits.{maxPayload, maxFragments}
 use Rattle.datagram.specs.Said.{Said, refused, small, fragment, said}
 use Rattle.cutter.specs.Cut.{countOf, datagramOf}

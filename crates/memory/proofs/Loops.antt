@@ -1,26 +1,26 @@
 -- Laws of the definitions, one turn at a time, as the loops use them.
 use mathlib.Core.Path.{_≡_, refl, sym, _∙_, ap}
-use mathlib.Core.Bool.{Bool, true, false, not, _&&_, _||_}
-use mathlib.Core.Option.{Option, none, some, Option·map}
+use mathlib.Core.Bool.{Bool, true, false, not, _&&_, _||_, or-true}
+use mathlib.Core.Option.{Option, none, some}
 use mathlib.Core.List.{List, [], _∷_, _++_}
-use Prim.Native.Nat.{ℕ, zero, suc, _+_, _≤_, _<_, min}
+use Prim.Native.Nat.{ℕ, zero, suc, _+_, _%_, _≤_, _<_, min}
 use native.Mathlib.Numerals.{add-one}
 use native.Mathlib.Decide.{ℕ-discrete, decLe}
 use native.Mathlib.Omega.{arith}
-use borrow.Author.Tests.{eq-eqb, ne-eqb}
+use borrow.Author.Tests.{eq-eqb, ne-eqb, eqb-false, le-leb}
+use lib.Bits.{bitOr, or-add-and, and-le-l, and-le-r}
 use lib.Dec.{eqb, leb}
-use lib.ListN.{length, getD, set, take, drop, length-set, length-take, length-drop}
-use lib.Seq.{take-suc, take-all, take-take, getD-take, getD-drop, length-take-le}
-use Rattle.wire.specs.Choice.{pick}
+use lib.ListN.{length, getD, set, take, length-set}
+use lib.Seq.{take-suc, take-all}
 use Rattle.wire.proofs.Choices.{and-false, pick-all}
 use Rattle.words.specs.Builds.{build}
-use Rattle.words.proofs.Builds.{length-build, getD-build, build-is}
+use Rattle.words.proofs.Builds.{length-build, getD-build}
 use Rattle.steps.specs.Limits.{sendersMost, keysEach}
 use Rattle.steps.specs.Search.{allBelow, first}
-use Rattle.steps.proofs.Tables.{all-cong}
+use Rattle.steps.proofs.Tables.{all-cong, all-of}
 use Rattle.steps.specs.Memory.{Place, vacant, isOf, remembered, has, orElse, placeAt, noPlace, memoryOk}
 use Rattle.memory.specs.Words.{senderAt, usedAt, sequencesAt, sequencesIn, placeIn, memoryIn}
-use Rattle.memory.specs.Parts.{shiftedIn, freedAt, freedIn}
+use Rattle.memory.specs.InsideParts.{shiftedIn, freedAt, freedIn}
 
 -- ---- the first place that passes
 
@@ -67,10 +67,6 @@ has-snoc (y ∷ l) x q = rw (has-snoc l x q) (go (eqb y q) (has l q) (eqb x q))
     go true c d = refl
     go false c d = refl
 
-or-true : (b : Bool) → (b || true) ≡ true
-or-true true = refl
-or-true false = refl
-
 module _ (l : List ℕ) (q : ℕ) where
   pub has-more : (j : ℕ) → j < length l → has (take j l) q ≡ false → eqb (getD l j 0) q ≡ false → has (take (j + 1) l) q ≡ false
   has-more j h a e = rw add-one (rw (take-suc l j 0 h, has-snoc (take j l) (getD l j 0) q, a, e))
@@ -81,13 +77,6 @@ module _ (l : List ℕ) (q : ℕ) where
     | yes z ↦ rw (take-suc l n 0 (omega arith), has-snoc (take n l) (getD l n 0) q, sym (ap (λ (i : ℕ). eqb (getD l i 0) q) z) ∙ e) (or-true (has (take n l) q))
     | no z ↦ rw (take-suc l n 0 (omega arith), has-snoc (take n l) (getD l n 0) q, has-hit j n (omega arith) (omega arith) e)
   ]
-
-  -- a turn of a loop that counts: n of the first j are the one, and then m of one more
-  pub among-hit : (j n m : ℕ) → j < length l → getD l j 0 ≡ q → m ≡ n + 1 → not (eqb m 0) ≡ has (take (j + 1) l) q
-  among-hit j n m h e f = rw (add-one, take-suc l j 0 h, has-snoc (take j l) (getD l j 0) q, eq-eqb _ _ e, or-true (has (take j l) q)) (ap not (ne-eqb m 0 (omega arith)))
-
-  pub among-more : (j n m : ℕ) → j < length l → not (eqb n 0) ≡ has (take j l) q → (getD l j 0 ≡ q → ⊥) → m ≡ n → not (eqb m 0) ≡ has (take (j + 1) l) q
-  among-more j n m h a e f = rw (add-one, take-suc l j 0 h, has-snoc (take j l) (getD l j 0) q, ne-eqb _ _ e, or-false (has (take j l) q), f) a
 
   -- more count than there are
   pub take-min : (n m : ℕ) → length l ≡ m → take n l ≡ take (min n m) l
@@ -111,15 +100,26 @@ module _ (w : List ℕ) (i q n : ℕ) (e : n ≡ min (getD w (usedAt i) 0) keysE
   pub key-missed : has (take n (sequencesIn w i)) q ≡ false → has (remembered (placeIn w i)) q ≡ false
   key-missed a = rw kept-are a
 
-  -- in a memory they stand side by side
-  pub row-is : sequencesAt i + keysEach ≤ length w → has (take n (drop (sequencesAt i) w)) q ≡ has (remembered (placeIn w i)) q
-  row-is h =
-      let f : ℕ → ℕ = λ j. getD w (sequencesAt i + j) 0 in
-      let row = take keysEach (drop (sequencesAt i) w) in
-      let long : length row ≡ keysEach = length-take-le keysEach (drop (sequencesAt i) w) (rw length-drop (omega arith)) in
-      let same : (j : ℕ) → j < keysEach → f j ≡ getD row j 0 = λ j l. sym (getD-take keysEach (drop (sequencesAt i) w) j 0 l ∙ getD-drop (sequencesAt i) w j 0) in
-      let built : sequencesIn w i ≡ row = build-is keysEach f row 0 long same in
-      sym (rw kept-are (ap (λ (l : List ℕ). has l q) (ap (take n) built ∙ take-take n keysEach (drop (sequencesAt i) w) (omega arith))))
+  none-of : (j : ℕ) → j ≤ n → ((k : ℕ) → k < j → getD w (sequencesAt i + k) 0 ≡ q → ⊥) → has (take j (sequencesIn w i)) q ≡ false
+  none-of zero h d = refl
+  none-of (suc j) h d =
+      ap (λ (k : ℕ). has (take k (sequencesIn w i)) q) (sym (add-one j))
+      ∙ key-more j h (none-of j (omega arith) (λ k l. d k (omega arith))) (d j (omega arith))
+
+-- a turn of a loop over low halves: while none was seen, no number was the one
+pub seen-more : (f : ℕ → ℕ) (j q x y : ℕ) (seen : Bool) → x ≡ f j % 4294967296 → y ≡ q % 4294967296 → (seen ≡ false → (k : ℕ) → k < j → f k ≡ q → ⊥)
+    → (seen || eqb x y) ≡ false → (k : ℕ) → k < j + 1 → f k ≡ q → ⊥
+seen-more f j q x y true ex ey d e k h g = absurd (let z : _≡_ {A = ℕ} 0 1 = cc in omega arith)
+seen-more f j q x y false ex ey d e k h g = elim (decLe (suc k) j) [
+  | yes l ↦ d refl k l g
+  | no l ↦ let z : k ≡ j = omega arith in eqb-false x y e (ex ∙ ap (λ (n : ℕ). n % 4294967296) (sym (ap f z) ∙ g) ∙ sym ey)
+]
+
+-- none of the 32 is the one
+pub key-nowhere : (w : List ℕ) (i q : ℕ) → ((j : ℕ) → j < keysEach → getD w (sequencesAt i + j) 0 ≡ q → ⊥) → has (remembered (placeIn w i)) q ≡ false
+key-nowhere w i q d =
+    let n : ℕ = min (getD w (usedAt i) 0) keysEach in
+    key-missed w i q n refl (none-of w i q n refl n (omega arith) (λ k h. d k (omega arith)))
 
 -- ---- refusal 9
 
@@ -131,6 +131,20 @@ pub ok-is : (w : List ℕ) → memoryOk (memoryIn w) ≡ allBelow sendersMost (f
 unfolding memoryOk memoryIn
 ok-is w = all-cong sendersMost (λ i. leb (placeAt (build sendersMost (placeIn w)) i .used) keysEach) (fewAt w)
     (λ i b. ap (λ (p : Place). leb (p .used) keysEach) (getD-build sendersMost (placeIn w) i noPlace b))
+
+-- no number is above all its bits with those of others
+pub or-above : (a b : ℕ) → (a ≤ bitOr a b) × (b ≤ bitOr a b)
+or-above a b = (omega (arith, or-add-and a b, and-le-r a b), omega (arith, or-add-and a b, and-le-l a b))
+
+-- one number more
+pub above-more : (f : ℕ → ℕ) (i a x : ℕ) → x ≡ f i → ((j : ℕ) → j < i → f j ≤ a) → (j : ℕ) → j < i + 1 → f j ≤ bitOr a x
+above-more f i a x e d j h = elim (decLe (suc j) i) [
+  | yes l ↦ omega (arith, d j l, or-above a x .0)
+  | no l ↦ let z : j ≡ i = omega arith in rw z (omega (arith, or-above a x .1))
+]
+
+pub all-few : (w : List ℕ) (r : ℕ) → ((i : ℕ) → i < sendersMost → getD w (usedAt i) 0 ≤ r) → r ≤ keysEach → memoryOk (memoryIn w) ≡ true
+all-few w r f h = ok-is w ∙ all-of sendersMost (fewAt w) (λ i l. le-leb (getD w (usedAt i) 0) keysEach (omega (arith, f i l)))
 
 pub all-more : (p : ℕ → Bool) (i : ℕ) → allBelow i p ≡ true → p i ≡ true → allBelow (i + 1) p ≡ true
 all-more p i a e = rw add-one (rw (a, e))

@@ -1,20 +1,18 @@
 -- What the memory's words show, before and after its functions: the step list's own memory.
 use mathlib.Core.Path.{_≡_, refl, sym, _∙_, ap}
 use mathlib.Core.Logic.{_≢_, inl, inr}
-use mathlib.Core.Bool.{Bool, true, false}
+use mathlib.Core.Bool.{Bool, false}
 use mathlib.Core.Option.{Option, none, some}
-use mathlib.Core.List.{List, [], _∷_, _++_, map}
+use mathlib.Core.List.{List, [], _∷_, _++_}
 use Prim.Native.Nat.{ℕ, zero, suc, _+_, _-_, _*_, _/_, _%_, _≤_, _<_}
-use native.Mathlib.Nat.{div-add-mod'}
 use native.Mathlib.Decide.{decLe, ℕ-discrete}
 use native.Mathlib.Omega.{arith}
 use lib.Dec.{eqb, ltb}
-use lib.ListN.{length, getD, set, drop, length-set, length-append, length-drop, length-map, List·getD-append}
+use lib.ListN.{length, getD, set, drop, length-set, length-append, length-drop, List·getD-append}
 use lib.Seq.{getD-set-same, getD-set-other, getD-at, getD-drop, ext-getD}
 use borrow.Author.Tests.{lt-ltb, le-ltb, eq-eqb, ne-eqb}
 use Rattle.wire.specs.Choice.{pick}
 use Rattle.wire.proofs.Choices.{either, pick-all}
-use Rattle.words.specs.Builds.{build}
 use Rattle.ranks.specs.Ranks.{rankOf, lowerRank, ranksLowered, lowestRanked}
 use Rattle.words.proofs.Builds.{length-build, getD-build, build-is}
 use Rattle.ranks.proofs.Ranks.{lowered-length, lowered-other}
@@ -22,9 +20,9 @@ use Rattle.steps.specs.Limits.{sendersMost, keysEach}
 use Rattle.steps.specs.Search.{first}
 use Rattle.steps.specs.Memory.{keyOf, Place, noPlace, vacant, isOf, remembered, has, Memory, placeAt, keptAt, isRemembered, furthestBack, orElse, placeFor, countOf, pushed, withKey, sunk, remember, freed, forgetKeys}
 use Rattle.steps.proofs.Memories.{place-inside, after-long, after-here, after-other, forget-at, forget-long}
-use Rattle.steps.proofs.Tables.{First, first-some}
+use Rattle.steps.proofs.Tables.{first-some}
 use Rattle.memory.specs.Words.{senderAt, usedAt, turnsAt, turnAt, sequencesAt, memoryWords, sequencesIn, placeIn, memoryIn, Left}
-use Rattle.memory.specs.Parts.{turnRanks, settledIn, shiftedIn, addedIn, freedAt, freedIn}
+use Rattle.memory.specs.InsideParts.{turnRanks, settledIn, shiftedIn, addedIn, freedIn}
 use Rattle.memory.proofs.Loops.{shifted-length, freed-length}
 
 place-eq : (a b : Place) → a .sender ≡ b .sender → a .used ≡ b .used → a .turn ≡ b .turn → a .sequences ≡ b .sequences → a ≡ b

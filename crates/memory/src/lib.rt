@@ -2,14 +2,15 @@
 // Every public function is total over any slice.
 use ranks::Ranked;
 ghost use mathlib.Core.Path.{_≡_};
-ghost use Prim.Native.Nat.{_+_, _≤_, _<_, _-_};
+ghost use mathlib.Core.Bool.{false};
+ghost use Prim.Native.Nat.{ℕ, _+_, _≤_, _<_, _-_, _%_};
 ghost use lib.ListN.{length, getD};
 ghost use Rattle.steps.specs.Limits.{sendersMost, keysEach};
 ghost use Rattle.steps.specs.Search.{first};
 ghost use Rattle.steps.specs.Memory.{keyOf, isOf, vacant, remembered, has, orElse, placeFor, countOf, isRemembered, forgetKeys, memoryOk};
 ghost use Rattle.steps.specs.Memory as steps;
-ghost use Rattle.memory.specs.Words.{memoryWords, placeIn, memoryIn, Left};
-ghost use Rattle.memory.specs.Parts.{turnRanks, settledIn, shiftedIn, addedIn, freedAt, freedIn};
+ghost use Rattle.memory.specs.Words.{usedAt, memoryWords, placeIn, memoryIn, Left};
+ghost use Rattle.memory.specs.InsideParts.{turnRanks, settledIn, shiftedIn, addedIn, freedAt, freedIn};
 
 // For how many senders keys are remembered, and how many for each.
 pub const SENDERS_MOST: usize = 16;
@@ -77,33 +78,30 @@ fn free_place(memory: &[u64]) -> usize
     SENDERS_MOST
 }
 
-// The number is among them. It is counted to the end, so that the compiler can compare several at once.
-fn is_among(numbers: &[u64], x: u64) -> bool
-    ensures { λ r. ⌜ r ≡ has (now (numbers .entry)) x ⌝ }
+// The low 32 bits.
+fn low_of(x: u64) -> u32
+    ensures { λ r. ⌜ r ≡ x % 4294967296 ⌝ }
 {
-    let mut n: u64 = 0;
-    let mut i: usize = 0;
-    while i < numbers.len() {
-        if numbers[i] == x {
-            n += 1;
-        }
-        i += 1;
-    }
-    n != 0
+    (x % 4294967296) as u32
 }
 
-// The sequence counts at place i of a memory.
-fn row_has(memory: &[u64], i: usize, sequence: u64) -> bool
+// Where this is false, the sequence does not count at place i of a memory. All low halves are compared, so that the compiler can compare several at once.
+fn may_have(memory: &[u64], i: usize, sequence: u64) -> bool
     requires { ⌜ (i < sendersMost) × (length (now memory) ≡ memoryWords) ⌝ }
-    ensures { λ r. ⌜ r ≡ has (remembered (placeIn (now (memory .entry)) i)) sequence ⌝ }
+    ensures { λ r. ⌜ (r ≡ false → has (remembered (placeIn (now (memory .entry)) i)) sequence ≡ false) ⌝ }
 {
-    let n = wire::least(memory[USED + i] as usize, KEYS_EACH);
     let a = SEQUENCES + KEYS_EACH * i;
-    let e = a + n;
-    is_among(&memory[a..e], sequence)
+    let low = low_of(sequence);
+    let mut seen = false;
+    let mut j: usize = 0;
+    while j < KEYS_EACH {
+        seen = seen | (low_of(memory[a + j]) == low);
+        j += 1;
+    }
+    seen
 }
 
-// The same over a slice of any length, one by one.
+// The sequence counts at place i.
 fn has_key(memory: &[u64], i: usize, sequence: u64) -> bool
     requires { ⌜ i < sendersMost ⌝ }
     ensures { λ r. ⌜ r ≡ has (remembered (placeIn (now (memory .entry)) i)) sequence ⌝ }
@@ -127,7 +125,9 @@ pub fn is_remembered(memory: &[u64], sender: u64, sequence: u64) -> bool
     let i = own_place(memory, sender);
     if i < SENDERS_MOST {
         if memory.len() == WORDS {
-            return row_has(memory, i, sequence);
+            if !may_have(memory, i, sequence) {
+                return false;
+            }
         }
         return has_key(memory, i, sequence);
     }
@@ -248,8 +248,22 @@ pub fn forget(memory: &mut [u64], sender: u64)
 
 // ---- refusal 9
 
-// Not over 16 senders, for which alone there are places, and not over 32 keys for one.
-pub fn in_order(memory: &[u64]) -> bool
+// All bits of the counts of a memory together: no count is above.
+fn all_counts(memory: &[u64]) -> u64
+    requires { ⌜ length (now memory) ≡ memoryWords ⌝ }
+    ensures { λ r. ⌜ ((i : ℕ) → i < sendersMost → getD (now (memory .entry)) (usedAt i) 0 ≤ r) ⌝ }
+{
+    let mut all: u64 = 0;
+    let mut i: usize = 0;
+    while i < SENDERS_MOST {
+        all = all | memory[USED + i];
+        i += 1;
+    }
+    all
+}
+
+// One by one, over any slice.
+fn each_in_order(memory: &[u64]) -> bool
     ensures { λ r. ⌜ r ≡ memoryOk (memoryIn (now (memory .entry))) ⌝ }
 {
     let mut i: usize = 0;
@@ -260,4 +274,18 @@ pub fn in_order(memory: &[u64]) -> bool
         i += 1;
     }
     true
+}
+
+// Not over 16 senders, for which alone there are places, and not over 32 keys for one.
+pub fn in_order(memory: &[u64]) -> bool
+    ensures { λ r. ⌜ r ≡ memoryOk (memoryIn (now (memory .entry))) ⌝ }
+{
+    if memory.len() != WORDS {
+        return each_in_order(memory);
+    }
+    // Most often no count is even near.
+    if all_counts(memory) <= KEYS_EACH as u64 {
+        return true;
+    }
+    each_in_order(memory)
 }

@@ -4,3 +4,4 @@ pub mod Packet
 pub mod Message
 pub mod Answers
 pub mod Walk
+pub mod InsideWalk

@@ -1,19 +1,12 @@
 -- The walk over message blocks, as the code makes it: for the contracts of private functions only. Definitions only.
-use mathlib.Core.Option.{Option, none, some}
 use mathlib.Core.List.{List, [], _∷_}
 use Prim.Native.Nat.{ℕ, _+_}
 use lib.Dec.{eqb, ltb}
 use lib.ListN.{length}
 use Rattle.wire.specs.Choice.{pick}
-use Rattle.moss.specs.Limits.{headLength}
-use Rattle.moss.specs.Packet.{Given, gives, refuses, Packet}
+use Rattle.moss.specs.Packet.{Given, gives, refuses}
 use Rattle.moss.specs.Message.{Part}
-use Rattle.moss.specs.Answers.{headerOf}
 use Rattle.moss.specs.declared.Trail.{Trail}
-use Rattle.moss.specs.declared.Walked.{Walked}
-use Rattle.moss.specs.declared.Walked.the-variants.{Filled, Broken}
-use Rattle.moss.specs.declared.Looked.{Looked}
-use Rattle.moss.specs.declared.Looked.the-variants.{Good, Refused}
 
 abbrev pub start : Trail
 start = record { count = 0; at = 0; len = 0 }
@@ -26,14 +19,6 @@ past t n at m =
 abbrev pub pastAll : Trail → ℕ → ℕ → List (List ℕ) → Trail
 pastAll t n at [] = t
 pastAll t n at (m ∷ ms) = pastAll (past t n at (length m)) n (at + (2 + length m)) ms
-
-abbrev pub walked : Trail → ℕ → ℕ → Option (List (List ℕ)) → Walked
-walked t n at none = Broken
-walked t n at (some ms) = Filled (pastAll t n at ms)
-
-abbrev pub looked : ℕ → Given Packet → Looked
-looked n (refuses number) = Refused number
-looked n (gives p) = Good (headerOf p) (pastAll start n headLength (p .messages))
 
 -- the message that was looked out for, if it was passed
 abbrev pub pointed : Trail → ℕ → Given Part

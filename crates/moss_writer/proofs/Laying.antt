@@ -1,15 +1,15 @@
 -- Messages and their blocks determine each other. Assumes nothing.
-use mathlib.Core.Path.{_≡_, refl, ap, sym, _∙_, subst}
+use mathlib.Core.Path.{_≡_, refl, ap, sym, _∙_}
 use mathlib.Core.Bool.{Bool, true, false}
 use mathlib.Core.Option.{Option, none, some}
 use mathlib.Core.List.{List, [], _∷_, _++_, append-assoc}
-use Prim.Native.Nat.{ℕ, zero, suc, _+_, _≤_, _<_}
+use Prim.Native.Nat.{ℕ, zero, suc, _+_, _≤_}
 use native.Mathlib.Omega.{arith}
 use lib.ListN.{length, take, drop, length-append, take-append-drop}
-use lib.Seq.{take-at, drop-at, take-add, getD-drop}
+use lib.Seq.{take-at, drop-at, take-add}
 use Rattle.wire.specs.Choice.{pick}
 use Rattle.wire.specs.Bytes.{be, bytes, Bytes}
-use Rattle.wire.proofs.Numbers.{be-bytes, bytes-be, be-lt, length-bytes}
+use Rattle.wire.proofs.Numbers.{be-bytes, bytes-be, be-lt, length-bytes, drop-bytes}
 use Rattle.moss.specs.Limits.{maxMessage}
 use Rattle.moss.specs.Blocks.{block, laid, isCut, firstMessage, behind, before, messagesWithin, messagesIn}
 use Rattle.moss.proofs.Walks.{messages-next, messages-none}
@@ -55,9 +55,6 @@ laid-messages (m ∷ ms) h =
 
 -- ---- what is read was laid
 
-pub bytes-drop : (n : ℕ) (b : List ℕ) → Bytes b → Bytes (drop n b)
-bytes-drop n b h i = subst (λ (x : ℕ). x < 256) (sym (getD-drop n b i 0)) (h (n + i))
-
 none-before : (t : Bool) (m : List ℕ) (rest : Option (List (List ℕ))) → pick t none (before m rest) ≡ some [] → ⊥
 none-before true m rest e = let z : _≡_ {A = ℕ} 0 1 = cc in omega arith
 none-before false m none e = let z : _≡_ {A = ℕ} 0 1 = cc in omega arith
@@ -76,7 +73,7 @@ within-laid (suc t) b (m ∷ ms) h e =
     let f = within-front t b m ms e in
     let k : ℕ = be 2 b in
     let size : bytes 2 (length m) ≡ take 2 b = ap (bytes 2) (front-size f) ∙ bytes-be 2 b h (omega (arith, f .fits)) in
-    let rest : laid ms ≡ drop (2 + k) b = within-laid t (behind b) ms (bytes-drop (2 + k) b h) (f .behind) in
+    let rest : laid ms ≡ drop (2 + k) b = within-laid t (behind b) ms (drop-bytes b (2 + k) h) (f .behind) in
     ap (λ (x : List ℕ). x ++ m ++ laid ms) size
     ∙ ap (λ (x : List ℕ). take 2 b ++ x ++ laid ms) (sym (f .is))
     ∙ ap (λ (x : List ℕ). take 2 b ++ take k (drop 2 b) ++ x) rest
@@ -92,7 +89,7 @@ within-short t b [] h e = tt
 within-short zero b (m ∷ ms) h e = absurd (within-zero b m ms e)
 within-short (suc t) b (m ∷ ms) h e =
     let f = within-front t b m ms e in
-    (omega (arith, front-size f, be-lt 2 b h), within-short t (behind b) ms (bytes-drop (2 + be 2 b) b h) (f .behind))
+    (omega (arith, front-size f, be-lt 2 b h), within-short t (behind b) ms (drop-bytes b (2 + be 2 b) h) (f .behind))
 
 pub messages-short : (b : List ℕ) (ms : List (List ℕ)) → Bytes b → messagesIn b ≡ some ms → Short ms
 messages-short b ms h e = within-short (length b) b ms h e

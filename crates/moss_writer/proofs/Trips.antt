@@ -1,7 +1,7 @@
 -- What is written reads back the same, and what is read and written again is the same bytes. Assumes nothing.
 use mathlib.Core.Path.{_≡_, ap, sym, _∙_}
 use mathlib.Core.Bool.{Bool, true, false}
-use mathlib.Core.Option.{Option, none, some}
+use mathlib.Core.Option.{Option, some}
 use mathlib.Core.List.{List, [], _∷_, _++_, append-assoc}
 use Prim.Native.Nat.{ℕ, _+_, _%_, _^_, _≤_, _<_}
 use native.Mathlib.Omega.{arith}
@@ -11,7 +11,7 @@ use lib.Seq.{take-at, drop-at, getD-at, take-add, take-suc}
 use borrow.Author.Tests.{ne-eqb}
 use Rattle.wire.specs.Choice.{pick}
 use Rattle.wire.specs.Bytes.{be, bytes, Bytes}
-use Rattle.wire.proofs.Numbers.{be-bytes, bytes-be, length-bytes}
+use Rattle.wire.proofs.Numbers.{be-bytes, bytes-be, length-bytes, drop-bytes}
 use Rattle.wire.proofs.Overlays.{overlay-eq}
 use Rattle.moss.specs.Limits.{sessionLength, headLength, maxPacket, letterU}
 use Rattle.moss.specs.Blocks.{laid, nothingIn, messagesIn}
@@ -20,7 +20,7 @@ use Rattle.moss_writer.specs.Write.{packetBytes, filledBy, writtenOf, ou
 use Rattle.moss_writer.specs.declared.Written.the-variants as written
 use Rattle.moss.proofs.Packets.{Good, packet-good, packet-held}
 use Rattle.moss.proofs.Parts.{nothing-is, nothing-left}
-use Rattle.moss_writer.proofs.Laying.{bytes-drop, messages-laid}
+use Rattle.moss_writer.proofs.Laying.{messages-laid}
 use Rattle.moss_writer.proofs.Plans.{Makes, written-makes, written-known, room-enough}
 
 -- ---- written, then read
@@ -107,7 +107,7 @@ module _ (b : List ℕ) (p : Packet) (all : Bytes b) (e : packetOf b ≡ gives p
   good = packet-good b p e
 
   bytes-from : (n : ℕ) → Bytes (drop n b)
-  bytes-from n = bytes-drop n b all
+  bytes-from n = drop-bytes b n all
 
   -- what is read of a packet, written again, is the packet
   pub read-write : packetBytes (p .session) (p .sequence) (p .kind) (drop headLength b) ≡ b

@@ -1,9 +1,9 @@
 -- Laws of the scan of a name: where it can go from where. Assumes nothing.
 use mathlib.Core.Path.{_≡_, refl, ap, sym, _∙_}
-use mathlib.Core.Bool.{Bool, true, false, _&&_}
-use mathlib.Core.Logic.{_⊎_, inl, inr}
+use mathlib.Core.Bool.{true, false}
+use mathlib.Core.Logic.{inl, inr}
 use mathlib.Core.List.{List, [], _∷_}
-use Prim.Native.Nat.{ℕ, _+_, _-_, _≤_, _<_}
+use Prim.Native.Nat.{ℕ, _+_, _≤_, _<_}
 use native.Mathlib.Omega.{arith}
 use native.Mathlib.Numerals.{add-one}
 use native.Mathlib.Decide.{ℕ-discrete}
@@ -11,9 +11,8 @@ use lib.Dec.{eqb, leb}
 use lib.ListN.{length, getD, drop, drop-of-length-le}
 use lib.Seq.{drop-cons}
 use borrow.Author.Tests.{le-leb, lt-leb, leb-true, eq-eqb, ne-eqb, eqb-true}
-use Rattle.wire.specs.Choice.{pick}
-use Rattle.wire.proofs.Choices.{never, and-l, and-r, and-of, and-false, either, pick-all}
-use Rattle.names.specs.Scan.{within, tails, start, bad, lowAfter, highAfter, after, first, next, scan}
+use Rattle.wire.proofs.Choices.{and-l, and-r, and-of, and-false, either, pick-all}
+use Rattle.names.specs.Scan.{within, start, bad, lowAfter, highAfter, next, scan}
 use Rattle.names.specs.declared.Scan.{Scan}
 
 -- ---- within
@@ -73,6 +72,10 @@ next-low s x =
 
 pub scan-step : (s : Scan) (l : List ℕ) (i : ℕ) → i < length l → scan s (drop i l) ≡ scan (next s (getD l i 0)) (drop (i + 1) l)
 scan-step s l i h = ap (scan s) (drop-cons l i 0 h) ∙ ap (λ (n : ℕ). scan (next s (getD l i 0)) (drop n l)) (sym (add-one i))
+
+-- a byte that is a code point by itself
+pub plain-step : (l : List ℕ) (i : ℕ) → i < length l → within 32 126 (getD l i 0) ≡ true → scan start (drop i l) ≡ scan start (drop (i + 1) l)
+plain-step l i h e = scan-step start l i h ∙ ap (λ (s : Scan). scan s (drop (i + 1) l)) (rw e)
 
 pub scan-end : (s : Scan) (l : List ℕ) (i : ℕ) → length l ≤ i → scan s (drop i l) ≡ s
 scan-end s l i h = ap (scan s) (drop-of-length-le l h)

@@ -1,5 +1,6 @@
 // The name rule: which bytes are a channel's name.
 ghost use mathlib.Core.Path.{_≡_};
+ghost use mathlib.Core.Bool.{true};
 ghost use lib.Dec.{eqb};
 ghost use Rattle.names.specs.Scan.{within, start, lowAfter, highAfter, after, first, next, scan};
 ghost use Rattle.names.specs.Name.{goodName};
@@ -125,6 +126,20 @@ fn well_formed(name: &[u8]) -> bool
     s.left == 0
 }
 
+// Where this is true, each byte is a code point by itself.
+fn is_plain(name: &[u8]) -> bool
+    ensures { λ r. ⌜ (r ≡ true → scan start (now (name .entry)) ≡ start) ⌝ }
+{
+    let mut i: usize = 0;
+    while i < name.len() {
+        if !within(32, 126, name[i]) {
+            return false;
+        }
+        i += 1;
+    }
+    true
+}
+
 // The name rule: 1 to 63 bytes of UTF-8. The datagram reader and the cutter ask it here.
 pub fn good_name(name: &[u8]) -> bool
     ensures { λ r. ⌜ r ≡ goodName (now (name .entry)) ⌝ }
@@ -134,6 +149,10 @@ pub fn good_name(name: &[u8]) -> bool
     }
     if MAX_NAME < name.len() {
         return false;
+    }
+    // Most names are.
+    if is_plain(name) {
+        return true;
     }
     well_formed(name)
 }

@@ -6,13 +6,13 @@ use mathlib.Core.List.{List}
 use Prim.Native.Nat.{ℕ}
 use lib.ListN.{length, set, replicate}
 use Rattle.wire.specs.Overlay.{overlay}
+use Rattle.wire.proofs.Overlays.{overlay-whole}
 use Rattle.steps.specs.Limits.{slotCount, slotSizeOf}
 use Rattle.steps.specs.Held.{noneHeld}
 use Rattle.steps.specs.Memory.{Memory}
 use Rattle.steps.specs.Slots.{noSlot}
 use Rattle.steps.specs.Receive.{opened}
 use Rattle.receiver_state.specs.View.{storeWord, roomWord, stateWords, nameBytes, slotsOf, view}
-use Rattle.receiver_state.proofs.Windows.{overlay-whole}
 use Rattle.receiver_state.proofs.Remembers.{memory-fresh}
 use Rattle.receiver.specs.declared.Call.the-variants as call
 use Rattle.receiver.proofs.Others.{unshaped, nameless, whole, refuses, never-some}

@@ -1,7 +1,7 @@
 // An output buffer that is written in large pieces. What stands before a place is not written out yet. No contract can say what the system
 // took: they say that every byte of a text goes out once and in order, if all that is written out arrives.
 ghost use mathlib.Core.Path.{_≡_};
-ghost use mathlib.Core.List.{[], _∷_, _++_};
+ghost use mathlib.Core.List.{_++_};
 ghost use lib.ListN.{length};
 ghost use Rattle.wire.specs.Text.{ascii};
 ghost use Rattle.wire.specs.Overlay.{overlay};

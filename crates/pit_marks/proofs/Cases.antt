@@ -7,7 +7,6 @@ use lib.Dec.{eqb}
 use lib.IntN.{ℤ}
 use lib.ListN.{length, drop}
 use borrow.Author.Tests.{eq-eqb, ne-eqb}
-use Rattle.wire.specs.Choice.{pick}
 use Rattle.lmcp.specs.Table.{second}
 use Rattle.sorted_set.specs.declared.Entered.{Entered}
 use Rattle.sorted_set.specs.declared.Entered.the-variants.{Now, Full}
@@ -16,16 +15,8 @@ use Rattle.count_rules.specs.Marks.{Mark, at, markAt, marksIn}
 use Rattle.pit_marks.specs.declared.Sizes.{Sizes}
 use Rattle.pit_marks.specs.declared.Taken.{Taken}
 use Rattle.pit_marks.specs.declared.Taken.the-variants as taken
-use Rattle.pit_marks.specs.Enters.{keyIn, Pitted, pitted, sureEntered, ifSure, pitEntered, EntersSure, enterPit, onward, followed, enterMarks, Leaves, Listed, tileEntered, elementsOf, enterList, LeavesAll}
-
-abbrev pub withTiles : ℕ → Sizes → Sizes
-withTiles n had = record { tiles = n; pits = had .pits; sure = had .sure }
-
-abbrev pub withPits : ℕ → Sizes → Sizes
-withPits n had = record { tiles = had .tiles; pits = n; sure = had .sure }
-
-abbrev pub withSure : ℕ → Sizes → Sizes
-withSure n had = record { tiles = had .tiles; pits = had .pits; sure = n }
+use Rattle.pit_marks.specs.Enters.{keyIn, Pitted, pitted, sureEntered, pitEntered, EntersSure, enterPit, onward, followed, enterMarks, withTiles, withPits, withSure, Leaves, Listed, tileEntered, elementsOf, enterList, EntersList}
+use Rattle.pit_marks.specs.Sets.{Sets, setsOf}
 
 -- ---- a sure pit
 
@@ -36,7 +27,7 @@ module _ (sure : List ℕ) (had : Sizes) (x : ℕ) (e : Entered) (sure′ : List
   pub sure-now : (n : ℕ) → e ≡ Now n → EntersSure sure had x (taken.Now (withSure n had)) sure′
   sure-now n q = by-sure (Now n) q
 
-  pub sure-full : e ≡ Full → EntersSure sure had x (taken.Refused 61) sure′
+  pub sure-full : e ≡ Full → EntersSure sure had x (taken.Refused had 61) sure′
   sure-full q = by-sure Full q
 
 same-answer : (e : Entered) (a b : List ℕ) (had : Sizes) → sureEntered e a b had .answer ≡ sureEntered e [] [] had .answer
@@ -61,7 +52,7 @@ module _ (s : Bool) (x : ℕ) (pits sure : List ℕ) (had : Sizes) (e : Entered)
   unfolding enterPit
   by-pit f q t u = λ i. pitEntered ((sym (E .gave) ∙ q) i) (u i) x (sym (E .left) i) sure had
 
-  pub pit-full : e ≡ Full → Leaves (enterPit s x pits sure had) (taken.Refused 61) pits′ sure
+  pub pit-full : e ≡ Full → Leaves (enterPit s x pits sure had) (taken.Refused had 61) pits′ sure
   pit-full q = as-said (by-pit Full q s refl) (record { gave = refl; pits-left = refl; sure-left = refl })
 
   pub pit-unsure : (n : ℕ) → e ≡ Now n → s ≡ false → Leaves (enterPit s x pits sure had) (taken.Now (withPits n had)) pits′ sure
@@ -79,7 +70,7 @@ module _ (s : Bool) (x : ℕ) (pits sure : List ℕ) (had : Sizes) (e : Entered)
 
 onward-end : (r : Taken) (a b : List ℕ) → onward (λ p s now. pitted (taken.Now now) p s) r a b ≡ pitted r a b
 onward-end (taken.Now now) a b = refl
-onward-end (taken.Refused n) a b = refl
+onward-end (taken.Refused now n) a b = refl
 
 pub marks-one : (t : ℕ) (m : Mark) (pits sure : List ℕ) (had : Sizes) → enterMarks t (m ∷ []) pits sure had ≡ enterPit (m .sure) (keyIn t (m .pit)) pits sure had
 unfolding enterMarks
@@ -105,7 +96,7 @@ module _ (t : ℕ) (l : List ℤ) (pits sure : List ℕ) (had : Sizes) where
 onward-both : (k k₁ k₂ : List ℕ → List ℕ → Sizes → Pitted) → ((p s : List ℕ) (now : Sizes) → k p s now ≡ followed (k₁ p s now) k₂)
     → (r : Taken) (a b : List ℕ) → onward k r a b ≡ followed (onward k₁ r a b) k₂
 onward-both k k₁ k₂ h (taken.Now now) a b = h a b now
-onward-both k k₁ k₂ h (taken.Refused n) a b = refl
+onward-both k k₁ k₂ h (taken.Refused now n) a b = refl
 
 module _ (t : ℕ) where
   pub all-entered : (pits sure : List ℕ) (had : Sizes) → Leaves (enterMarks t [] pits sure had) (taken.Now had) pits sure
@@ -127,8 +118,8 @@ module _ (t : ℕ) where
         marks-append ms ns pits sure had
         ∙ (λ i. onward (enterMarks t ns) ((sym (L .gave) ∙ e) i) (sym (L .pits-left) i) (sym (L .sure-left) i))
 
-    pub then-refused : (n : ℕ) → r ≡ taken.Refused n → Leaves (enterMarks t (ms ++ ns) pits sure had) r a b
-    then-refused n e =
+    pub then-refused : (now : Sizes) (n : ℕ) → r ≡ taken.Refused now n → Leaves (enterMarks t (ms ++ ns) pits sure had) r a b
+    then-refused now n e =
         as-said
         (marks-append ms ns pits sure had
         ∙ (λ i. onward (enterMarks t ns) ((sym (L .gave) ∙ e) i) (sym (L .pits-left) i) (sym (L .sure-left) i)))
@@ -136,23 +127,22 @@ module _ (t : ℕ) where
 
 -- ---- a list
 
-module _ (l : List ℤ) (tiles pits sure : List ℕ) (had : Sizes) (x : ℕ) (ex : x ≡ at l 2) (e : Entered) (tiles′ : List ℕ) (E : Enters tiles (had .tiles) x e tiles′) where
-  by-tile : (f : Entered) → e ≡ f → enterList l tiles pits sure had ≡ tileEntered f tiles′ (enterMarks (at l 2) (elementsOf l)) pits sure had
+module _ (l : List ℤ) (x : Sets) (had : Sizes) (t : ℕ) (et : t ≡ at l 2) (e : Entered) (tiles′ : List ℕ) (E : Enters (x .tiles) (had .tiles) t e tiles′) where
+  by-tile : (f : Entered) → e ≡ f → enterList l x had ≡ tileEntered f tiles′ (enterMarks (at l 2) (elementsOf l)) x had
   unfolding enterList
   by-tile f q =
-      (λ i. tileEntered (entered tiles (had .tiles) (sym ex i)) (wordsWith tiles (had .tiles) (sym ex i)) (enterMarks (at l 2) (elementsOf l)) pits sure had)
-      ∙ (λ i. tileEntered ((sym (E .gave) ∙ q) i) (sym (E .left) i) (enterMarks (at l 2) (elementsOf l)) pits sure had)
+      (λ i. tileEntered (entered (x .tiles) (had .tiles) (sym et i)) (wordsWith (x .tiles) (had .tiles) (sym et i)) (enterMarks (at l 2) (elementsOf l)) x had)
+      ∙ (λ i. tileEntered ((sym (E .gave) ∙ q) i) (sym (E .left) i) (enterMarks (at l 2) (elementsOf l)) x had)
 
-  pub tile-full : e ≡ Full → LeavesAll (enterList l tiles pits sure had) (taken.Refused 60) tiles′ pits sure
-  tile-full q =
-      subst (λ (z : Listed). LeavesAll z (taken.Refused 60) tiles′ pits sure) (sym (by-tile Full q))
-      (record { tiles-left = refl; rest = record { gave = refl; pits-left = refl; sure-left = refl } })
+  pub tile-full : e ≡ Full → EntersList l x had (taken.Refused had 60) (setsOf tiles′ (x .pits) (x .sure))
+  tile-full q = record { gave = ap (λ (z : Listed). z .answer) (sym (by-tile Full q)); left = ap (λ (z : Listed). z .sets) (sym (by-tile Full q)) }
 
   pub tile-now : (n : ℕ) → e ≡ Now n → (v : ℕ) → v ≡ at l 0 → (r : Taken) (a b : List ℕ)
-      → Leaves (enterMarks x (marksIn (second v) (length (drop 4 l)) (drop 4 l)) pits sure (withTiles n had)) r a b → LeavesAll (enterList l tiles pits sure had) r tiles′ a b
+      → Leaves (enterMarks t (marksIn (second v) (length (drop 4 l)) (drop 4 l)) (x .pits) (x .sure) (withTiles n had)) r a b → EntersList l x had r (setsOf tiles′ a b)
   tile-now n q v ev r a b L =
-      subst (λ (z : Listed). LeavesAll z r tiles′ a b) (sym (by-tile (Now n) q))
-      (record {
-        tiles-left = refl;
-        rest = as-said (λ i. enterMarks (sym ex i) (marksIn (second (sym ev i)) (length (drop 4 l)) (drop 4 l)) pits sure (withTiles n had)) L;
-      })
+      let M : Leaves (enterMarks (at l 2) (elementsOf l) (x .pits) (x .sure) (withTiles n had)) r a b =
+      as-said (λ i. enterMarks (sym et i) (marksIn (second (sym ev i)) (length (drop 4 l)) (drop 4 l)) (x .pits) (x .sure) (withTiles n had)) L in
+      record {
+        gave = M .gave ∙ ap (λ (z : Listed). z .answer) (sym (by-tile (Now n) q));
+        left = (λ i. setsOf tiles′ (M .pits-left i) (M .sure-left i)) ∙ ap (λ (z : Listed). z .sets) (sym (by-tile (Now n) q));
+      }

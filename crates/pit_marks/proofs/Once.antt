@@ -2,25 +2,17 @@
 use mathlib.Core.Path.{_≡_, sym, _∙_}
 use mathlib.Core.List.{List}
 use Prim.Native.Nat.{ℕ}
+use lib.IntN.{ℤ}
+use Rattle.wire.specs.Slices.{_⇒_}
 use Rattle.pit_marks.specs.declared.Sizes.{Sizes}
 use Rattle.pit_marks.specs.declared.Taken.{Taken}
-use Rattle.pit_marks.specs.Enters.{Listed, LeavesAll}
+use Rattle.pit_marks.specs.Sets.{Sets}
+use Rattle.pit_marks.specs.Enters.{EntersList}
 use Rattle.pit_marks.specs.Lines.{Lays}
 
-pub record SameLists (a b : Taken) (t u p q s z : List ℕ) : Type 0 where
-  pub answer : a ≡ b
-  pub tiles : t ≡ u
-  pub pits : p ≡ q
-  pub sure : s ≡ z
+pub list-once : {l : List ℤ} {x : Sets} {had : Sizes} {a b : Taken} {y z : Sets} → EntersList l x had a y → EntersList l x had b z → (a ≡ b) × (y ≡ z)
+list-once p q = (p .gave ∙ sym (q .gave), p .left ∙ sym (q .left))
 
-pub list-once : {e : Listed} {a b : Taken} {t u p q s z : List ℕ} → LeavesAll e a t p s → LeavesAll e b u q z → SameLists a b t u p q s z
-list-once x y = record {
-  answer = x .rest .gave ∙ sym (y .rest .gave);
-  tiles = x .tiles-left ∙ sym (y .tiles-left);
-  pits = x .rest .pits-left ∙ sym (y .rest .pits-left);
-  sure = x .rest .sure-left ∙ sym (y .rest .sure-left);
-}
-
-pub lines-once : {t p s : List ℕ} {had : Sizes} {a b c a₁ b₁ c₁ a₂ b₂ c₂ : List ℕ} → Lays t p s had a b c a₁ b₁ c₁ → Lays t p s had a b c a₂ b₂ c₂
+pub lines-once : {x : Sets} {had : Sizes} {a b c a₁ b₁ c₁ a₂ b₂ c₂ : List ℕ} → Lays x had (a ⇒ a₁) (b ⇒ b₁) (c ⇒ c₁) → Lays x had (a ⇒ a₂) (b ⇒ b₂) (c ⇒ c₂)
     → (a₁ ≡ a₂) × ((b₁ ≡ b₂) × (c₁ ≡ c₂))
 lines-once x y = (x .numbers ∙ sym (y .numbers), (x .pits-of ∙ sym (y .pits-of), x .sure-of ∙ sym (y .sure-of)))

@@ -1,13 +1,12 @@
 -- The numbers of an accepted PitList: its elements to the end of the numbers are those that its count says, and all fit a key. Assumes nothing.
 use mathlib.Core.Path.{_≡_, refl, sym, ap, _∙_, subst}
-use mathlib.Core.Logic.{inl, inr}
+use mathlib.Core.Logic.{inl}
 use mathlib.Core.Bool.{Bool}
 use mathlib.Core.List.{List, [], _∷_, _++_}
-use Prim.Native.Nat.{ℕ, zero, suc, _≤_, _<_}
+use Prim.Native.Nat.{ℕ, zero, suc, _≤_}
 use native.Mathlib.Omega.{arith}
-use lib.Dec.{eqb}
 use lib.IntN.{ℤ, pos}
-use lib.ListN.{length, drop, getD, length-append}
+use lib.ListN.{length, getD, length-append}
 use lib.Signed.{mag}
 use borrow.Author.Tests.{ne-eqb}
 use Rattle.wire.specs.Bytes.{Bytes}
@@ -18,9 +17,9 @@ use Rattle.lmcp.specs.Spelled.{Element, null, marked, spellElement, spellAll, S
 use Rattle.lmcp.proofs.Spells.{pit-list-spelled}
 use Rattle.lmcp.proofs.Answers.{Plain, root-type}
 use Rattle.sorted_set.specs.Lists.{In, gather}
-use Rattle.count_rules.specs.Marks.{Mark, PitList, at, markLength, markAt, marksIn, pitListOf, listRead, listIn}
+use Rattle.count_rules.specs.Marks.{PitList, at, marksIn, pitListOf, listRead, listIn}
 use Rattle.count_rules.specs.Keys.{Within}
-use Rattle.count_rules.specs.Spelled.{markOf, listWith}
+use Rattle.count_rules.specs.Spelled.{markOf}
 use Rattle.count_rules.proofs.Bounds.{payload-within}
 use Rattle.count_rules.proofs.Spells.{mark-is, past-is, list-is}
 use Rattle.count_rules.proofs.Steps.{listOf, marks-none}

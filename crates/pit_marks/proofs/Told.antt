@@ -2,28 +2,27 @@
 use mathlib.Core.Path.{_≡_, refl, sym, ap, _∙_, subst}
 use mathlib.Core.Logic.{inl, inr}
 use mathlib.Core.List.{List, [], map}
-use Prim.Native.Nat.{ℕ, suc, _+_, _-_, _%_, _≤_, _<_}
+use Prim.Native.Nat.{ℕ, suc, _+_, _%_, _≤_, _<_}
 use native.Mathlib.Omega.{arith}
 use lib.Dec.{ltb}
 use lib.ListN.{length, getD, length-map, List·getD-map}
-use borrow.Author.Tests.{ltb-true, ltb-false}
+use borrow.Author.Tests.{ltb-false}
 use Rattle.wire.proofs.Choices.{either}
 use Rattle.words.specs.Builds.{build}
 use Rattle.words.proofs.Builds.{build-is}
 use Rattle.sorted_set.specs.Lists.{In, rising, below}
-use Rattle.sorted_set.specs.Halving.{held, rankIn, Holds}
+use Rattle.sorted_set.specs.Halving.{rankIn, Holds}
 use Rattle.sorted_set.proofs.Members.{in-at}
 use Rattle.sorted_set.proofs.Sets.{all-held, as-many, word-at, rank-below}
 use Rattle.count_rules.specs.Marks.{PitList}
 use Rattle.count_rules.specs.Report.{tiles, pits, surePits}
-use Rattle.count_rules.specs.Count.{maxTiles, maxPits}
 use Rattle.count_rules.specs.Keys.{span, pitKey, pitKeys, sureKeys}
 use Rattle.count_rules.specs.Meaning.{Names}
 use Rattle.count_rules.proofs.Keys.{pits-part, sure-part, pits-end, sure-end}
 use Rattle.count_rules.proofs.Under.{named}
 use Rattle.pit_marks.specs.declared.Sizes.{Sizes}
 use Rattle.pit_marks.specs.Lines.{endOf, pitsIn}
-use Rattle.pit_marks.specs.Sets.{Has}
+use Rattle.pit_marks.specs.Sets.{Sets, Has}
 
 -- a tile's part of a set K of keys
 module _ (w : List ℕ) (n : ℕ) (K : List ℕ) (h : Holds w n K) (x c : ℕ) (small : x < span) (part : below (pitKey x 0) K + c ≡ below (pitKey (suc x) 0) K)
@@ -44,7 +43,10 @@ module _ (w : List ℕ) (n : ℕ) (K : List ℕ) (h : Holds w n K) (x c : ℕ) (
       let a : rankIn w n (pitKey x 0) ≡ below (pitKey x 0) K = rank-below w n K h (pitKey x 0) in
       rw m (omega (arith, a, end-is))
 
-module _ (t p s : List ℕ) (had : Sizes) (seen : List PitList) (h : Has t p s had seen) where
+module _ (x : Sets) (had : Sizes) (seen : List PitList) (h : Has x had seen) where
+  abbrev t : List ℕ
+  t = x .tiles
+
   many : length (tiles seen) ≡ had .tiles
   many = as-many t (had .tiles) (tiles seen) (h .the-tiles)
 
@@ -52,8 +54,8 @@ module _ (t p s : List ℕ) (had : Sizes) (seen : List PitList) (h : Has t p s h
   tile-at : (i : ℕ) → i < had .tiles → getD t i 0 ≡ getD (tiles seen) i 0
   tile-at i b = word-at t (had .tiles) (tiles seen) (h .the-tiles) i b
 
-  tile-small : (x : ℕ) → In x (tiles seen) → x < span
-  tile-small x i = let n : Names seen x = named seen x i in subst (λ (y : ℕ). y < span) (n .its-tile) (h .within (n .list) (n .among) .tile)
+  tile-small : (y : ℕ) → In y (tiles seen) → y < span
+  tile-small y i = let n : Names seen y = named seen y i in subst (λ (z : ℕ). z < span) (n .its-tile) (h .within (n .list) (n .among) .tile)
 
   small-at : (i : ℕ) → i < had .tiles → getD (tiles seen) i 0 < span
   small-at i b = tile-small (getD (tiles seen) i 0) (in-at (tiles seen) i 0 (omega (arith, many)))
@@ -61,28 +63,25 @@ module _ (t p s : List ℕ) (had : Sizes) (seen : List PitList) (h : Has t p s h
   pub tiles-told : build (had .tiles) (λ i. getD t i 0) ≡ tiles seen
   tiles-told = build-is (had .tiles) (λ i. getD t i 0) (tiles seen) 0 many tile-at
 
-  told-by : (f g : ℕ → ℕ) → ((x : ℕ) → x < span → f x ≡ g x) → build (had .tiles) (λ i. f (getD t i 0)) ≡ map g (tiles seen)
+  told-by : (f g : ℕ → ℕ) → ((y : ℕ) → y < span → f y ≡ g y) → build (had .tiles) (λ i. f (getD t i 0)) ≡ map g (tiles seen)
   told-by f g e = build-is (had .tiles) (λ i. f (getD t i 0)) (map g (tiles seen)) (g 0) (length-map (tiles seen) g ∙ many)
       (λ i b. ap f (tile-at i b) ∙ (e (getD (tiles seen) i 0) (small-at i b) ∙ sym (List·getD-map g (tiles seen) i 0)))
 
-  pub pits-told : build (had .tiles) (λ i. pitsIn p (had .pits) (getD t i 0)) ≡ map (λ x. length (pits seen x)) (tiles seen)
-  pits-told = told-by (pitsIn p (had .pits)) (λ x. length (pits seen x))
-      (λ x o. part-is p (had .pits) (rising (pitKeys seen)) (h .the-pits) x (length (pits seen x)) o (pits-part seen (h .within) x) (pits-end seen (h .within)))
+  pub pits-told : build (had .tiles) (λ i. pitsIn (x .pits) (had .pits) (getD t i 0)) ≡ map (λ y. length (pits seen y)) (tiles seen)
+  pits-told = told-by (pitsIn (x .pits) (had .pits)) (λ y. length (pits seen y))
+      (λ y o. part-is (x .pits) (had .pits) (rising (pitKeys seen)) (h .the-pits) y (length (pits seen y)) o (pits-part seen (h .within) y) (pits-end seen (h .within)))
 
-  pub sure-told : build (had .tiles) (λ i. pitsIn s (had .sure) (getD t i 0)) ≡ map (λ x. length (surePits seen x)) (tiles seen)
-  sure-told = told-by (pitsIn s (had .sure)) (λ x. length (surePits seen x))
-      (λ x o. part-is s (had .sure) (rising (sureKeys seen)) (h .the-sure) x (length (surePits seen x)) o (sure-part seen (h .within) x) (sure-end seen (h .within)))
+  pub sure-told : build (had .tiles) (λ i. pitsIn (x .sure) (had .sure) (getD t i 0)) ≡ map (λ y. length (surePits seen y)) (tiles seen)
+  sure-told = told-by (pitsIn (x .sure) (had .sure)) (λ y. length (surePits seen y))
+      (λ y o. part-is (x .sure) (had .sure) (rising (sureKeys seen)) (h .the-sure) y (length (surePits seen y)) o (sure-part seen (h .within) y) (sure-end seen (h .within)))
 
   pub tiles-few : had .tiles ≤ length t
   tiles-few = h .the-tiles .size
 
 -- of no lists they hold nothing
-pub has-none : (t p s : List ℕ) → length t ≡ maxTiles → length p ≡ maxPits → length s ≡ maxPits → Has t p s (record { tiles = 0; pits = 0; sure = 0 }) []
+pub has-none : (x : Sets) → Has x (record { tiles = 0; pits = 0; sure = 0 }) []
 unfolding rising
-has-none t p s a b c = record {
-  tiles-room = a;
-  pits-room = b;
-  sure-room = c;
+has-none x = record {
   the-tiles = record { size = omega arith; front = refl; rises = tt };
   the-pits = record { size = omega arith; front = refl; rises = tt };
   the-sure = record { size = omega arith; front = refl; rises = tt };

@@ -14,10 +14,29 @@ use Rattle.count_rules.specs.Keys.{span, pitKey}
 use Rattle.pit_marks.specs.declared.Sizes.{Sizes}
 use Rattle.pit_marks.specs.declared.Taken.{Taken}
 use Rattle.pit_marks.specs.declared.Taken.the-variants as taken
+use Rattle.pit_marks.specs.Sets.{Sets, setsOf}
 
 -- tiles and pits are uint32
 abbrev pub keyIn : ℕ → ℕ → ℕ
 keyIn t p = pitKey (t % span) (p % span)
+
+abbrev pub withTiles : ℕ → Sizes → Sizes
+withTiles n had = record { tiles = n; pits = had .pits; sure = had .sure }
+
+abbrev pub withPits : ℕ → Sizes → Sizes
+withPits n had = record { tiles = had .tiles; pits = n; sure = had .sure }
+
+abbrev pub withSure : ℕ → Sizes → Sizes
+withSure n had = record { tiles = had .tiles; pits = had .pits; sure = n }
+
+-- the number of the refusal, 0 for none; and the sizes, told by a refusal too
+abbrev pub faultOf : Taken → ℕ
+faultOf (taken.Now now) = 0
+faultOf (taken.Refused now n) = n
+
+abbrev pub sizesOf : Taken → Sizes
+sizesOf (taken.Now now) = now
+sizesOf (taken.Refused now n) = now
 
 -- ---- the pits of all tiles, and the sure ones
 
@@ -31,8 +50,8 @@ abbrev pub pitted : Taken → List ℕ → List ℕ → Pitted
 pitted r pits sure = record { answer = r; pits = pits; sure = sure }
 
 abbrev pub sureEntered : Entered → List ℕ → List ℕ → Sizes → Pitted
-sureEntered (Now n) pits sure had = pitted (taken.Now (record { tiles = had .tiles; pits = had .pits; sure = n })) pits sure
-sureEntered Full pits sure had = pitted (taken.Refused 61) pits sure
+sureEntered (Now n) pits sure had = pitted (taken.Now (withSure n had)) pits sure
+sureEntered Full pits sure had = pitted (taken.Refused had 61) pits sure
 
 -- a sure one is entered there too
 abbrev pub ifSure : Bool → ℕ → List ℕ → List ℕ → Sizes → Pitted
@@ -40,8 +59,8 @@ ifSure true x pits sure had = sureEntered (entered sure (had .sure) x) pits (wor
 ifSure false x pits sure had = pitted (taken.Now had) pits sure
 
 abbrev pub pitEntered : Entered → Bool → ℕ → List ℕ → List ℕ → Sizes → Pitted
-pitEntered (Now n) s x pits sure had = ifSure s x pits sure (record { tiles = had .tiles; pits = n; sure = had .sure })
-pitEntered Full s x pits sure had = pitted (taken.Refused 61) pits sure
+pitEntered (Now n) s x pits sure had = ifSure s x pits sure (withPits n had)
+pitEntered Full s x pits sure had = pitted (taken.Refused had 61) pits sure
 
 unfoldable pub enterPit : Bool → ℕ → List ℕ → List ℕ → Sizes → Pitted
 enterPit s x pits sure had = pitEntered (entered pits (had .pits) x) s x (wordsWith pits (had .pits) x) sure had
@@ -54,7 +73,7 @@ pub record EntersSure (sure : List ℕ) (had : Sizes) (x : ℕ) (r : Taken) (sur
 -- on with k, unless refused
 abbrev pub onward : (List ℕ → List ℕ → Sizes → Pitted) → Taken → List ℕ → List ℕ → Pitted
 onward k (taken.Now now) pits sure = k pits sure now
-onward k (taken.Refused n) pits sure = pitted (taken.Refused n) pits sure
+onward k (taken.Refused now n) pits sure = pitted (taken.Refused now n) pits sure
 
 abbrev pub followed : Pitted → (List ℕ → List ℕ → Sizes → Pitted) → Pitted
 followed p k = onward k (p .answer) (p .pits) (p .sure)
@@ -72,21 +91,25 @@ pub record Leaves (p : Pitted) (r : Taken) (pits sure : List ℕ) : Type 0 where
 -- ---- a list: its tile before its pits
 
 pub record Listed : Type 0 where
-  pub tiles : List ℕ
-  pub then : Pitted
+  pub answer : Taken
+  pub sets : Sets
 
-abbrev pub tileEntered : Entered → List ℕ → (List ℕ → List ℕ → Sizes → Pitted) → List ℕ → List ℕ → Sizes → Listed
-tileEntered (Now n) tiles k pits sure had = record { tiles = tiles; then = k pits sure (record { tiles = n; pits = had .pits; sure = had .sure }) }
-tileEntered Full tiles k pits sure had = record { tiles = tiles; then = pitted (taken.Refused 60) pits sure }
+abbrev pub besides : List ℕ → Pitted → Listed
+besides tiles p = record { answer = p .answer; sets = setsOf tiles (p .pits) (p .sure) }
+
+abbrev pub tileEntered : Entered → List ℕ → (List ℕ → List ℕ → Sizes → Pitted) → Sets → Sizes → Listed
+tileEntered (Now n) tiles k x had = besides tiles (k (x .pits) (x .sure) (withTiles n had))
+tileEntered Full tiles k x had = besides tiles (pitted (taken.Refused had 60) (x .pits) (x .sure))
 
 -- the elements of a list begin behind its version, type, tile and count, and go to the end of the numbers: each takes one at least
 abbrev pub elementsOf : List ℤ → List Mark
 elementsOf l = marksIn (second (at l 0)) (length (drop 4 l)) (drop 4 l)
 
-unfoldable pub enterList : List ℤ → List ℕ → List ℕ → List ℕ → Sizes → Listed
-enterList l tiles pits sure had =
-    tileEntered (entered tiles (had .tiles) (at l 2)) (wordsWith tiles (had .tiles) (at l 2)) (enterMarks (at l 2) (elementsOf l)) pits sure had
+unfoldable pub enterList : List ℤ → Sets → Sizes → Listed
+enterList l x had =
+    tileEntered (entered (x .tiles) (had .tiles) (at l 2)) (wordsWith (x .tiles) (had .tiles) (at l 2)) (enterMarks (at l 2) (elementsOf l)) x had
 
-pub record LeavesAll (e : Listed) (r : Taken) (tiles pits sure : List ℕ) : Type 0 where
-  pub tiles-left : tiles ≡ e .tiles
-  pub rest : Leaves (e .then) r pits sure
+-- THE CONTRACT of a list: the answer, with the sizes then, and the sets
+pub record EntersList (l : List ℤ) (x : Sets) (had : Sizes) (r : Taken) (x′ : Sets) : Type 0 where
+  pub gave : r ≡ enterList l x had .answer
+  pub left : x′ ≡ enterList l x had .sets

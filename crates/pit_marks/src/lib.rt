@@ -7,7 +7,9 @@ ghost use lib.ListN.{length, drop};
 ghost use Rattle.wire.specs.Choice.{pick};
 ghost use Rattle.count_rules.specs.Marks.{at, markLength, markAt, marksIn};
 ghost use Rattle.count_rules.specs.Keys.{span};
-ghost use Rattle.pit_marks.specs.Enters.{keyIn, EntersSure, enterPit, enterMarks, enterList, Leaves, LeavesAll};
+ghost use Rattle.wire.specs.Slices.{buffer};
+ghost use Rattle.pit_marks.specs.Sets.{setsBefore, setsAfter};
+ghost use Rattle.pit_marks.specs.Enters.{keyIn, EntersSure, enterPit, enterMarks, Leaves, EntersList};
 ghost use Rattle.pit_marks.specs.Lines.{endOf, pitsIn, Lays};
 use sorted_set::Entered;
 
@@ -21,10 +23,10 @@ pub struct Sizes {
     pub sure: usize,
 }
 
-// How many they have with one list more, or the refusal.
+// How many they have with one list more; or how many they have by then, and the number of the refusal.
 pub enum Taken {
     Now(Sizes),
-    Refused(u32),
+    Refused(Sizes, u32),
 }
 
 // Number i from a place of a list on: 0 past its end.
@@ -94,7 +96,7 @@ fn enter_sure(sure: &mut [u64], had: Sizes, x: u64) -> Taken
             pits: had.pits,
             sure: n,
         }),
-        Entered::Full => Taken::Refused(61),
+        Entered::Full => Taken::Refused(had, 61),
     }
 }
 
@@ -104,7 +106,7 @@ fn enter_pit(pits: &mut [u64], sure: &mut [u64], had: Sizes, x: u64, is_sure: bo
 {
     let entered = sorted_set::enter(pits, had.pits, x);
     let Entered::Now(n) = entered else {
-        return Taken::Refused(61);
+        return Taken::Refused(had, 61);
     };
     let now = Sizes {
         tiles: had.tiles,
@@ -169,12 +171,12 @@ pub fn enter_list(
     sure: &mut [u64],
     had: Sizes,
 ) -> Taken
-    ensures { λ r. ⌜ LeavesAll (enterList (now (list .entry)) (now (tiles .entry)) (now (pits .entry)) (now (sure .entry)) had) r (now (tiles .exit)) (now (pits .exit)) (now (sure .exit)) ⌝ }
+    ensures { λ r. ⌜ EntersList (now (list .entry)) (setsBefore tiles pits sure) had r (setsAfter tiles pits sure) ⌝ }
 {
     let tile = number_at(list, 0, 2);
     let entered = sorted_set::enter(tiles, had.tiles, tile);
     let Entered::Now(n) = entered else {
-        return Taken::Refused(60);
+        return Taken::Refused(had, 60);
     };
     let now = Sizes {
         tiles: n,
@@ -217,8 +219,7 @@ pub fn put_lines(
     sure: &[u64],
     had: Sizes,
 )
-    ensures { λ _. ⌜ Lays (now (tiles .entry)) (now (pits .entry)) (now (sure .entry)) had (now (tile .entry)) (now (pit .entry)) (now (certain .entry))
-        (now (tile .exit)) (now (pit .exit)) (now (certain .exit)) ⌝ }
+    ensures { λ _. ⌜ Lays (setsBefore tiles pits sure) had (buffer tile) (buffer pit) (buffer certain) ⌝ }
 {
     let n = had.tiles;
     let mut i: usize = 0;

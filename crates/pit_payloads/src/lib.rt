@@ -1,16 +1,17 @@
 // One payload for the count: its survey message is read into the lent number list, and the tile and marks of a PitList are entered in the sets.
 ghost use mathlib.Core.Path.{_≡_};
-ghost use Rattle.pit_payloads.specs.Looks.{inNumbers, Leaves, Looks};
+ghost use Rattle.pit_marks.specs.Sets.{setsBefore, setsAfter};
+ghost use Rattle.pit_payloads.specs.Looks.{bookBefore, bookAfter, inNumbers, Leaves, Looks};
 ghost use Rattle.pit_payloads.specs.Took.{unreadBy};
 use lmcp::Found;
 use pit_marks::Sizes;
 use pit_marks::Taken;
 
-// What a payload is: no PitList, or one, with how many numbers the sets then have, or refused.
+// What a payload is: no PitList, or one, with how many numbers the sets then have; or how many they have by then, and the number of the refusal.
 pub enum Looked {
     Other,
     Listed(Sizes),
-    Refused(u32),
+    Refused(Sizes, u32),
 }
 
 // The numbers of an accepted message.
@@ -21,8 +22,7 @@ fn enter_numbers(
     sure: &mut [u64],
     had: Sizes,
 ) -> Looked
-    ensures { λ r. ⌜ Leaves (inNumbers (now (list .entry)) (now (tiles .entry)) (now (pits .entry)) (now (sure .entry)) had) r
-        (now (tiles .exit)) (now (pits .exit)) (now (sure .exit)) ⌝ }
+    ensures { λ r. ⌜ Leaves (inNumbers (now (list .entry)) (setsBefore tiles pits sure) had) r (setsAfter tiles pits sure) ⌝ }
 {
     if !pit_marks::is_list(list) {
         return Looked::Other;
@@ -30,16 +30,16 @@ fn enter_numbers(
     let taken = pit_marks::enter_list(list, tiles, pits, sure, had);
     match taken {
         Taken::Now(now) => Looked::Listed(now),
-        Taken::Refused(e) => Looked::Refused(e),
+        Taken::Refused(now, e) => Looked::Refused(now, e),
     }
 }
 
 // A message that was not read is no list; only that the number list is too short for it stands against it.
-fn unread(e: u32) -> Looked
-    ensures { λ r. ⌜ r ≡ unreadBy e ⌝ }
+fn unread(had: Sizes, e: u32) -> Looked
+    ensures { λ r. ⌜ r ≡ unreadBy had e ⌝ }
 {
     if e == 13 {
-        return Looked::Refused(13);
+        return Looked::Refused(had, 13);
     }
     Looked::Other
 }
@@ -53,12 +53,11 @@ pub fn take_payload(
     sure: &mut [u64],
     had: Sizes,
 ) -> Looked
-    ensures { λ r. ⌜ Looks (now (payload .entry)) (now (numbers .entry)) (now (tiles .entry)) (now (pits .entry)) (now (sure .entry)) had r
-        (now (numbers .exit)) (now (tiles .exit)) (now (pits .exit)) (now (sure .exit)) ⌝ }
+    ensures { λ r. ⌜ Looks (now (payload .entry)) (bookBefore numbers tiles pits sure) had r (bookAfter numbers tiles pits sure) ⌝ }
 {
     let found = lmcp_reader::read_message(payload, &mut *numbers);
     match found {
         Found::Numbers(n) => enter_numbers(&numbers[..n], tiles, pits, sure, had),
-        Found::Refused(e) => unread(e),
+        Found::Refused(e) => unread(had, e),
     }
 }

@@ -2,7 +2,7 @@
 // nothing is written.
 ghost use mathlib.Core.Path.{_≡_};
 ghost use Prim.Native.Nat.{_+_, min};
-ghost use lib.ListN.{length, getD, set};
+ghost use lib.ListN.{getD, set};
 ghost use lib.Dec.{ltb};
 ghost use Rattle.wire.specs.Choice.{pick};
 ghost use Rattle.ranks.specs.Ranks.{lowerRank, ranksLowered, lowestRanked};

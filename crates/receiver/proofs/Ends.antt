@@ -6,6 +6,7 @@ use Prim.Native.Nat.{ℕ, _+_, _*_, _-_, _<_}
 use native.Mathlib.Omega.{arith}
 use lib.ListN.{length, getD, set, take, drop, replicate}
 use Rattle.wire.specs.Overlay.{overlay}
+use Rattle.wire.proofs.Overlays.{overlay-whole}
 use Rattle.datagram.specs.Limits.{maxName, maxFragments}
 use Rattle.datagram.specs.Said.{Fragment, fragmentIn}
 use Rattle.datagram.specs.declared.Header.{Header}
@@ -16,7 +17,7 @@ use Rattle.steps.specs.declared.Emptied.the-variants.{Nobody, Was}
 use Rattle.steps.specs.declared.PayloadAt.the-variants.{InStore}
 use Rattle.steps.specs.declared.Answer.the-variants.{Kept, Delivered}
 use Rattle.steps.specs.Memory.{keyOf, remember}
-use Rattle.steps.specs.Slots.{Slot, slotAt, oldest, noName, filled, allHeld, opening, release, seat}
+use Rattle.steps.specs.Slots.{Slot, slotAt, oldest, noName, filled, allHeld, opening, release}
 use Rattle.steps.specs.Slots as step
 use Rattle.steps.specs.Receive.{Machine, After, withSlots, row, storeWith, ledgerWith, step5}
 use Rattle.steps.proofs.Branches.{step5-delivered, step5-kept}
@@ -27,7 +28,7 @@ use Rattle.slots.specs.declared.Found.the-variants.{At, Nothing}
 use Rattle.slots.specs.Words.{turns, at, senderWord, sequenceWord, sizeWord, freeIn, firstBelow}
 use Rattle.receiver_state.specs.View.{roomWord, nameIn, slotsOf, memoryOf, view}
 use Rattle.receiver_state.specs.Inside.{Shaped, Remembers}
-use Rattle.receiver_state.proofs.Windows.{window-length, overlay-whole}
+use Rattle.receiver_state.proofs.Windows.{window-length}
 use Rattle.receiver_state.proofs.Firsts.{optionOf, first-within}
 use Rattle.receiver_state.proofs.Bridge.{slots-length, free-slot, oldest-slot}
 use Rattle.receiver_state.proofs.Cases.{row-is, key-is, size-is, name-is}

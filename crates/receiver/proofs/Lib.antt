@@ -1,3 +1,4 @@
+pub mod Clears
 pub mod Ends
 pub mod Settling
 pub mod Others

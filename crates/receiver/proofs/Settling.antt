@@ -1,13 +1,14 @@
 -- A verdict carried out is what the step list does, and a refusal alters nothing.
 use mathlib.Core.Path.{_≡_, refl, sym, _∙_, ap, subst}
 use mathlib.Core.Logic.{_⊎_, inl, inr}
-use mathlib.Core.Bool.{Bool, true, false, _&&_}
+use mathlib.Core.Bool.{Bool, true, false}
 use mathlib.Core.List.{List, []}
 use Prim.Native.Nat.{ℕ}
 use native.Mathlib.Omega.{arith}
 use lib.ListN.{length, getD, set}
 use Rattle.wire.specs.Choice.{pick}
 use Rattle.wire.proofs.Choices.{either}
+use Rattle.wire.specs.Slices.{_⇒_}
 use Rattle.datagram.specs.Limits.{maxFragments}
 use Rattle.datagram.specs.Read.{readDatagram, partOf}
 use Rattle.datagram.specs.Said.{Fragment, says, said, fragmentIn}
@@ -75,12 +76,12 @@ module _ (w n : List ℕ) (sender : ℕ) (v : code.Verdict) where
   pub planned-deliver : (h : Header) → v ≡ Deliver h → Plans w n sender v (plan.Deliver h) w n
   planned-deliver h e = by-verdict (Deliver h) (plan.Deliver h) w n e (record { does = λ store ledger d. refl; able = λ d q. q; room = refl; still = tt })
 
-  pub planned-join : (s : ℕ) (h : Header) → v ≡ Join s h → Plans w n sender v (plan.Hold (record { at = s; emptied = Nobody }) h) w n
-  planned-join s h e = by-verdict (Join s h) (plan.Hold (record { at = s; emptied = Nobody }) h) w n e
+  pub planned-join : (s : ℕ) (h : Header) → v ≡ Join s h → Plans w n sender v (plan.Hold h (record { at = s; emptied = Nobody })) w n
+  planned-join s h e = by-verdict (Join s h) (plan.Hold h (record { at = s; emptied = Nobody })) w n e
       (record { does = λ store ledger d. refl; able = λ d q. q; room = refl; still = tt })
 
-  pub planned-begin : (h : Header) (t : Seat) (w1 n1 : List ℕ) → v ≡ Begin h → Begins w n sender h t w1 n1 → Plans w n sender v (plan.Hold t h) w1 n1
-  planned-begin h t w1 n1 e B = by-verdict (Begin h) (plan.Hold t h) w1 n1 e (record {
+  pub planned-begin : (h : Header) (t : Seat) (w1 n1 : List ℕ) → v ≡ Begin h → Begins w n sender h t w1 n1 → Plans w n sender v (plan.Hold h t) w1 n1
+  planned-begin h t w1 n1 e B = by-verdict (Begin h) (plan.Hold h t) w1 n1 e (record {
     does = does;
     able = λ d q. (ready-after w n w1 n1 _ (B .shows d) (q .0), q .1, B .inside);
     room = ap (λ (m : Machine). m .slotSize) (B .shows [] .machine);
@@ -90,7 +91,7 @@ module _ (w n : List ℕ) (sender : ℕ) (v : code.Verdict) where
       free : List Slot
       free = seat (slotsOf w n) .slots
 
-      does : (store ledger d : List ℕ) → settled (view w1 n1) store ledger sender d (plan.Hold t h) ≡ enacted (view w n) store ledger sender d (Begin h)
+      does : (store ledger d : List ℕ) → settled (view w1 n1) store ledger sender d (plan.Hold h t) ≡ enacted (view w n) store ledger sender d (Begin h)
       does store ledger d =
           let f : Fragment = fragmentIn d h in
           let new : Slot = opening free (keyOf sender (h .sequence)) f in
@@ -131,16 +132,16 @@ module _ (w n : List ℕ) (sender : ℕ) (d : List ℕ) (p : Plan) where
     still = tt;
   })
 
-  pub settled-hold : (t : Seat) (h : Header) (o : Outcome) (w1 n1 : List ℕ) → p ≡ plan.Hold t h → Puts w n (t .at) (t .emptied) h d o w1 n1
+  pub settled-hold : (t : Seat) (h : Header) (o : Outcome) (w1 n1 : List ℕ) → p ≡ plan.Hold h t → Puts (w ⇒ w1) (n ⇒ n1) (t .at) (t .emptied) h d o
       → Settles w n sender p d o w1 n1
-  settled-hold t h o w1 n1 e P = by-plan (plan.Hold t h) o w1 n1 e (record { leaves = P; still = tt })
+  settled-hold t h o w1 n1 e P = by-plan (plan.Hold h t) o w1 n1 e (record { leaves = P; still = tt })
 
 -- what is known of a plan is enough to store its fragment
 able-storable : (w n d : List ℕ) (p : Plan) → Able w n d p → Storable (getD w roomWord 0) d p
 able-storable w n d (plan.Refuse k) a = tt
 able-storable w n d plan.Again a = tt
 able-storable w n d (plan.Deliver h) a = tt
-able-storable w n d (plan.Hold t h) a = (a .2, a .0 .room, a .1)
+able-storable w n d (plan.Hold h t) a = (a .2, a .0 .room, a .1)
 
 -- ---- the whole call
 
@@ -218,7 +219,7 @@ module _ (w n store ledger : List ℕ) (sender : ℕ) (d : List ℕ) where
   quiet (plan.Refuse j) m C k w1 n1 w2 n2 store1 ledger1 s t es el q = λ i. lent ((t .0 ∙ s .0) i) ((t .1 ∙ s .1) i) (es i) (el i)
   quiet plan.Again m C k w1 n1 w2 n2 store1 ledger1 s t es el q = λ i. lent ((t .0 ∙ s .0) i) ((t .1 ∙ s .1) i) (es i) (el i)
   quiet (plan.Deliver h) m C k w1 n1 w2 n2 store1 ledger1 s t es el q = clash _ k _ q (inr (_, (_, refl)))
-  quiet (plan.Hold t h) m C k w1 n1 w2 n2 store1 ledger1 s u es el q = step5-never _ m (m .slots) store ledger (t .emptied) (t .at) (fragmentIn d h) k q
+  quiet (plan.Hold h t) m C k w1 n1 w2 n2 store1 ledger1 s u es el q = step5-never _ m (m .slots) store ledger (t .emptied) (t .at) (fragmentIn d h) k q
 
   pub receives : (room : ℕ) (v : code.Verdict) (p : Plan) (o : Outcome) (w1 n1 w2 n2 store1 ledger1 : List ℕ) → room ≡ getD w roomWord 0
       → v ≡ decided w n store ledger sender d → Plans w n sender v p w1 n1 → Settles w1 n1 sender p d o w2 n2

@@ -4,6 +4,7 @@ use mathlib.Core.Bool.{true}
 use mathlib.Core.List.{List}
 use Prim.Native.Nat.{ℕ, _+_, _*_, _≤_, _<_}
 use lib.ListN.{length, getD, set}
+use Rattle.wire.specs.Slices.{Buffer}
 use Rattle.datagram.specs.Limits.{maxPayload}
 use Rattle.datagram.specs.Read.{partOf}
 use Rattle.datagram.specs.Said.{Fragment, fragmentIn}
@@ -16,7 +17,6 @@ use Rattle.steps.specs.declared.Answer.{Answer}
 use Rattle.steps.specs.declared.Answer.the-variants.{Refused, Repeat, Delivered}
 use Rattle.steps.specs.Memory.{keyOf, remember}
 use Rattle.steps.specs.Slots.{Slot, slotAt, release, releaseOne, releaseOf, seat, opening, filled, noName, padded}
-use Rattle.steps.specs.Slots as step
 use Rattle.steps.specs.Receive.{Machine, After, withSlots, stay, storeWith, ledgerWith, step5, deliveredSmall, beginAt}
 use Rattle.receiver_state.specs.View.{roomWord, slotsOf, memoryOf, view}
 use Rattle.receiver_state.specs.Inside.{Ready, Told, Shows, Remembers}
@@ -81,13 +81,13 @@ abbrev pub storeAfter : ℕ → List ℕ → List ℕ → Plan → List ℕ
 storeAfter C d store (plan.Refuse k) = store
 storeAfter C d store plan.Again = store
 storeAfter C d store (plan.Deliver h) = store
-storeAfter C d store (plan.Hold t h) = storeWith C store (t .at) (fragmentIn d h)
+storeAfter C d store (plan.Hold h t) = storeWith C store (t .at) (fragmentIn d h)
 
 abbrev pub ledgerAfter : List ℕ → List ℕ → Plan → List ℕ
 ledgerAfter d ledger (plan.Refuse k) = ledger
 ledgerAfter d ledger plan.Again = ledger
 ledgerAfter d ledger (plan.Deliver h) = ledger
-ledgerAfter d ledger (plan.Hold t h) = ledgerWith ledger (t .at) (fragmentIn d h)
+ledgerAfter d ledger (plan.Hold h t) = ledgerWith ledger (t .at) (fragmentIn d h)
 
 abbrev pub StoredIn : ℕ → List ℕ → List ℕ → ℕ → Fragment → List ℕ → List ℕ → Type 0
 StoredIn C store ledger s f store′ ledger′ = (store′ ≡ storeWith C store s f) × (ledger′ ≡ ledgerWith ledger s f)
@@ -100,7 +100,7 @@ abbrev pub Storable : ℕ → List ℕ → Plan → Type 0
 Storable C d (plan.Refuse k) = Unit {0}
 Storable C d plan.Again = Unit {0}
 Storable C d (plan.Deliver h) = Unit {0}
-Storable C d (plan.Hold t h) = (t .at < slotCount) × (C ≤ maxPayload) × Told d h
+Storable C d (plan.Hold h t) = (t .at < slotCount) × (C ≤ maxPayload) × Told d h
 
 -- ---- what is to be done
 
@@ -117,21 +117,21 @@ abbrev pub settled : Machine → List ℕ → List ℕ → ℕ → List ℕ → 
 settled m store ledger sender d (plan.Refuse k) = stay m store ledger (Refused k)
 settled m store ledger sender d plan.Again = stay m store ledger Repeat
 settled m store ledger sender d (plan.Deliver h) = deliveredSmall m store ledger (keyOf sender (h .sequence)) (partOf d (h .name)) (length (partOf d (h .payload)))
-settled m store ledger sender d (plan.Hold t h) = step5 m (m .slots) store ledger (t .emptied) (t .at) (fragmentIn d h)
+settled m store ledger sender d (plan.Hold h t) = step5 m (m .slots) store ledger (t .emptied) (t .at) (fragmentIn d h)
 
 -- what is known of a plan, as of a verdict
 abbrev pub Able : List ℕ → List ℕ → List ℕ → Plan → Type 0
 Able w n d (plan.Refuse k) = Unit {0}
 Able w n d plan.Again = Unit {0}
 Able w n d (plan.Deliver h) = Ready w n × Told d h × (h .small ≡ true)
-Able w n d (plan.Hold t h) = Ready w n × Told d h × (t .at < slotCount)
+Able w n d (plan.Hold h t) = Ready w n × Told d h × (t .at < slotCount)
 
 -- a plan that does nothing leaves words and names as they are
 abbrev pub Still : Plan → List ℕ → List ℕ → List ℕ → List ℕ → Type 0
 Still (plan.Refuse k) w n w′ n′ = (w′ ≡ w) × (n′ ≡ n)
 Still plan.Again w n w′ n′ = (w′ ≡ w) × (n′ ≡ n)
 Still (plan.Deliver h) w n w′ n′ = Unit {0}
-Still (plan.Hold t h) w n w′ n′ = Unit {0}
+Still (plan.Hold h t) w n w′ n′ = Unit {0}
 
 -- step 4: slot r .at is open for that header's message, whatever the datagram
 pub record Begins (w n : List ℕ) (sender : ℕ) (h : Header) (r : Seat) (w′ n′ : List ℕ) : Type 0 where
@@ -148,10 +148,10 @@ pub record Plans (w n : List ℕ) (sender : ℕ) (v : Verdict) (p : Plan) (w′ 
   pub still : Still p w n w′ n′
 
 -- step 5, whatever the store and the ledger
-abbrev pub Puts : List ℕ → List ℕ → ℕ → Emptied → Header → List ℕ → Outcome → List ℕ → List ℕ → Type 0
-Puts w n s gone h d r w′ n′ =
-    (store ledger : List ℕ) → Leaves (step5 (view w n) (slotsOf w n) store ledger gone s (fragmentIn d h)) r
-    (lent w′ n′ (storeWith (getD w roomWord 0) store s (fragmentIn d h)) (ledgerWith ledger s (fragmentIn d h)))
+abbrev pub Puts : Buffer → Buffer → ℕ → Emptied → Header → List ℕ → Outcome → Type 0
+Puts w n s gone h d r =
+    (store ledger : List ℕ) → Leaves (step5 (view (w .before) (n .before)) (slotsOf (w .before) (n .before)) store ledger gone s (fragmentIn d h)) r
+    (lent (w .after) (n .after) (storeWith (getD (w .before) roomWord 0) store s (fragmentIn d h)) (ledgerWith ledger s (fragmentIn d h)))
 
 pub record Settles (w n : List ℕ) (sender : ℕ) (p : Plan) (d : List ℕ) (r : Outcome) (w′ n′ : List ℕ) : Type 0 where
   pub leaves : (store ledger : List ℕ) → Leaves (settled (view w n) store ledger sender d p) r (lent w′ n′ (storeAfter (getD w roomWord 0) d store p) (ledgerAfter d ledger p))

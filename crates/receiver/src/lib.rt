@@ -10,13 +10,16 @@ use verdict::Verdict;
 ghost use mathlib.Core.Path.{_≡_};
 ghost use mathlib.Core.Bool.{true};
 ghost use mathlib.Core.List.{List};
-ghost use Prim.Native.Nat.{ℕ, _<_, _≤_};
-ghost use lib.ListN.{length, getD};
-ghost use Rattle.datagram.specs.Limits.{maxPayload};
+ghost use Prim.Native.Nat.{ℕ, _+_, _<_, _≤_};
+ghost use lib.ListN.{length, replicate};
+ghost use Rattle.wire.specs.Overlay.{overlay};
+ghost use Rattle.wire.specs.Slices.{buffer};
+ghost use Rattle.datagram.specs.Limits.{maxName, maxPayload};
 ghost use Rattle.datagram.specs.Said.{fragmentIn};
 ghost use Rattle.steps.specs.Limits.{slotCount};
 ghost use Rattle.steps.specs.Memory.{keyOf};
 ghost use Rattle.steps.specs.Slots.{noName};
+ghost use Rattle.slots.specs.Words.{blockWords};
 ghost use Rattle.receiver_state.specs.View.{stateWords};
 ghost use Rattle.receiver_state.specs.Inside.{Shaped, Ready, Told, namedIn, Remembers};
 ghost use Rattle.verdict.specs.Inside.{Possible};
@@ -57,10 +60,35 @@ enum Plan {
     Refuse(u32),
     Again,
     Deliver(Header),
-    Hold(Seat, Header),
+    // the header first, as in Deliver: it then lies at one place in both
+    Hold(Header, Seat),
 }
 
 // ---- what changes in the state
+
+// The words of a slot, from a place on, are zeros.
+fn clear_block(state: &mut [u64], b: usize)
+    requires { ⌜ b + blockWords ≤ length (now state) ⌝ }
+    ensures { λ _. ⌜ now (state .exit) ≡ overlay (now (state .entry)) b (replicate blockWords 0) ⌝ }
+{
+    let mut i: usize = 0;
+    while i < slots::BLOCK {
+        state[b + i] = 0;
+        i += 1;
+    }
+}
+
+// The bytes of a name, from a place on, are zeros.
+fn clear_name(names: &mut [u8], a: usize)
+    requires { ⌜ a + maxName ≤ length (now names) ⌝ }
+    ensures { λ _. ⌜ now (names .exit) ≡ overlay (now (names .entry)) a noName ⌝ }
+{
+    let mut i: usize = 0;
+    while i < datagram::MAX_NAME {
+        names[a + i] = 0;
+        i += 1;
+    }
+}
 
 // Slot s is freed: all zeros, and the turns of those opened after it fall by one.
 fn release(state: &mut [u64], names: &mut [u8], s: usize)
@@ -69,10 +97,8 @@ fn release(state: &mut [u64], names: &mut [u8], s: usize)
 {
     let b = slots::HEAD + slots::BLOCK * s;
     let t = words::word(&*state, b + slots::TURN);
-    let zeros = [0u64; slots::BLOCK];
-    let blank = [0u8; datagram::MAX_NAME];
-    words::put_words(&mut *state, b, &zeros);
-    wire::put_bytes(names, datagram::MAX_NAME * s, &blank);
+    clear_block(&mut *state, b);
+    clear_name(names, datagram::MAX_NAME * s);
     slots::lower(state, t);
 }
 
@@ -169,7 +195,7 @@ fn deliver(state: &mut [u64], names: &mut [u8], s: usize, gone: Emptied) -> Outc
 // Step 5, but for the store and the ledger: the fragment is held in slot s, which is open.
 fn put(state: &mut [u64], names: &mut [u8], s: usize, h: Header, d: &[u8], gone: Emptied) -> Outcome
     requires { ⌜ (s < slotCount) × Ready (now state) (now names) × Told (now d) h ⌝ }
-    ensures { λ r. ⌜ Puts (now (state .entry)) (now (names .entry)) s gone h (now (d .entry)) r (now (state .exit)) (now (names .exit)) ⌝ }
+    ensures { λ r. ⌜ Puts (buffer state) (buffer names) s gone h (now (d .entry)) r ⌝ }
 {
     keep(&mut *state, &mut *names, s, h, d);
     let b = slots::HEAD + slots::BLOCK * s;
@@ -233,13 +259,13 @@ fn plan_for(state: &mut [u64], names: &mut [u8], sender: u64, verdict: Verdict) 
         Verdict::Again => Plan::Again,
         Verdict::Deliver(h) => Plan::Deliver(h),
         Verdict::Join(s, h) => Plan::Hold(
+            h,
             Seat {
                 at: s,
                 emptied: Emptied::Nobody,
             },
-            h,
         ),
-        Verdict::Begin(h) => Plan::Hold(begin(state, names, sender, h), h),
+        Verdict::Begin(h) => Plan::Hold(h, begin(state, names, sender, h)),
     }
 }
 
@@ -267,7 +293,7 @@ fn settle(state: &mut [u64], names: &mut [u8], sender: u64, plan: Plan, d: &[u8]
         Plan::Refuse(n) => stay(Answer::Refused(n)),
         Plan::Again => stay(Answer::Repeat),
         Plan::Deliver(h) => small(state, sender, h, d),
-        Plan::Hold(seat, h) => {
+        Plan::Hold(h, seat) => {
             let at = seat.at;
             let gone = seat.emptied;
             put(state, names, at, h, d, gone)
@@ -297,7 +323,7 @@ fn store_in(store: &mut [u8], ledger: &mut [u32], room: u64, plan: Plan, d: &[u8
         Plan::Refuse(_) => {}
         Plan::Again => {}
         Plan::Deliver(_) => {}
-        Plan::Hold(seat, h) => {
+        Plan::Hold(h, seat) => {
             let at = seat.at;
             put_fragment(store, ledger, room as usize, at, h, d);
         }

@@ -2,8 +2,8 @@
 use mathlib.Core.Path.{_≡_, refl, sym, _∙_, ap}
 use mathlib.Core.Logic.{_≢_, inl, inr}
 use mathlib.Core.Bool.{Bool, true, false, not, _&&_, _||_}
-use mathlib.Core.Option.{Option, none, some}
-use mathlib.Core.List.{List, [], _∷_, map}
+use mathlib.Core.Option.{none}
+use mathlib.Core.List.{List, map}
 use Prim.Native.Nat.{ℕ, zero, suc, _+_, _-_, _*_, _≤_, _<_, min}
 use native.Mathlib.Decide.{ℕ-discrete, decLe}
 use native.Mathlib.Nat.{le-antisymm}
@@ -11,19 +11,16 @@ use native.Mathlib.Omega.{arith}
 use borrow.Author.Tests.{eq-eqb, ne-eqb}
 use lib.Dec.{eqb}
 use lib.ListN.{length, getD, set, take, drop, length-set, length-map, length-drop, List·getD-map}
-use lib.Seq.{getD-set-same, getD-set-other, getD-drop, drop-set-add, drop-set-lt, take-set-lt, take-set-le, take-all}
-use Rattle.wire.specs.Choice.{pick}
+use lib.Seq.{getD-set-same, getD-set-other, drop-set-add, drop-set-lt, take-set-lt, take-set-le, take-all}
 use Rattle.wire.specs.Overlay.{overlay}
 use Rattle.wire.proofs.Overlays.{overlay-at, length-overlay}
-use Rattle.datagram.specs.Limits.{maxName, maxFragments}
+use Rattle.datagram.specs.Limits.{maxName}
 use Rattle.steps.specs.Limits.{slotCount, ledgerLength, slotSizeOf}
-use Rattle.steps.specs.Search.{first, allBelow, count}
-use Rattle.steps.specs.Held.{noneHeld, hold}
-use Rattle.steps.specs.declared.Key.{Key}
-use Rattle.steps.specs.Memory.{keyOf, Memory, memoryOk}
-use Rattle.steps.specs.Slots.{Slot, busy, noSlot, slotAt, hasKey, isFree, findOpen, findFree, oldest, openCount, lower, release}
+use Rattle.steps.specs.Search.{allBelow, count}
+use Rattle.steps.specs.Memory.{keyOf, memoryOk}
+use Rattle.steps.specs.Slots.{Slot, busy, noSlot, slotAt, hasKey, isFree, findOpen, findFree, oldest, openCount, lower}
 use Rattle.steps.specs.Slots as step
-use Rattle.steps.specs.Receive.{Machine, withSlots, slotOk, sound}
+use Rattle.steps.specs.Receive.{withSlots, slotOk, sound}
 use Rattle.steps.proofs.Tables.{all-cong, count-same}
 use Rattle.steps.proofs.Stores.{write-out}
 use Rattle.memory.specs.Words.{memoryWords, memoryIn}
@@ -31,11 +28,10 @@ use Rattle.words.specs.Builds.{build}
 use Rattle.words.proofs.Builds.{length-build, getD-build, build-is}
 use Rattle.ranks.specs.Ranks.{rankOf, lowerRank, ranksLowered, lowestRanked}
 use Rattle.ranks.proofs.Ranks.{Lowest, lowest-is}
-use Rattle.slots.specs.declared.Found.{Found}
-use Rattle.slots.specs.declared.Found.the-variants.{At, Nothing}
+use Rattle.slots.specs.declared.Found.the-variants.{Nothing}
 use Rattle.slots.specs.Words.{headWords, blockWords, blockAt, turns, at, senderWord, sequenceWord, sizeWord, countWord, turnWord, heldWord, firstBelow, freeIn, busyIn, keyIn, soundIn}
 use Rattle.slots.proofs.Loops.{first-here}
-use Rattle.receiver_state.specs.View.{storeWord, roomWord, memoryAt, stateWords, nameBytes, block, nameIn, slotIn, slotOf, slotsOf, memoryOf, view, shaped, ready}
+use Rattle.receiver_state.specs.View.{storeWord, roomWord, memoryAt, stateWords, nameBytes, block, nameIn, slotIn, slotOf, slotsOf, memoryOf, view, ready}
 use Rattle.receiver_state.specs.Inside.{Shaped}
 use Rattle.receiver_state.proofs.Windows.{window-get, window-length, window-apart, rest-apart, window-in}
 use Rattle.receiver_state.proofs.Firsts.{optionOf, first-build, first-same}

@@ -1,9 +1,9 @@
 -- One lemma for each case of the step list, in the terms of the code: what was tested, and what it then comes to.
-use mathlib.Core.Path.{_≡_, refl, sym, _∙_, ap, subst}
+use mathlib.Core.Path.{_≡_, sym, _∙_, ap, subst}
 use mathlib.Core.Logic.{_≢_}
-use mathlib.Core.Bool.{Bool, true, false, not, _&&_, _||_}
+use mathlib.Core.Bool.{Bool, true, false}
 use mathlib.Core.Option.{Option, none, some}
-use mathlib.Core.List.{List, [], _∷_, _++_}
+use mathlib.Core.List.{List}
 use Prim.Native.Nat.{ℕ, _+_, _-_, _*_, _≤_, _<_}
 use native.Mathlib.Omega.{arith}
 use lib.Dec.{eqb}
@@ -12,7 +12,7 @@ use borrow.Author.Tests.{eq-eqb, ne-eqb}
 use Rattle.wire.specs.Choice.{pick}
 use Rattle.wire.specs.Same.{same}
 use Rattle.wire.proofs.Choices.{and-false}
-use Rattle.datagram.specs.Limits.{maxPayload, maxName, maxFragments}
+use Rattle.datagram.specs.Limits.{maxPayload, maxFragments}
 use Rattle.datagram.specs.Read.{partOf}
 use Rattle.datagram.specs.Said.{Fragment, fragmentIn, says}
 use Rattle.datagram.specs.Said as said
@@ -22,13 +22,13 @@ use Rattle.steps.specs.Limits.{slotCount, ledgerLength}
 use Rattle.steps.specs.Search.{allBelow}
 use Rattle.steps.specs.Held.{heldWords, isHeld}
 use Rattle.steps.specs.Memory.{keyOf, isRemembered, memoryOk}
-use Rattle.steps.specs.Slots.{Slot, slotAt, findOpen, padded, filled, allHeld}
-use Rattle.steps.specs.Receive.{Machine, withSlots, row, offsetOf, lengthOf, placeOf, sameMessage, sameFragment, agrees, agreesWithAll, Verdict, again, begin, refuse, step2, step3, decide}
+use Rattle.steps.specs.Slots.{Slot, slotAt, findOpen, padded, allHeld}
+use Rattle.steps.specs.Receive.{Machine, withSlots, row, offsetOf, lengthOf, placeOf, sameMessage, sameFragment, agrees, agreesWithAll, again, begin, step2, step3, decide}
 use Rattle.steps.proofs.Tables.{all-cong}
 use Rattle.steps.proofs.Seats.{set-there}
 use Rattle.slots.specs.Words.{blockWords, blockAt, at, senderWord, sequenceWord, sizeWord, countWord, heldWord}
 use Rattle.fragment_fit.specs.Fits.{fitsIn}
-use Rattle.receiver_state.specs.View.{stateWords, block, nameIn, slotIn, slotOf, slotsOf, memoryOf, view}
+use Rattle.receiver_state.specs.View.{nameIn, slotsOf, memoryOf, view}
 use Rattle.receiver_state.specs.Inside.{Shows, Ready}
 use Rattle.receiver_state.proofs.Windows.{window-get, window-inner}
 use Rattle.receiver_state.proofs.Bridge.{word, slot-at, slots-length}

@@ -1,19 +1,16 @@
 -- One lemma for each change of the state: what the words and names hold then shows the machine that the step list gives.
 use mathlib.Core.Path.{_≡_, refl, sym, _∙_, ap}
-use mathlib.Core.Logic.{inl, inr}
 use mathlib.Core.Bool.{Bool, true, false}
-use mathlib.Core.List.{List, [], _∷_, _++_, map, append-assoc}
+use mathlib.Core.List.{List, _++_, map}
 use Prim.Native.Nat.{ℕ, zero, suc, _+_, _-_, _*_, _≤_, _<_}
 use native.Mathlib.Numerals.{unary-clauses}
 use native.Mathlib.Nat.{mul-le-mul-right}
 use native.Mathlib.Omega.{arith}
 use lib.Dec.{eqb}
-use lib.ListN.{length, getD, set, take, drop, replicate, length-drop, length-append, length-replicate}
-use lib.Seq.{take-all}
+use lib.ListN.{length, getD, set, take, drop, replicate, length-append, length-replicate}
 use Rattle.wire.specs.Choice.{pick}
 use Rattle.wire.specs.Overlay.{overlay}
-use Rattle.wire.proofs.Choices.{either}
-use Rattle.wire.proofs.Overlays.{overlay-at, overlay-eq, length-overlay}
+use Rattle.wire.proofs.Overlays.{overlay-at, overlay-eq, length-overlay, overlay-whole}
 use Rattle.datagram.specs.Limits.{maxName, maxPayload}
 use Rattle.datagram.specs.Read.{partOf}
 use Rattle.datagram.specs.Said.{Fragment, fragmentIn}
@@ -22,9 +19,8 @@ use Rattle.datagram.specs.declared.Place.{Place}
 use Rattle.steps.specs.Limits.{slotCount}
 use Rattle.steps.specs.Search.{count}
 use Rattle.steps.specs.Held.{heldWords, noneHeld, hold}
-use Rattle.steps.specs.declared.Key.{Key}
 use Rattle.steps.specs.Memory.{keyOf}
-use Rattle.steps.specs.Slots.{Slot, noName, padded, noSlot, slotAt, openCount, lower, release, opening, filled}
+use Rattle.steps.specs.Slots.{Slot, noName, padded, noSlot, slotAt, lower, release, opening, filled}
 use Rattle.steps.specs.Receive.{Machine, withSlots}
 use Rattle.steps.proofs.Helds.{hold-length}
 use Rattle.steps.proofs.Stores.{write-out}
@@ -33,7 +29,7 @@ use Rattle.ranks.proofs.Ranks.{lowered-length}
 use Rattle.slots.specs.Words.{blockWords, blockAt, turns, at, senderWord, sequenceWord, sizeWord, countWord, turnWord, heldWord, busyIn}
 use Rattle.receiver_state.specs.View.{stateWords, nameBytes, block, nameIn, slotIn, slotOf, slotsOf, memoryOf, view}
 use Rattle.receiver_state.specs.Inside.{Shaped, Shows, namedIn}
-use Rattle.receiver_state.proofs.Windows.{window-length, window-inner, overlay-whole, part-back}
+use Rattle.receiver_state.proofs.Windows.{window-length, window-inner, part-back}
 use Rattle.receiver_state.proofs.Bridge.{word, slot-at, open-many, block-view, both-view, lowered-view}
 
 -- ---- names

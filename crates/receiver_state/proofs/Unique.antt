@@ -1,22 +1,18 @@
 -- The bridge loses nothing: states and names of the right lengths that show the same machine are the same. So no second outcome satisfies a contract.
-use mathlib.Core.Path.{_≡_, refl, sym, _∙_, ap}
-use mathlib.Core.Logic.{_⊎_, inl, inr}
-use mathlib.Core.Bool.{Bool, true, false}
-use mathlib.Core.Option.{Option, none, some}
+use mathlib.Core.Path.{_≡_, sym, _∙_, ap}
 use mathlib.Core.List.{List}
 use Prim.Native.Nat.{ℕ, zero, suc, _+_, _-_, _*_, _≤_, _<_}
 use native.Mathlib.Decide.{decLe, ℕ-discrete}
 use native.Mathlib.Omega.{arith}
-use lib.ListN.{length, getD, take, drop, length-drop}
+use lib.ListN.{getD, take, drop, length-drop}
 use lib.Seq.{ext-getD, getD-drop}
 use Rattle.datagram.specs.Limits.{maxName}
 use Rattle.steps.specs.Limits.{slotCount}
 use Rattle.steps.specs.Held.{heldWords}
 use Rattle.steps.specs.Slots.{Slot, slotAt}
 use Rattle.steps.specs.Receive.{Machine}
-use Rattle.memory.specs.Words.{memoryWords}
 use Rattle.slots.specs.Words.{headWords, blockWords, blockAt, heldWord}
-use Rattle.receiver_state.specs.View.{memoryAt, stateWords, nameBytes, block, nameIn, slotOf, view}
+use Rattle.receiver_state.specs.View.{memoryAt, stateWords, block, slotOf, view}
 use Rattle.receiver_state.specs.Inside.{Shaped}
 use Rattle.receiver_state.proofs.Windows.{window-get, window-inner}
 use Rattle.receiver_state.proofs.Bridge.{slot-at, word}

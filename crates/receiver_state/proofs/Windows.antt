@@ -1,12 +1,12 @@
 -- A window of a list, n elements from a place on, after numbers were written at another place.
-use mathlib.Core.Path.{_≡_, refl, sym, _∙_, ap}
-use mathlib.Core.Logic.{_⊎_, inl, inr, ⊎-elim}
-use mathlib.Core.List.{List, [], _∷_, _++_, append-assoc}
-use Prim.Native.Nat.{ℕ, _+_, _-_, _≤_, _<_, min}
+use mathlib.Core.Path.{_≡_, sym, _∙_, ap}
+use mathlib.Core.Logic.{_⊎_, ⊎-elim}
+use mathlib.Core.List.{List, _++_, append-assoc}
+use Prim.Native.Nat.{ℕ, _+_, _-_, _≤_, _<_}
 use native.Mathlib.Decide.{decLe}
 use native.Mathlib.Omega.{arith}
-use lib.ListN.{length, getD, set, take, drop, length-take, length-drop}
-use lib.Seq.{getD-take, getD-drop, ext-getD, take-all, drop-drop, length-take-le}
+use lib.ListN.{length, getD, take, drop, length-take, length-drop}
+use lib.Seq.{getD-take, getD-drop, ext-getD, drop-drop, length-take-le}
 use Rattle.wire.specs.Overlay.{overlay}
 use Rattle.wire.proofs.Overlays.{length-overlay, overlay-eq}
 use Rattle.steps.proofs.Stores.{write-in, write-out}
@@ -59,12 +59,6 @@ window-in d a j x n h g =
             ∙ sym (ap (λ (y : ℕ). getD (overlay (take n (drop a d)) j x) y 0) (sym t) ∙ write-in (take n (drop a d)) j x (omega arith) (i - j) (omega arith))
       ]
     ])
-
--- a whole window
-pub overlay-whole : (d x : List ℕ) → length x ≡ length d → overlay d 0 x ≡ x
-overlay-whole d x e = ext-getD 0 (overlay d 0 x) x (length-overlay d 0 x ∙ sym e) (λ i h.
-    let z : 0 + i ≡ i = omega arith in
-    ap (λ (y : ℕ). getD (overlay d 0 x) y 0) (sym z) ∙ write-in d 0 x (omega arith) i (omega (arith, length-overlay d 0 x)))
 
 -- a window of a window
 pub window-inner : (n a j k : ℕ) (d : List ℕ) → j + k ≤ n → take k (drop j (take n (drop a d))) ≡ take k (drop (a + j) d)

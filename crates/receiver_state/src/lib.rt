@@ -1,6 +1,5 @@
 // The words of a receiver's state, and whether they are in order. `specs/View` has the machine of the step list that they show.
 ghost use mathlib.Core.Path.{_≡_};
-ghost use lib.ListN.{length};
 ghost use Rattle.steps.specs.Limits.{slotSizeOf};
 ghost use Rattle.receiver_state.specs.View.{ready};
 

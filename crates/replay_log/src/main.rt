@@ -3,6 +3,7 @@
 // beside the slot size.
 ghost use Prim.Native.Nat.{_≤_};
 ghost use lib.ListN.{length};
+ghost use Rattle.wire.specs.Slices.{buffer};
 ghost use Rattle.output.specs.Output.{lineLimit};
 ghost use Rattle.log.specs.Told.{entrySaid};
 ghost use Rattle.receiver.specs.Lent.{lentBefore, lentAfter};
@@ -29,8 +30,7 @@ fn one_more(
     log: &[u8],
     entry: EntryAt,
 ) -> usize
-    ensures { λ r. ⌜ Replayed limits (lentBefore state names store ledger) (entry .sender) (entrySaid (now (log .entry)) entry .datagram) n (now (out .entry)) at
-        (lentAfter state names store ledger) (now (out .exit)) r ⌝ }
+    ensures { λ r. ⌜ Replayed limits (lentBefore state names store ledger) (entrySaid (now (log .entry)) entry) n (buffer out) at (lentAfter state names store ledger) r ⌝ }
 {
     let d = wire::part(log, entry.at, entry.len);
     let outcome = within_limits::receive_within(

@@ -1,6 +1,7 @@
 -- The lines of the program `replay`, in ASCII, and what they are about. Definitions only.
-use mathlib.Core.List.{List, [], _∷_, _++_}
+use mathlib.Core.List.{List, _++_}
 use Prim.Native.Nat.{ℕ}
+use Rattle.wire.specs.Slices.{Buffer}
 use Rattle.wire.specs.Text.{ascii}
 use Rattle.steps.specs.declared.Answer.{Answer}
 use Rattle.steps.specs.declared.Answer.the-variants.{Refused, Kept, Repeat, Delivered}
@@ -34,7 +35,7 @@ abbrev pub onlySender : ℕ
 onlySender = 0
 
 -- Datagram d was received over what is lent, and line n says the outcome.
-pub record Replayed (l : Lent) (d : List ℕ) (number : ℕ) (out : List ℕ) (at : ℕ) (l′ : Lent) (out′ : List ℕ) (r : ℕ) : Type 0 where
+pub record Replayed (l : Lent) (d : List ℕ) (number : ℕ) (out : Buffer) (at : ℕ) (l′ : Lent) (r : ℕ) : Type 0 where
   pub outcome : Outcome
   pub heard : Receives l onlySender d outcome l′
-  pub said : Pours out at (line number (outcome .answer) (outcome .emptied)) out′ r
+  pub said : Pours (out .before) at (line number (outcome .answer) (outcome .emptied)) (out .after) r

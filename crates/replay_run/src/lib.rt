@@ -2,13 +2,12 @@
 // to a fresh receiver, and a line says what it answers. `replay_log` shares the lines.
 ghost use Prim.Native.Nat.{_≤_};
 ghost use mathlib.Core.Path.{_≡_};
-ghost use mathlib.Core.List.{[], _∷_, _++_};
 ghost use lib.ListN.{length};
+ghost use Rattle.wire.specs.Slices.{buffer};
 ghost use Rattle.receiver.specs.Lent.{lentBefore, lentAfter};
 ghost use Rattle.output.specs.Output.{Pours, lineLimit};
 ghost use Rattle.replay_run.specs.Lines.{answerText, emptiedText, line, Replayed};
 use receiver::Call;
-use receiver::Outcome;
 use steps::Answer;
 use steps::Emptied;
 use stream::Input;
@@ -65,7 +64,7 @@ fn one_more(
     ledger: &mut [u32],
     d: &[u8],
 ) -> usize
-    ensures { λ r. ⌜ Replayed (lentBefore state names store ledger) (now (d .entry)) n (now (out .entry)) at (lentAfter state names store ledger) (now (out .exit)) r ⌝ }
+    ensures { λ r. ⌜ Replayed (lentBefore state names store ledger) (now (d .entry)) n (buffer out) at (lentAfter state names store ledger) r ⌝ }
 {
     let outcome = receiver::receive(state, names, store, ledger, 0, d);
     let answer = outcome.answer;

@@ -1,13 +1,13 @@
 -- Entering, by its three cases. Assumes nothing.
-use mathlib.Core.Path.{_≡_, refl, sym, ap, _∙_}
-use mathlib.Core.Bool.{Bool, true, false, _&&_}
+use mathlib.Core.Path.{_≡_, sym, ap, _∙_}
+use mathlib.Core.Bool.{true, false, _&&_}
 use mathlib.Core.List.{List}
 use Prim.Native.Nat.{ℕ, _+_}
 use lib.Dec.{ltb, eqb}
 use lib.ListN.{length, getD}
 use borrow.Author.Tests.{eq-eqb, ne-eqb}
 use Rattle.sorted_set.specs.declared.Entered.the-variants.{Now, Full}
-use Rattle.sorted_set.specs.Halving.{held, rankIn, inserted, isThere, noRoom, entered, wordsWith, Enters}
+use Rattle.sorted_set.specs.Halving.{held, rankIn, inserted, isThere, entered, wordsWith, Enters}
 
 module _ (w : List ℕ) (n x : ℕ) where
   pub there : isThere w n x ≡ true → Enters w n x (Now (held w n)) w

@@ -4,7 +4,6 @@ pub mod Rises
 pub mod Places
 pub mod Parts
 pub mod Enterings
-pub mod Halves
 pub mod Moves
 pub mod Sets
 pub mod Once

@@ -1,23 +1,22 @@
 -- Where the first n words rise, halving finds how many of them are below x, and entering makes of them what `enter` makes. Assumes nothing.
 use mathlib.Core.Path.{_≡_, refl, sym, ap, _∙_, subst}
 use mathlib.Core.Logic.{inl, inr}
-use mathlib.Core.Bool.{Bool, true, false, _&&_}
+use mathlib.Core.Bool.{true, false}
 use mathlib.Core.List.{List, [], _∷_, _++_, append-assoc}
-use Prim.Native.Nat.{ℕ, zero, suc, _+_, _-_, _/_, _≤_, _<_, min}
+use Prim.Native.Nat.{ℕ, zero, suc, _+_, _-_, _≤_, _<_}
 use native.Mathlib.Nat.{sub-zero, zero-sub, suc-sub-suc}
 use native.Mathlib.Omega.{arith}
-use native.Mathlib.Numerals.{add-one}
 use lib.Dec.{ltb, eqb}
 use lib.ListN.{length, getD, take, drop, length-take, length-drop, length-append}
 use lib.Seq.{getD-take, take-take, length-take-le, take-at, take-nil}
 use borrow.Author.Tests.{ltb-true, ltb-false, eqb-true, eqb-false, lt-ltb, le-ltb, eq-eqb, ne-eqb}
 use Rattle.wire.specs.Choice.{pick}
 use Rattle.wire.proofs.Choices.{either, never, and-l, and-r, pick-all}
-use Rattle.sorted_set.specs.declared.Entered.{Entered}
 use Rattle.sorted_set.specs.declared.Entered.the-variants.{Now, Full}
-use Rattle.sorted_set.specs.Lists.{In, enter, Rising, below}
-use Rattle.sorted_set.specs.Halving.{held, middle, behind, halve, rankIn, inserted, isThere, noRoom, entered, wordsWith, Holds}
-use Rattle.sorted_set.proofs.Halves.{done, turn, rank-most}
+use Rattle.sorted_set.specs.Lists.{In, enter, below}
+use Rattle.wire.specs.Halving.{middle, halve}
+use Rattle.wire.proofs.Halves.{done, turn, halve-most}
+use Rattle.sorted_set.specs.Halving.{held, smaller, rankIn, inserted, isThere, noRoom, entered, wordsWith, Holds}
 use Rattle.sorted_set.proofs.Rises.{enter-old, enter-new, enter-rises}
 use Rattle.sorted_set.proofs.Places as places
 
@@ -33,6 +32,10 @@ inserted-all w at n x h l = simp (length-append, length-take, length-drop) (omeg
 
 inserted-long : (w : List ℕ) (at n x : ℕ) → at ≤ n → n < length w → n + 1 ≤ length (inserted w at n x)
 inserted-long w at n x h l = omega (arith, inserted-all w at n x h l)
+
+pub rank-most : (w : List ℕ) (x n : ℕ) → rankIn w n x ≤ held w n
+unfolding rankIn
+rank-most w x n = halve-most (smaller w x) (held w n) 0 (held w n) (omega arith)
 
 pub words-long : (w : List ℕ) (n x : ℕ) → length (wordsWith w n x) ≡ length w
 unfolding wordsWith
@@ -51,7 +54,7 @@ module _ (w : List ℕ) (n : ℕ) (l : List ℕ) (h : Holds w n l) where
   word-at i b = sym (getD-take n w i 0 b) ∙ ap (λ (m : List ℕ). getD m i 0) (h .front)
 
   module _ (x : ℕ) where
-    finds : (k low high : ℕ) → high ≤ low + k → low ≤ below x l → below x l ≤ high → high ≤ n → halve k w x low high ≡ below x l
+    finds : (k low high : ℕ) → high ≤ low + k → low ≤ below x l → below x l ≤ high → high ≤ n → halve k (smaller w x) low high ≡ below x l
     unfolding halve
     finds zero low high e a b c = omega arith
     finds (suc k) low high e a b c = elim (either (ltb low high)) [
@@ -59,17 +62,17 @@ module _ (w : List ℕ) (n : ℕ) (l : List ℕ) (h : Holds w n l) where
           let o : low < high = ltb-true low high p in
           let m : middle low high < n = omega arith in
           let v : getD w (middle low high) 0 ≡ getD l (middle low high) 0 = word-at (middle low high) m in
-          elim (either (behind w x low high)) [
+          elim (either (smaller w x (middle low high))) [
             | inl q ↦
                 let z : getD w (middle low high) 0 < x = ltb-true _ x q in
                 let y : middle low high < below x l = places.before x l (h .rises) (middle low high) (omega (arith, as-many)) (omega arith) in
-                turn w x k low high true o q ∙ finds k (middle low high + 1) high (omega arith) (omega arith) b c
+                turn (smaller w x) k low high true o q ∙ finds k (middle low high + 1) high (omega arith) (omega arith) b c
             | inr q ↦
                 let z : x ≤ getD w (middle low high) 0 = ltb-false _ x q in
                 let y : below x l ≤ middle low high = places.behind x l (h .rises) (middle low high) (omega (arith, as-many)) (omega arith) in
-                turn w x k low high false o q ∙ finds k low (middle low high) (omega arith) a y (omega arith)
+                turn (smaller w x) k low high false o q ∙ finds k low (middle low high) (omega arith) a y (omega arith)
           ]
-      | inr p ↦ let o : high ≤ low = ltb-false low high p in done w x (suc k) low high o ∙ omega arith
+      | inr p ↦ let o : high ≤ low = ltb-false low high p in done (smaller w x) (suc k) low high o ∙ omega arith
     ]
 
     pub rank-below : rankIn w n x ≡ below x l

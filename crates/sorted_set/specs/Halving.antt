@@ -3,10 +3,11 @@
 use mathlib.Core.Path.{_≡_}
 use mathlib.Core.Bool.{Bool, _&&_}
 use mathlib.Core.List.{List, _∷_, _++_}
-use Prim.Native.Nat.{ℕ, zero, suc, _+_, _-_, _/_, _≤_, min}
+use Prim.Native.Nat.{ℕ, _+_, _-_, _≤_, min}
 use lib.Dec.{ltb, eqb}
 use lib.ListN.{length, getD, take, drop}
 use Rattle.wire.specs.Choice.{pick}
+use Rattle.wire.specs.Halving.{halve}
 use Rattle.sorted_set.specs.Lists.{Rising}
 use Rattle.sorted_set.specs.declared.Entered.{Entered}
 use Rattle.sorted_set.specs.declared.Entered.the-variants.{Now, Full}
@@ -15,24 +16,13 @@ use Rattle.sorted_set.specs.declared.Entered.the-variants.{Now, Full}
 abbrev pub held : List ℕ → ℕ → ℕ
 held w n = min n (length w)
 
-abbrev pub middle : ℕ → ℕ → ℕ
-middle low high = low + (high - low) / 2
-
--- whether the middle word is below x: then x belongs behind it
-abbrev pub behind : List ℕ → ℕ → ℕ → ℕ → Bool
-behind w x low high = ltb (getD w (middle low high) 0) x
-
--- between the places low and high the half where x belongs is looked at next; as many turns as there are words are enough
-unfoldable pub halve : ℕ → List ℕ → ℕ → ℕ → ℕ → ℕ
-halve zero w x low high = low
-halve (suc k) w x low high =
-    pick (ltb low high)
-    (halve k w x (pick (behind w x low high) (middle low high + 1) low) (pick (behind w x low high) high (middle low high)))
-    low
+-- whether the word at a place is below x: then x belongs behind it
+abbrev pub smaller : List ℕ → ℕ → ℕ → Bool
+smaller w x i = ltb (getD w i 0) x
 
 -- the place of x among the first n words
 unfoldable pub rankIn : List ℕ → ℕ → ℕ → ℕ
-rankIn w n x = halve (held w n) w x 0 (held w n)
+rankIn w n x = halve (held w n) (smaller w x) 0 (held w n)
 
 -- the words from a place up to the n-th moved up by one, and x at the place
 abbrev pub inserted : List ℕ → ℕ → ℕ → ℕ → List ℕ

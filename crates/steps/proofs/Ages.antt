@@ -13,9 +13,9 @@ use Rattle.wire.proofs.Choices.{either, never, and-of}
 use Rattle.datagram.specs.Limits.{maxFragments}
 use Rattle.datagram.specs.Said.{Said, fragment, Fragment, said}
 use Rattle.steps.specs.Limits.{slotCount}
-use Rattle.steps.specs.Memory.{Key, keyOf, sameKey, isRemembered}
-use Rattle.steps.specs.Slots.{Slot, busy, noSlot, slotAt, findOpen, openCount, oldest, release, releaseOf, opening, filled, Seat, seat, Emptied, Nobody, Was}
-use Rattle.steps.specs.Receive.{Machine, After, Answer, stay, step5, step, forget, opened, sequenceOf}
+use Rattle.steps.specs.Memory.{Key, keyOf, sameKey}
+use Rattle.steps.specs.Slots.{Slot, busy, noSlot, slotAt, findOpen, openCount, oldest, releaseOf, opening, filled, Seat, seat, Emptied, Nobody}
+use Rattle.steps.specs.Receive.{Machine, After, stay, step5, step, forget, opened, sequenceOf}
 use Rattle.steps.specs.Answers.{emptiedKey}
 use Rattle.steps.specs.Runs.{World, lending, Arrival, from, keyIn, call}
 use Rattle.steps.specs.Reach.{Reached, opens, receives, forgets, found, isOpen, isStored, opensSlot, opensFor, ago, FurthestBack, OldestFirst}
@@ -24,7 +24,7 @@ use Rattle.steps.proofs.Memories.{same-key, key-same, whole-ok}
 use Rattle.steps.proofs.Seats.{busyAt, keyAt, turnAt, same-its-key, Found, open-found, is-found, set-there, Seated, free, full, seated, oldest-low}
 use Rattle.steps.proofs.Branches.{Course, unmoved, given, joined, begun, course, step5-stores}
 use Rattle.steps.proofs.Ranks.{Ranks, Shrunk, was-open, order-back, ranks-open, last-turn, fill-alike, ranks-fill, Sat, oldest-inside, step5-shrunk, step5-gone}
-use Rattle.steps.proofs.Reaches.{Good, Tidy, good-form, seat-sat, begun-tidy, begun-busy, rest-own, good-released, opened-good, step-good, forget-good, reached-good}
+use Rattle.steps.proofs.Reaches.{Good, good-form, seat-sat, begun-tidy, begun-busy, good-released, reached-good}
 
 -- the open slots of later turns have keys of lower age
 abbrev Aged : List Slot → (Key → ℕ) → Type 0

@@ -7,15 +7,14 @@ use mathlib.Core.List.{List}
 use Prim.Native.Nat.{ℕ}
 use native.Mathlib.Omega.{arith}
 use lib.ListN.{length, set}
-use Rattle.wire.specs.Choice.{pick}
 use Rattle.wire.proofs.Choices.{either, never}
 use Rattle.datagram.specs.Limits.{maxFragments}
 use Rattle.datagram.specs.Said.{Said, refused, small, fragment, Fragment, said}
 use Rattle.steps.specs.Held.{isHeld}
 use Rattle.steps.specs.Memory.{keyOf, isRemembered}
-use Rattle.steps.specs.Slots.{Slot, slotAt, findOpen, findFree, oldest, release, seat, seatAt, opening, filled, allHeld, Emptied, Nobody, Was}
-use Rattle.steps.specs.Receive.{Machine, After, Answer, Refused, Kept, Repeat, stay, Verdict, refuse, again, deliver, join, begin, sameMessage, sameFragment, agreesWithAll, step3, decide, deliveredFrom, keptIn, step5, storeWith, ledgerWith, deliveredSmall, beginAt, act, receive, sound, step}
-use Rattle.steps.specs.Reach.{isStored}
+use Rattle.steps.specs.Slots.{Slot, slotAt, findOpen, findFree, oldest, release, seat, opening, filled, allHeld, Emptied, Nobody, Was}
+use Rattle.steps.specs.Receive.{Machine, After, Answer, Refused, Repeat, stay, Verdict, refuse, again, join, sameMessage, sameFragment, agreesWithAll, step3, decide, deliveredFrom, keptIn, step5, storeWith, ledgerWith, deliveredSmall, beginAt, act, receive, sound, step}
+use Rattle.steps.specs.Reach.{isAccepted, isStored}
 use Rattle.steps.proofs.Seats.{seat-free, seat-full}
 
 module _ (m : Machine) (store ledger : List ℕ) (sender : ℕ) where
@@ -129,8 +128,8 @@ module _ (m : Machine) (slots : List Slot) (store ledger : List ℕ) (s : ℕ) (
 -- ---- the four courses of a call
 
 pub data Course (m : Machine) (store ledger : List ℕ) (sender : ℕ) (r : Said) (a : After) : Type 0 where
-  -- nothing is altered, and nothing stored
-  unmoved : (x : Answer) → isStored x ≡ false → a ≡ stay m store ledger x → Course m store ledger sender r a
+  -- nothing is accepted, and nothing altered
+  unmoved : (x : Answer) → isAccepted x ≡ false → a ≡ stay m store ledger x → Course m store ledger sender r a
   -- a small message is delivered
   given : (q : ℕ) (name payload : List ℕ) → r ≡ small q name payload → findOpen (m .slots) (keyOf sender q) ≡ none
       → a ≡ deliveredSmall m store ledger (keyOf sender q) name (length payload) → Course m store ledger sender r a

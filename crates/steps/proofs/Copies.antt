@@ -1,5 +1,5 @@
 -- A fragment of an open key that is not refused has the slot's P and n; one that is answered Repeat is a copy of what is held.
-use mathlib.Core.Path.{_≡_, refl, sym, ap, _∙_, subst}
+use mathlib.Core.Path.{_≡_, refl, sym, ap, _∙_}
 use mathlib.Core.Logic.{_≢_, inl, inr}
 use mathlib.Core.Bool.{Bool, true, false, _&&_}
 use mathlib.Core.Option.{some}
@@ -16,12 +16,12 @@ use Rattle.wire.proofs.Parts.{same-true}
 use Rattle.datagram.specs.Limits.{maxFragments}
 use Rattle.datagram.specs.Said.{fragment, Fragment, said}
 use Rattle.steps.specs.Held.{isHeld}
-use Rattle.steps.specs.Memory.{Key, keyOf, isRemembered}
+use Rattle.steps.specs.Memory.{keyOf, isRemembered}
 use Rattle.steps.specs.Slots.{Slot, slotAt, findOpen, padded, Nobody}
-use Rattle.steps.specs.Receive.{Machine, After, Answer, Refused, Repeat, stay, Verdict, refuse, again, join, offsetOf, lengthOf, placeOf, sameMessage, sameFragment, agreesWithAll, step3, act, receive, sound, step}
+use Rattle.steps.specs.Receive.{Machine, After, Answer, Refused, Repeat, stay, Verdict, refuse, join, offsetOf, lengthOf, placeOf, sameMessage, sameFragment, agreesWithAll, step3, act, receive, sound, step}
 use Rattle.steps.specs.Reach.{isStored}
 use Rattle.steps.specs.Promises.{OfMessage, Copy}
-use Rattle.steps.proofs.Branches.{step-unsound, step-sound, fragment-open, step3-other, step3-again, step3-differs, step3-join, step3-clash, step5-stores}
+use Rattle.steps.proofs.Branches.{step-unsound, step-sound, fragment-open, step3-other, step3-differs, step3-join, step3-clash, step5-stores}
 
 -- what step 3 has found when it answers so
 data Found3 (m : Machine) (store ledger : List ℕ) (s : ℕ) (f : Fragment) (a : Answer) : Type 0 where

@@ -1,11 +1,12 @@
--- Which senders have a place: those of the latest deliveries. So a delivery from a 17th drops the sender whose latest delivery lies furthest back.
+-- EXACTLY WHAT IS REMEMBERED after any deliveries and forgettings: a key that is among its sender's last 32 deliveries since that sender was forgotten or
+-- dropped, and of the senders the 16 whose latest deliveries are the latest. So a 17th drops the one furthest back, and forgetting leaves the rest in their order.
 use mathlib.Core.Path.{_≡_, refl, ap, _∙_, sym, subst}
 use mathlib.Core.Logic.{_≢_, inl, inr}
-use mathlib.Core.Bool.{Bool, true, false, _||_}
+use mathlib.Core.Bool.{Bool, true, false, _&&_, _||_}
 use mathlib.Core.Option.{Option, none, some}
 use mathlib.Core.List.{List, [], _∷_, map}
 use Prim.Native.Nat.{ℕ, zero, suc, _+_, _-_, _≤_, _<_, zero-le}
-use native.Mathlib.Nat.{le-refl}
+use native.Mathlib.Nat.{le-refl, not-suc-le-zero}
 use native.Mathlib.Omega.{arith}
 use native.Mathlib.Decide.{decLe, ℕ-discrete}
 use lib.Dec.{eqb, ltb}
@@ -13,12 +14,12 @@ use lib.ListN.{length, take, length-map, getD-replicate}
 use lib.Seq.{take-all}
 use borrow.Author.Tests.{eqb-true, eq-eqb, ne-eqb, lt-ltb, le-ltb}
 use Rattle.wire.specs.Choice.{pick}
-use Rattle.wire.proofs.Choices.{either, never, or-l, or-r}
-use Rattle.steps.specs.Limits.{sendersMost}
+use Rattle.wire.proofs.Choices.{either, never, and-of, or-l, or-r, pick-all}
+use Rattle.steps.specs.Limits.{sendersMost, keysEach}
 use Rattle.steps.specs.Search.{first}
-use Rattle.steps.specs.Memory.{Key, Place, noPlace, vacant, isOf, has, Memory, emptyMemory, placeAt, furthestBack, placeFor, orElse, withKey, sunk, remember, rememberAll, without, latest, isThere, isKnown}
+use Rattle.steps.specs.Memory.{Key, sameKey, among, Place, noPlace, vacant, isOf, has, Memory, emptyMemory, placeAt, isRemembered, furthestBack, placeFor, orElse, withKey, sunk, remember, freed, forgetKeys, rememberAll, since, Recent, Deed, delivery, forgetting, memoryAfter, without, latest, sequencesOf, amongLast, isThere, isKnown}
 use Rattle.steps.proofs.Tables.{or-not, or-yes, First, first-some, first-none}
-use Rattle.steps.proofs.Memories.{without-short, without-less, without-other, at-most, Whole, empty-whole, remember-whole, all-whole, Seated, own, free, full, seated, place-inside, own-place, of-sender, of-taken, taken-of, vacant-of, key-taken, key-sender, after-here, after-other}
+use Rattle.steps.proofs.Memories.{key-same, has-reverse, without-less, without-other, at-most, Whole, empty-whole, empty-vacant, remember-whole, forget-whole, forget-at, Seated, own, free, full, seated, place-inside, own-place, found, not-found, of-sender, of-taken, taken-of, vacant-of, key-taken, key-sender, after-here, after-other, Holds, holds-own, holds-first, freed-own, freed-same, freed-other}
 
 -- ---- lists of numbers, each once
 
@@ -149,20 +150,96 @@ index-without (y ∷ l) x z a n e = elim (ℕ-discrete y x) [
   ]
 ]
 
+-- ---- some of a list's numbers
+
+-- those that do not pass
+abbrev besides : (ℕ → Bool) → List ℕ → List ℕ
+besides v [] = []
+besides v (i ∷ l) = pick (v i) (besides v l) (i ∷ besides v l)
+
+besides-has : (v : ℕ → Bool) (l : List ℕ) (i : ℕ) → has (besides v l) i ≡ true → (has l i ≡ true) × (v i ≡ false)
+besides-has v [] i e = never e refl
+besides-has v (x ∷ l) i e = go (besides-has v l i) (v x) refl e
+  where
+    go : (has (besides v l) i ≡ true → (has l i ≡ true) × (v i ≡ false)) → (b : Bool) → v x ≡ b → has (pick b (besides v l) (x ∷ besides v l)) i ≡ true
+        → ((eqb x i || has l i) ≡ true) × (v i ≡ false)
+    go ih true t q = let r = ih q in (right (eqb x i) (r .0), r .1)
+    go ih false t q = elim (either (eqb x i)) [
+      | inl s ↦ (or-yes (eqb x i) (has l i) s, subst (λ (y : ℕ). v y ≡ false) (eqb-true x i s) t)
+      | inr s ↦ let r = ih (sym (or-not (eqb x i) (has (besides v l) i) s) ∙ q) in (right (eqb x i) (r .0), r .1)
+    ]
+
+besides-in : (v : ℕ → Bool) (l : List ℕ) (i : ℕ) → has l i ≡ true → v i ≡ false → has (besides v l) i ≡ true
+besides-in v [] i e q = e
+besides-in v (x ∷ l) i e q = go (λ z. besides-in v l i z q) (v x) refl
+  where
+    go : (has l i ≡ true → has (besides v l) i ≡ true) → (b : Bool) → v x ≡ b → has (pick b (besides v l) (x ∷ besides v l)) i ≡ true
+    go ih true t = ih (sym (or-not (eqb x i) (has l i) (ne-eqb x i (λ z. never (subst (λ (y : ℕ). v y ≡ true) z t) q))) ∙ e)
+    go ih false t = elim (either (eqb x i)) [
+      | inl s ↦ or-yes (eqb x i) (has (besides v l) i) s
+      | inr s ↦ right (eqb x i) (ih (sym (or-not (eqb x i) (has l i) s) ∙ e))
+    ]
+
+besides-apart : (v : ℕ → Bool) (l : List ℕ) → Apart l → Apart (besides v l)
+besides-apart v [] a = tt
+besides-apart v (x ∷ l) a = go (besides-apart v l (a .1)) (v x)
+  where
+    lacks : has (besides v l) x ≡ false
+    lacks = elim (either (has (besides v l) x)) [ inl t ↦ never (besides-has v l x t .0) (a .0) | inr t ↦ t ]
+
+    go : Apart (besides v l) → (b : Bool) → Apart (pick b (besides v l) (x ∷ besides v l))
+    go ih true = ih
+    go ih false = (lacks, ih)
+
+besides-all : (v : ℕ → Bool) (l : List ℕ) → ((i : ℕ) → has l i ≡ true → v i ≡ false) → besides v l ≡ l
+besides-all v [] h = refl
+besides-all v (x ∷ l) h =
+    ap (λ (b : Bool). pick b (besides v l) (x ∷ besides v l)) (h x (or-yes (eqb x x) (has l x) (eq-eqb x x refl)))
+    ∙ ap (λ (t : List ℕ). x ∷ t) (besides-all v l (λ i e. h i (right (eqb x i) e)))
+
+besides-without : (v : ℕ → Bool) (l : List ℕ) (p : ℕ) → besides v (without l p) ≡ without (besides v l) p
+besides-without v [] p = refl
+besides-without v (x ∷ l) p = go (besides-without v l p) (eqb x p) (v x) refl refl
+  where
+    go : besides v (without l p) ≡ without (besides v l) p → (a b : Bool) → eqb x p ≡ a → v x ≡ b
+        → besides v (pick a (without l p) (x ∷ without l p)) ≡ without (pick b (besides v l) (x ∷ besides v l)) p
+    go ih true true t s = ih
+    go ih true false t s = ih ∙ sym (ap (λ (c : Bool). pick c (without (besides v l) p) (x ∷ without (besides v l) p)) t)
+    go ih false true t s = ap (λ (c : Bool). pick c (besides v (without l p)) (x ∷ besides v (without l p))) s ∙ ih
+    go ih false false t s =
+        ap (λ (c : Bool). pick c (besides v (without l p)) (x ∷ besides v (without l p))) s ∙ ap (λ (y : List ℕ). x ∷ y) ih
+        ∙ sym (ap (λ (c : Bool). pick c (without (besides v l) p) (x ∷ without (besides v l) p)) t)
+
+besides-same : (u v : ℕ → Bool) (l : List ℕ) → ((i : ℕ) → has l i ≡ true → u i ≡ v i) → besides u l ≡ besides v l
+besides-same u v [] h = refl
+besides-same u v (x ∷ l) h =
+    let r : besides u l ≡ besides v l = besides-same u v l (λ i e. h i (right (eqb x i) e)) in
+    let q : u x ≡ v x = h x (or-yes (eqb x x) (has l x) (eq-eqb x x refl)) in
+    λ i. pick (q i) (r i) (x ∷ r i)
+
 -- ---- the places in order of their latest delivery
 
 -- the sender at a place
 abbrev senderAt : Memory → ℕ → ℕ
 senderAt m i = placeAt m i .sender
 
-record Ordered (ks : List Key) (m : Memory) (order : List ℕ) : Type 0 where
+abbrev free-at : Memory → ℕ → Bool
+free-at m i = vacant (placeAt m i)
+
+-- of these places those that are taken
+abbrev takenOf : Memory → List ℕ → List ℕ
+takenOf m order = besides (free-at m) order
+
+-- `order` has the places that have ever been taken, by the delivery that came to them last; a place that was freed keeps its turn among them
+record Ordered (h : List Deed) (m : Memory) (order : List ℕ) : Type 0 where
   whole : Whole m
   apart : Apart order
   inside : (i : ℕ) → has order i ≡ true → i < sendersMost
-  taken : (i : ℕ) → has order i ≡ true → vacant (placeAt m i) ≡ false
   turns : (i : ℕ) → has order i ≡ true → placeAt m i .turn + indexOf order i ≡ sendersMost - 1
   rest : (i : ℕ) → i < sendersMost → has order i ≡ false → (vacant (placeAt m i) ≡ true) × (placeAt m i .turn ≡ 0)
-  senders : map (senderAt m) order ≡ latest ks
+  -- the taken ones have the senders of the latest deliveries, and each the last 32 of its sender
+  senders : map (senderAt m) (takenOf m order) ≡ latest h
+  holds : (s j : ℕ) → j < sendersMost → isOf s (placeAt m j) ≡ true → Holds (sequencesOf s h) (placeAt m j)
 
 key-turn : (k : Key) (x : Place) → withKey k x .turn ≡ sendersMost - 1
 unfolding withKey
@@ -242,183 +319,401 @@ without-last f (x ∷ l) p n a e i b = elim (ℕ-discrete x p) [
     none-left [] h = refl
     none-left (y ∷ l) h = absurd (let w : ⊥ = omega arith in w)
 
-module _ (ks : List Key) (k : Key) (m : Memory) (order : List ℕ) (o : Ordered ks m order) where
-  abbrev p : ℕ
-  p = placeFor m (k .sender)
+-- a place that is not among these leaves room
+room-for : (p : ℕ) → p < sendersMost → (l : List ℕ) → Apart l → ((i : ℕ) → has l i ≡ true → i < sendersMost) → has l p ≡ false → length l < sendersMost
+room-for p b l a h t = fits sendersMost (p ∷ l) (t, a) (λ x e. elim (either (eqb p x)) [
+  | inl q ↦ subst (λ (y : ℕ). y < sendersMost) (eqb-true p x q) b
+  | inr q ↦ h x (sym (or-not (eqb p x) (has l x) q) ∙ e)
+])
 
-  abbrev m′ : Memory
-  m′ = remember m k
+module _ (h : List Deed) (m : Memory) (order : List ℕ) (o : Ordered h m order) where
+  abbrev T : List ℕ
+  T = takenOf m order
 
-  abbrev order′ : List ℕ
-  order′ = p ∷ without order p
+  T-apart : Apart T
+  T-apart = besides-apart (free-at m) order (o .apart)
 
-  here : placeAt m′ p ≡ withKey k (placeAt m p)
-  here = after-here m (o .whole .places) k
+  T-inside : (i : ℕ) → has T i ≡ true → i < sendersMost
+  T-inside i e = o .inside i (besides-has (free-at m) order i e .0)
 
-  p-inside : p < sendersMost
-  p-inside = place-inside m (o .whole .places) (k .sender)
-
-  there : (i : ℕ) → i < sendersMost → i ≢ p → placeAt m′ i ≡ sunk (placeAt m p .turn) (placeAt m i)
-  there = after-other m (o .whole .places) k
-
-  -- of the new order the first, or one of the others
-  either-way : (i : ℕ) → has order′ i ≡ true → (P : ℕ → Type 0) → P p → ((i : ℕ) → i ≢ p → has order i ≡ true → P i) → P i
-  either-way i e P a b = elim (either (eqb p i)) [
-    | inl t ↦ subst P (eqb-true p i t) a
-    | inr t ↦
-        let r = without-has order p i (sym (or-not (eqb p i) (has (without order p) i) t) ∙ e) in
-        b i (r .0) (r .1)
-  ]
-
-  few : length order ≤ sendersMost
-  few = fits sendersMost order (o .apart) (o .inside)
-
-  -- a place that is not among them leaves room
-  room-for : has order p ≡ false → length order < sendersMost
-  room-for t = fits sendersMost (p ∷ order) (t, o .apart) (λ x e. elim (either (eqb p x)) [
-    | inl q ↦ subst (λ (y : ℕ). y < sendersMost) (eqb-true p x q) p-inside
-    | inr q ↦ o .inside x (sym (or-not (eqb p x) (has order x) q) ∙ e)
-  ])
-
-  next-turns : (i : ℕ) → i ≢ p → has order i ≡ true → placeAt m′ i .turn + indexOf order′ i ≡ sendersMost - 1
-  next-turns i n e =
-      let ii : ℕ = indexOf order i in
-      let was : placeAt m i .turn + indexOf order i ≡ sendersMost - 1 = o .turns i e in
-      let moved : indexOf (without order p) i ≡ pick (ltb (indexOf order p) (indexOf order i)) (indexOf order i - 1) (indexOf order i) = index-without order p i (o .apart) n e in
-      let low : indexOf order i < length order = index-less order i e in
-      rw (there i (o .inside i e) n, ne-eqb p i (λ z. n (sym z)), moved) (elim (either (has order p)) [
-        | inl t ↦
-            let its : placeAt m p .turn + indexOf order p ≡ sendersMost - 1 = o .turns p t in
-            elim (decLe (suc (indexOf order p)) (indexOf order i)) [
-              | yes h ↦ rw (lt-ltb (indexOf order p) (indexOf order i) h, le-ltb (placeAt m p .turn) (placeAt m i .turn) (omega arith)) (omega arith)
-              | no h ↦
-                  let d : indexOf order i ≢ indexOf order p = index-other order i p e n in
-                  rw (le-ltb (indexOf order p) (indexOf order i) (omega arith), lt-ltb (placeAt m p .turn) (placeAt m i .turn) (omega arith)) (omega arith)
-            ]
-        | inr t ↦
-            let its : placeAt m p .turn ≡ 0 = o .rest p p-inside t .1 in
-            let behind : indexOf order p ≡ length order = index-lacks order p t in
-            let room : length order < sendersMost = room-for t in
-            rw (le-ltb (indexOf order p) (indexOf order i) (omega arith), lt-ltb (placeAt m p .turn) (placeAt m i .turn) (omega arith)) (omega arith)
-      ])
-
-  -- the places that are not p keep their senders
-  same-senders : map (senderAt m′) (without order p) ≡ map (senderAt m) (without order p)
-  same-senders = map-same (senderAt m′) (senderAt m) (without order p) (λ i e.
-      let r = without-has order p i e in
-      ap (λ (x : Place). x .sender) (there i (o .inside i (r .1)) (r .0)))
-
-  -- and those of the sender is p alone
-  only-p : isOf (k .sender) (placeAt m p) ≡ true → (i : ℕ) → has order i ≡ true → senderAt m i ≡ senderAt m p → i ≡ p
-  only-p w i e q =
-      o .whole .single (k .sender) i p (o .inside i e) p-inside
-      (taken-of (k .sender) (placeAt m i) (o .taken i e) (q ∙ of-sender (k .sender) (placeAt m p) w)) w
-
-  -- a sender without a place is not among the latest
-  not-latest : ((j : ℕ) → j < sendersMost → isOf (k .sender) (placeAt m j) ≡ false) → has (latest ks) (k .sender) ≡ false
-  not-latest a = rw (← o .senders) (map-lacks (senderAt m) order (k .sender) (λ i e q. never (taken-of (k .sender) (placeAt m i) (o .taken i e) q) (a i (o .inside i e))))
+  T-taken : (i : ℕ) → has T i ≡ true → vacant (placeAt m i) ≡ false
+  T-taken i e = besides-has (free-at m) order i e .1
 
   -- a taken place is among them
   in-order : (i : ℕ) → i < sendersMost → vacant (placeAt m i) ≡ false → has order i ≡ true
   in-order i b v = elim (either (has order i)) [ inl t ↦ t | inr t ↦ never (o .rest i b t .0) v ]
 
-  not-taken : vacant (placeAt m p) ≡ true → has order p ≡ false
-  not-taken v = elim (either (has order p)) [ inl t ↦ never v (o .taken p t) | inr t ↦ t ]
+  in-T : (i : ℕ) → i < sendersMost → vacant (placeAt m i) ≡ false → has T i ≡ true
+  in-T i b v = besides-in (free-at m) order i (in-order i b v) v
 
-  -- with no place free, it is the one furthest back
-  full-place : ((j : ℕ) → j < sendersMost → isOf (k .sender) (placeAt m j) ≡ false) → ((j : ℕ) → j < sendersMost → vacant (placeAt m j) ≡ false) → p ≡ furthestBack m sendersMost
-  unfolding placeFor
-  full-place a v = go (first (isOf (k .sender)) m) refl (first vacant m) refl
-    where
-      go : (x : Option ℕ) → first (isOf (k .sender)) m ≡ x → (y : Option ℕ) → first vacant m ≡ y → orElse x (orElse y (furthestBack m sendersMost)) ≡ furthestBack m sendersMost
-      go (some i) e y f = let r : First (isOf (k .sender)) m i noPlace = first-some (isOf (k .sender)) noPlace m i e in never (r .passes) (a i (omega (arith, r .inside, o .whole .places)))
-      go none e (some j) f = let r : First vacant m j noPlace = first-some vacant noPlace m j f in never (r .passes) (v j (omega (arith, r .inside, o .whole .places)))
-      go none e none f = refl
+  -- a sender without a place is not among the latest, and one with a place is
+  not-latest : (s : ℕ) → ((j : ℕ) → j < sendersMost → isOf s (placeAt m j) ≡ false) → has (latest h) s ≡ false
+  not-latest s a = rw (← o .senders) (map-lacks (senderAt m) T s (λ i e q. never (taken-of s (placeAt m i) (T-taken i e) q) (a i (T-inside i e))))
 
-  next-senders : map (senderAt m) (without order p) ≡ take (sendersMost - 1) (without (latest ks) (k .sender))
-  next-senders = go (seated m (o .whole .places) (k .sender))
-    where
-      go : Seated m (k .sender) → map (senderAt m) (without order p) ≡ take (sendersMost - 1) (without (latest ks) (k .sender))
-      go (own w) =
-          let t : has order p ≡ true = in-order p p-inside (of-taken (k .sender) (placeAt m p) w) in
-          let e : map (senderAt m) (without order p) ≡ without (latest ks) (k .sender) =
-          map-without (senderAt m) order p (only-p w) ∙ (λ j. without (o .senders j) (of-sender (k .sender) (placeAt m p) w j)) in
-          e ∙ sym (take-all (sendersMost - 1) (without (latest ks) (k .sender)) (omega (arith, ap length e, length-map (without order p) (senderAt m), without-less order p t, few)))
-      go (free a v) =
-          let t : has order p ≡ false = not-taken v in
-          ap (map (senderAt m)) (without-none order p t) ∙ o .senders
-          ∙ sym (ap (take (sendersMost - 1)) (without-none (latest ks) (k .sender) (not-latest a))
-          ∙ take-all (sendersMost - 1) (latest ks) (omega (arith, ap length (o .senders), length-map order (senderAt m), room-for t)))
-      go (full a v) =
-          let t : has order p ≡ true = in-order p p-inside (v p p-inside) in
-          let all : sendersMost ≤ length order = at-most sendersMost (λ i. i) order (λ i b. in-order i b (v i b)) (λ i j x y e. e) in
-          let sixteen : length order ≡ sendersMost = omega (arith, few) in
-          let q = at-index order (sendersMost - 1) (omega arith) (o .apart) in
-          let back : placeAt m p .turn ≤ placeAt m (q .0) .turn =
-          rw (full-place a v) (furthest-low m sendersMost (q .0) (o .inside (q .0) (q .1))) in
-          let behind : indexOf order p ≡ sendersMost - 1 = omega (arith, o .turns (q .0) (q .1), q .2, o .turns p t) in
-          without-last (senderAt m) order p (sendersMost - 1) (o .apart) t behind sixteen
-          ∙ ap (take (sendersMost - 1)) (o .senders ∙ sym (without-none (latest ks) (k .sender) (not-latest a)))
+  is-latest : (s j : ℕ) → j < sendersMost → isOf s (placeAt m j) ≡ true → has (latest h) s ≡ true
+  is-latest s j b e =
+      rw (← o .senders) (subst (λ (x : ℕ). has (map (senderAt m) T) x ≡ true) (of-sender s (placeAt m j) e)
+      (map-has (senderAt m) T j (in-T j b (of-taken s (placeAt m j) e))))
 
-  next : Ordered (k ∷ ks) m′ order′
-  unfolding latest
-  next = record {
-    whole = remember-whole m k (o .whole);
-    apart = (without-gone order p, without-apart order p (o .apart));
-    inside = λ i e. either-way i e (λ (x : ℕ). x < sendersMost) p-inside (λ j n t. o .inside j t);
-    taken = λ i e. either-way i e (λ (x : ℕ). vacant (placeAt m′ x) ≡ false) (rw here (key-taken k (placeAt m p)))
-        (λ j n t. rw (there j (o .inside j t) n) (o .taken j t));
-    turns = λ i e. either-way i e (λ (x : ℕ). placeAt m′ x .turn + indexOf order′ x ≡ sendersMost - 1)
-        (rw (here, key-turn k (placeAt m p), eq-eqb p p refl)) next-turns;
-    rest = λ i b e.
-        let n : i ≢ p = λ z. never (eq-eqb p i (sym z)) (or-l (eqb p i) (has (without order p) i) e) in
-        let t : has order i ≡ false = elim (either (has order i)) [
-          | inl y ↦ never (without-other order p i n y) (or-r (eqb p i) (has (without order p) i) e)
-          | inr y ↦ y
-        ] in
-        let r = o .rest i b t in
-        rw (there i b n) (r .0, rw (r .1, le-ltb (placeAt m p .turn) 0 zero-le));
-    senders = (λ j. (ap (λ (x : Place). x .sender) here ∙ key-sender k (placeAt m p)) j ∷ (same-senders ∙ next-senders) j);
-  }
+  -- ---- a key is delivered
 
--- ---- after deliveries
+  module _ (k : Key) where
+    abbrev p : ℕ
+    p = placeFor m (k .sender)
 
--- the places, by their latest delivery
-abbrev placesOf : List Key → List ℕ
+    abbrev m′ : Memory
+    m′ = remember m k
+
+    abbrev order′ : List ℕ
+    order′ = p ∷ without order p
+
+    here : placeAt m′ p ≡ withKey k (placeAt m p)
+    here = after-here m (o .whole .places) k
+
+    p-inside : p < sendersMost
+    p-inside = place-inside m (o .whole .places) (k .sender)
+
+    there : (i : ℕ) → i < sendersMost → i ≢ p → placeAt m′ i ≡ sunk (placeAt m p .turn) (placeAt m i)
+    there = after-other m (o .whole .places) k
+
+    -- of the new order the first, or one of the others
+    either-way : (i : ℕ) → has order′ i ≡ true → (P : ℕ → Type 0) → P p → ((i : ℕ) → i ≢ p → has order i ≡ true → P i) → P i
+    either-way i e P a b = elim (either (eqb p i)) [
+      | inl t ↦ subst P (eqb-true p i t) a
+      | inr t ↦
+          let r = without-has order p i (sym (or-not (eqb p i) (has (without order p) i) t) ∙ e) in
+          b i (r .0) (r .1)
+    ]
+
+    next-turns : (i : ℕ) → i ≢ p → has order i ≡ true → placeAt m′ i .turn + indexOf order′ i ≡ sendersMost - 1
+    next-turns i n e =
+        let ii : ℕ = indexOf order i in
+        let was : placeAt m i .turn + indexOf order i ≡ sendersMost - 1 = o .turns i e in
+        let moved : indexOf (without order p) i ≡ pick (ltb (indexOf order p) (indexOf order i)) (indexOf order i - 1) (indexOf order i) = index-without order p i (o .apart) n e in
+        let low : indexOf order i < length order = index-less order i e in
+        rw (there i (o .inside i e) n, ne-eqb p i (λ z. n (sym z)), moved) (elim (either (has order p)) [
+          | inl t ↦
+              let its : placeAt m p .turn + indexOf order p ≡ sendersMost - 1 = o .turns p t in
+              elim (decLe (suc (indexOf order p)) (indexOf order i)) [
+                | yes h ↦ rw (lt-ltb (indexOf order p) (indexOf order i) h, le-ltb (placeAt m p .turn) (placeAt m i .turn) (omega arith)) (omega arith)
+                | no h ↦
+                    let d : indexOf order i ≢ indexOf order p = index-other order i p e n in
+                    rw (le-ltb (indexOf order p) (indexOf order i) (omega arith), lt-ltb (placeAt m p .turn) (placeAt m i .turn) (omega arith)) (omega arith)
+              ]
+          | inr t ↦
+              let its : placeAt m p .turn ≡ 0 = o .rest p p-inside t .1 in
+              let behind : indexOf order p ≡ length order = index-lacks order p t in
+              let room : length order < sendersMost = room-for p p-inside order (o .apart) (o .inside) t in
+              rw (le-ltb (indexOf order p) (indexOf order i) (omega arith), lt-ltb (placeAt m p .turn) (placeAt m i .turn) (omega arith)) (omega arith)
+        ])
+
+    -- the taken places then: p, and those that were before it
+    next-taken : takenOf m′ order′ ≡ p ∷ without T p
+    next-taken =
+        ap (λ (b : Bool). pick b (besides (free-at m′) (without order p)) (p ∷ besides (free-at m′) (without order p))) (ap vacant here ∙ key-taken k (placeAt m p))
+        ∙ ap (λ (l : List ℕ). p ∷ l) (besides-same (free-at m′) (free-at m) (without order p)
+        (λ i e. let r = without-has order p i e in ap vacant (there i (o .inside i (r .1)) (r .0)))
+        ∙ besides-without (free-at m) order p)
+
+    -- they keep their senders
+    same-senders : map (senderAt m′) (without T p) ≡ map (senderAt m) (without T p)
+    same-senders = map-same (senderAt m′) (senderAt m) (without T p) (λ i e.
+        let r = without-has T p i e in
+        ap (λ (x : Place). x .sender) (there i (T-inside i (r .1)) (r .0)))
+
+    -- and the sender's is p alone
+    only-p : isOf (k .sender) (placeAt m p) ≡ true → (i : ℕ) → has T i ≡ true → senderAt m i ≡ senderAt m p → i ≡ p
+    only-p w i e q =
+        o .whole .single (k .sender) i p (T-inside i e) p-inside
+        (taken-of (k .sender) (placeAt m i) (T-taken i e) (q ∙ of-sender (k .sender) (placeAt m p) w)) w
+
+    -- with no place free, it is the one furthest back
+    full-place : ((j : ℕ) → j < sendersMost → isOf (k .sender) (placeAt m j) ≡ false) → ((j : ℕ) → j < sendersMost → vacant (placeAt m j) ≡ false) → p ≡ furthestBack m sendersMost
+    unfolding placeFor
+    full-place a v = go (first (isOf (k .sender)) m) refl (first vacant m) refl
+      where
+        go : (x : Option ℕ) → first (isOf (k .sender)) m ≡ x → (y : Option ℕ) → first vacant m ≡ y → orElse x (orElse y (furthestBack m sendersMost)) ≡ furthestBack m sendersMost
+        go (some i) e y f = let r : First (isOf (k .sender)) m i noPlace = first-some (isOf (k .sender)) noPlace m i e in never (r .passes) (a i (omega (arith, r .inside, o .whole .places)))
+        go none e (some j) f = let r : First vacant m j noPlace = first-some vacant noPlace m j f in never (r .passes) (v j (omega (arith, r .inside, o .whole .places)))
+        go none e none f = refl
+
+    next-senders : map (senderAt m) (without T p) ≡ take (sendersMost - 1) (without (latest h) (k .sender))
+    next-senders = go (seated m (o .whole .places) (k .sender))
+      where
+        go : Seated m (k .sender) → map (senderAt m) (without T p) ≡ take (sendersMost - 1) (without (latest h) (k .sender))
+        go (own w) =
+            let t : has T p ≡ true = in-T p p-inside (of-taken (k .sender) (placeAt m p) w) in
+            let e : map (senderAt m) (without T p) ≡ without (latest h) (k .sender) =
+            map-without (senderAt m) T p (only-p w) ∙ (λ j. without (o .senders j) (of-sender (k .sender) (placeAt m p) w j)) in
+            e ∙ sym (take-all (sendersMost - 1) (without (latest h) (k .sender))
+            (omega (arith, ap length e, length-map (without T p) (senderAt m), without-less T p t, fits sendersMost T T-apart T-inside)))
+        go (free a v) =
+            let t : has T p ≡ false = elim (either (has T p)) [ inl z ↦ never v (T-taken p z) | inr z ↦ z ] in
+            ap (map (senderAt m)) (without-none T p t) ∙ o .senders
+            ∙ sym (ap (take (sendersMost - 1)) (without-none (latest h) (k .sender) (not-latest (k .sender) a))
+            ∙ take-all (sendersMost - 1) (latest h) (omega (arith, ap length (o .senders), length-map T (senderAt m), room-for p p-inside T T-apart T-inside t)))
+        go (full a v) =
+            let same : T ≡ order = besides-all (free-at m) order (λ i e. v i (o .inside i e)) in
+            let t : has order p ≡ true = in-order p p-inside (v p p-inside) in
+            let all : sendersMost ≤ length order = at-most sendersMost (λ i. i) order (λ i b. in-order i b (v i b)) (λ i j x y e. e) in
+            let sixteen : length order ≡ sendersMost = omega (arith, fits sendersMost order (o .apart) (o .inside)) in
+            let q = at-index order (sendersMost - 1) (omega arith) (o .apart) in
+            let back : placeAt m p .turn ≤ placeAt m (q .0) .turn =
+            rw (full-place a v) (furthest-low m sendersMost (q .0) (o .inside (q .0) (q .1))) in
+            let behind : indexOf order p ≡ sendersMost - 1 = omega (arith, o .turns (q .0) (q .1), q .2, o .turns p t) in
+            ap (λ (l : List ℕ). map (senderAt m) (without l p)) same
+            ∙ without-last (senderAt m) order p (sendersMost - 1) (o .apart) t behind sixteen
+            ∙ ap (take (sendersMost - 1)) (ap (map (senderAt m)) (sym same) ∙ o .senders ∙ sym (without-none (latest h) (k .sender) (not-latest (k .sender) a)))
+
+    -- its own keys: one more, or the first
+    next-holds : Holds (sequencesOf (k .sender) (delivery k ∷ h)) (withKey k (placeAt m p))
+    unfolding sequencesOf
+    next-holds = rw (eq-eqb (k .sender) (k .sender) refl) (go (seated m (o .whole .places) (k .sender)))
+      where
+        anew : ((j : ℕ) → j < sendersMost → isOf (k .sender) (placeAt m j) ≡ false)
+            → Holds (k .sequence ∷ pick (has (latest h) (k .sender)) (sequencesOf (k .sender) h) []) (withKey k (placeAt m p))
+        anew a = rw (not-latest (k .sender) a) (holds-first (placeAt m p) k (a p p-inside) (o .whole .long p p-inside))
+
+        go : Seated m (k .sender) → Holds (k .sequence ∷ pick (has (latest h) (k .sender)) (sequencesOf (k .sender) h) []) (withKey k (placeAt m p))
+        go (own w) = rw (is-latest (k .sender) p p-inside w) (holds-own (sequencesOf (k .sender) h) (placeAt m p) k w (o .holds (k .sender) p p-inside w))
+        go (free a v) = anew a
+        go (full a v) = anew a
+
+    -- those of the others stay
+    others-hold : (s j : ℕ) → j < sendersMost → j ≢ p → isOf s (placeAt m′ j) ≡ true → Holds (sequencesOf s (delivery k ∷ h)) (placeAt m′ j)
+    unfolding sequencesOf
+    others-hold s j b n e =
+        let e′ : isOf s (placeAt m j) ≡ true = rw (there j b n) at e in
+        let d : k .sender ≢ s = λ z. n (sym (own-place m (o .whole) (k .sender) j b (subst (λ (x : ℕ). isOf x (placeAt m j) ≡ true) (sym z) e′))) in
+        let was : Holds (sequencesOf s h) (placeAt m j) = o .holds s j b e′ in
+        rw (there j b n, ne-eqb (k .sender) s d) (record { shown = was .shown; filled = was .filled; room = was .room })
+
+    delivered : Ordered (delivery k ∷ h) m′ order′
+    unfolding latest
+    delivered = record {
+      whole = remember-whole m k (o .whole);
+      apart = (without-gone order p, without-apart order p (o .apart));
+      inside = λ i e. either-way i e (λ (x : ℕ). x < sendersMost) p-inside (λ j n t. o .inside j t);
+      turns = λ i e. either-way i e (λ (x : ℕ). placeAt m′ x .turn + indexOf order′ x ≡ sendersMost - 1)
+          (rw (here, key-turn k (placeAt m p), eq-eqb p p refl)) next-turns;
+      rest = λ i b e.
+          let n : i ≢ p = λ z. never (eq-eqb p i (sym z)) (or-l (eqb p i) (has (without order p) i) e) in
+          let t : has order i ≡ false = elim (either (has order i)) [
+            | inl y ↦ never (without-other order p i n y) (or-r (eqb p i) (has (without order p) i) e)
+            | inr y ↦ y
+          ] in
+          let r = o .rest i b t in
+          rw (there i b n) (r .0, rw (r .1, le-ltb (placeAt m p .turn) 0 zero-le));
+      senders =
+          ap (map (senderAt m′)) next-taken
+          ∙ (λ j. (ap (λ (x : Place). x .sender) here ∙ key-sender k (placeAt m p)) j ∷ (same-senders ∙ next-senders) j);
+      holds = λ s j b e. elim (ℕ-discrete j p) [
+        | yes q ↦
+            let e′ : isOf s (withKey k (placeAt m p)) ≡ true = rw (q, here) at e in
+            let z : k .sender ≡ s = sym (key-sender k (placeAt m p)) ∙ of-sender s (withKey k (placeAt m p)) e′ in
+            rw (q, here) (subst (λ (x : ℕ). Holds (sequencesOf x (delivery k ∷ h)) (withKey k (placeAt m p))) z next-holds)
+        | no q ↦ others-hold s j b q e
+      ];
+    }
+
+  -- ---- a sender is forgotten
+
+  module _ (x : ℕ) where
+    abbrev less : Memory
+    less = forgetKeys m x
+
+    then-at : (i : ℕ) → i < sendersMost → placeAt less i ≡ freed x (placeAt m i)
+    then-at i b = forget-at m x i (omega (arith, o .whole .places))
+
+    still-free : (q : Place) → vacant q ≡ true → vacant (freed x q) ≡ true
+    still-free q e = pick-all (λ (n : ℕ). eqb n 0 ≡ true) (eqb (q .sender) x) (λ z. refl) (λ z. e)
+
+    now-free : (q : Place) → eqb (q .sender) x ≡ true → vacant (freed x q) ≡ true
+    now-free q e = ap (λ (b : Bool). eqb (pick b 0 (q .used)) 0) e
+
+    less-senders : (l : List ℕ) → ((i : ℕ) → has l i ≡ true → i < sendersMost) → map (senderAt less) (takenOf less l) ≡ without (map (senderAt m) (takenOf m l)) x
+    less-senders [] b = refl
+    less-senders (i ∷ l) b = go (less-senders l (λ j e. b j (right (eqb i j) e))) (free-at m i) refl (eqb (senderAt m i) x) refl
+      where
+        at : placeAt less i ≡ freed x (placeAt m i)
+        at = then-at i (b i (or-yes (eqb i i) (has l i) (eq-eqb i i refl)))
+
+        more : List ℕ
+        more = map (senderAt m) (takenOf m l)
+
+        turned : (c : Bool) → free-at less i ≡ c → map (senderAt less) (takenOf less (i ∷ l)) ≡ map (senderAt less) (pick c (takenOf less l) (i ∷ takenOf less l))
+        turned c e = ap (λ (a : Bool). map (senderAt less) (pick a (takenOf less l) (i ∷ takenOf less l))) e
+
+        go : map (senderAt less) (takenOf less l) ≡ without (map (senderAt m) (takenOf m l)) x → (a : Bool) → free-at m i ≡ a → (c : Bool) → eqb (senderAt m i) x ≡ c
+            → map (senderAt less) (takenOf less (i ∷ l)) ≡ without (map (senderAt m) (pick a (takenOf m l) (i ∷ takenOf m l))) x
+        go ih true v c e = turned true (ap vacant at ∙ still-free (placeAt m i) v) ∙ ih
+        go ih false v true e =
+            turned true (ap vacant at ∙ now-free (placeAt m i) e) ∙ ih
+            ∙ sym (ap (λ (a : Bool). pick a (without (map (senderAt m) (takenOf m l)) x) (senderAt m i ∷ without (map (senderAt m) (takenOf m l)) x)) e)
+        go ih false v false e =
+            turned false (ap vacant (at ∙ freed-same x (placeAt m i) e) ∙ v)
+            ∙ (λ j. ap (λ (q : Place). q .sender) at j ∷ ih j)
+            ∙ sym (ap (λ (a : Bool). pick a (without (map (senderAt m) (takenOf m l)) x) (senderAt m i ∷ without (map (senderAt m) (takenOf m l)) x)) e)
+
+    less-holds : (s j : ℕ) → j < sendersMost → isOf s (placeAt less j) ≡ true → Holds (sequencesOf s (forgetting x ∷ h)) (placeAt less j)
+    unfolding sequencesOf
+    less-holds s j b e =
+        let e₁ : isOf s (freed x (placeAt m j)) ≡ true = rw (then-at j b) at e in
+        let n : s ≢ x = λ z. never e₁ (subst (λ (y : ℕ). isOf y (freed x (placeAt m j)) ≡ false) (sym z) (freed-own x (placeAt m j))) in
+        let e₂ : isOf s (placeAt m j) ≡ true = sym (freed-other x s n (placeAt m j)) ∙ e₁ in
+        let d : eqb (placeAt m j .sender) x ≡ false = ne-eqb (placeAt m j .sender) x (λ z. n (sym (of-sender s (placeAt m j) e₂) ∙ z)) in
+        rw (ne-eqb x s (λ z. n (sym z))) (subst (Holds (sequencesOf s h)) (sym (then-at j b ∙ freed-same x (placeAt m j) d)) (o .holds s j b e₂))
+
+    forgotten : Ordered (forgetting x ∷ h) less order
+    unfolding latest
+    forgotten = record {
+      whole = forget-whole m x (o .whole);
+      apart = o .apart;
+      inside = o .inside;
+      turns = λ i e. rw (then-at i (o .inside i e)) (o .turns i e);
+      rest = λ i b e. let r = o .rest i b e in rw (then-at i b) (still-free (placeAt m i) (r .0), r .1);
+      senders = less-senders order (o .inside) ∙ ap (λ (l : List ℕ). without l x) (o .senders);
+      holds = less-holds;
+    }
+
+-- ---- after any of these
+
+-- the places, by the delivery that came to them last
+abbrev placesOf : List Deed → List ℕ
 placesOf [] = []
-placesOf (k ∷ ks) = placeFor (rememberAll ks) (k .sender) ∷ without (placesOf ks) (placeFor (rememberAll ks) (k .sender))
+placesOf (delivery k ∷ h) = placeFor (memoryAfter h) (k .sender) ∷ without (placesOf h) (placeFor (memoryAfter h) (k .sender))
+placesOf (forgetting x ∷ h) = placesOf h
 
-ordered : (ks : List Key) → Ordered ks (rememberAll ks) (placesOf ks)
-unfolding rememberAll latest
+ordered : (h : List Deed) → Ordered h (memoryAfter h) (placesOf h)
+unfolding memoryAfter latest
 ordered [] = record {
   whole = empty-whole;
   apart = tt;
   inside = λ i e. never e refl;
-  taken = λ i e. never e refl;
   turns = λ i e. never e refl;
   rest = λ i b e. empty-rest i b;
   senders = refl;
+  holds = λ s j b e. never e (vacant-of s (placeAt emptyMemory j) (empty-vacant j b));
 }
-ordered (k ∷ ks) = next ks k (rememberAll ks) (placesOf ks) (ordered ks)
+ordered (delivery k ∷ h) = delivered h (memoryAfter h) (placesOf h) (ordered h) k
+ordered (forgetting x ∷ h) = forgotten h (memoryAfter h) (placesOf h) (ordered h) x
 
--- THE SENDERS THAT ARE REMEMBERED are those of the latest deliveries
-pub known-latest : (ks : List Key) (s : ℕ) → isKnown (rememberAll ks) s ≡ has (latest ks) s
-unfolding isKnown
-known-latest ks s = rw (← ordered ks .senders) (go (first (isOf s) (rememberAll ks)) refl)
+module _ (h : List Deed) where
+  abbrev after : Memory
+  after = memoryAfter h
+
+  its : Ordered h after (placesOf h)
+  its = ordered h
+
+  nowhere : (s : ℕ) → first (isOf s) after ≡ none → (j : ℕ) → j < sendersMost → isOf s (placeAt after j) ≡ false
+  nowhere s e j b = first-none (isOf s) noPlace after e j (omega (arith, its .whole .places))
+
+  somewhere : (s j : ℕ) → first (isOf s) after ≡ some j → (j < sendersMost) × (isOf s (placeAt after j) ≡ true)
+  somewhere s j e = let r : First (isOf s) after j noPlace = first-some (isOf s) noPlace after j e in (omega (arith, r .inside, its .whole .places), r .passes)
+
+  -- THE SENDERS THAT ARE REMEMBERED are those of the latest deliveries
+  pub known-latest : (s : ℕ) → isKnown (memoryAfter h) s ≡ has (latest h) s
+  unfolding isKnown
+  known-latest s = go (first (isOf s) after) refl
+    where
+      go : (x : Option ℕ) → first (isOf s) after ≡ x → isThere (first (isOf s) after) ≡ has (latest h) s
+      go none e = ap isThere e ∙ sym (not-latest h after (placesOf h) its s (nowhere s e))
+      go (some j) e = let r = somewhere s j e in ap isThere e ∙ sym (is-latest h after (placesOf h) its s j (r .0) (r .1))
+
+  -- THE KEYS THAT ARE REMEMBERED
+  pub recalled-exactly : (k : Key) → isRemembered (memoryAfter h) k ≡ amongLast h k
+  recalled-exactly k = go (first (isOf (k .sender)) after) refl
+    where
+      last : Bool
+      last = has (take keysEach (sequencesOf (k .sender) h)) (k .sequence)
+
+      go : (x : Option ℕ) → first (isOf (k .sender)) after ≡ x → isRemembered after k ≡ (has (latest h) (k .sender) && has (take keysEach (sequencesOf (k .sender) h)) (k .sequence))
+      go none e = not-found after k e ∙ sym (ap (λ (b : Bool). b && last) (not-latest h after (placesOf h) its (k .sender) (nowhere (k .sender) e)))
+      go (some j) e =
+          let r = somewhere (k .sender) j e in
+          found after (its .whole) k j (r .0) (r .1)
+          ∙ ap (λ (l : List ℕ). has l (k .sequence)) (its .holds (k .sender) j (r .0) (r .1) .shown)
+          ∙ has-reverse (take keysEach (sequencesOf (k .sender) h)) (k .sequence)
+          ∙ sym (ap (λ (b : Bool). b && last) (is-latest h after (placesOf h) its (k .sender) j (r .0) (r .1)))
+
+-- ---- deliveries alone, of at most 16 senders: nobody is dropped
+
+abbrev given : List Key → List Deed
+given ks = map delivery ks
+
+all-given : (ks : List Key) → memoryAfter (given ks) ≡ rememberAll ks
+unfolding memoryAfter rememberAll
+all-given [] = refl
+all-given (k ∷ ks) = ap (λ (m : Memory). remember m k) (all-given ks)
+
+-- at most as many different numbers as the list has that they stand in
+no-more : (l senders : List ℕ) → Apart l → ((x : ℕ) → has l x ≡ true → has senders x ≡ true) → length l ≤ length senders
+no-more [] senders a h = zero-le
+no-more (y ∷ l) senders a h =
+    let r : length l ≤ length (without senders y) = no-more l (without senders y) (a .1) (λ x e.
+    without-other senders y x (λ q. never e (subst (λ (z : ℕ). has l z ≡ false) (sym q) (a .0))) (h x (right (eqb y x) e))) in
+    omega (arith, without-less senders y (h y (or-yes (eqb y y) (has l y) (eq-eqb y y refl))))
+
+record Undropped (senders : List ℕ) (ks : List Key) : Type 0 where
+  apart : Apart (latest (given ks))
+  of-them : (x : ℕ) → has (latest (given ks)) x ≡ true → has senders x ≡ true
+  every : (k : Key) → among ks k ≡ true → has (latest (given ks)) (k .sender) ≡ true
+
+undropped : (senders : List ℕ) → length senders ≤ sendersMost → (ks : List Key) → ((k : Key) → among ks k ≡ true → has senders (k .sender) ≡ true) → Undropped senders ks
+unfolding latest among
+undropped senders few [] all = record { apart = tt; of-them = λ x e. never e refl; every = λ k e. never e refl }
+undropped senders few (k ∷ ks) all =
+    let u : Undropped senders ks = undropped senders few ks (λ x e. all x (right (sameKey k x) e)) in
+    let before : List ℕ = latest (given ks) in
+    let now : List ℕ = k .sender ∷ without (latest (given ks)) (k .sender) in
+    let apart′ : Apart (k .sender ∷ without (latest (given ks)) (k .sender)) = (without-gone (latest (given ks)) (k .sender), without-apart (latest (given ks)) (k .sender) (u .apart)) in
+    let them : (x : ℕ) → has (k .sender ∷ without (latest (given ks)) (k .sender)) x ≡ true → has senders x ≡ true = λ x e. elim (either (eqb (k .sender) x)) [
+      | inl t ↦ subst (λ (y : ℕ). has senders y ≡ true) (eqb-true (k .sender) x t) (all k (or-yes (sameKey k k) (among ks k) (key-same k)))
+      | inr t ↦ u .of-them x (without-has (latest (given ks)) (k .sender) x (sym (or-not (eqb (k .sender) x) _ t) ∙ e) .1)
+    ] in
+    let e : take sendersMost (k .sender ∷ without (latest (given ks)) (k .sender)) ≡ k .sender ∷ without (latest (given ks)) (k .sender) =
+    take-all sendersMost (k .sender ∷ without (latest (given ks)) (k .sender)) (omega (arith, no-more (k .sender ∷ without (latest (given ks)) (k .sender)) senders apart′ them)) in
+    record {
+      apart = subst Apart (sym e) apart′;
+      of-them = λ x q. them x (subst (λ (l : List ℕ). has l x ≡ true) e q);
+      every = λ x q. subst (λ (l : List ℕ). has l (x .sender) ≡ true) (sym e) (elim (ℕ-discrete (k .sender) (x .sender)) [
+        | yes t ↦ or-yes (eqb (k .sender) (x .sender)) _ (eq-eqb (k .sender) (x .sender) t)
+        | no t ↦
+            let other : sameKey k x ≡ false = rw (ne-eqb (k .sender) (x .sender) t) in
+            right (eqb (k .sender) (x .sender)) (without-other (latest (given ks)) (k .sender) (x .sender) (λ z. t (sym z)) (u .every x (sym (or-not (sameKey k x) (among ks x) other) ∙ q)))
+      ]);
+    }
+
+-- a key that was delivered lately is among its sender's last
+of-its-sender : (senders : List ℕ) → length senders ≤ sendersMost → (ks : List Key) → ((k : Key) → among ks k ≡ true → has senders (k .sender) ≡ true)
+    → (k : Key) (n : ℕ) → among ks k ≡ true → since ks k < n → has (take n (sequencesOf (k .sender) (given ks))) (k .sequence) ≡ true
+unfolding among since sequencesOf
+of-its-sender senders few [] all k n e h = never e refl
+of-its-sender senders few (x ∷ ks) all k zero e h = absurd (not-suc-le-zero h)
+of-its-sender senders few (x ∷ ks) all k (suc n) e h = elim (ℕ-discrete (x .sender) (k .sender)) [
+  | yes p ↦ rw (eq-eqb (x .sender) (k .sender) p) (go (of-its-sender senders few ks earlier k n) (eqb (x .sequence) (k .sequence))
+      (rw (eq-eqb (x .sender) (k .sender) p) at e) (rw (eq-eqb (x .sender) (k .sender) p) at h))
+  | no p ↦
+      let z : 0 + since ks k < suc n = rw (ne-eqb (x .sender) (k .sender) p) at h in
+      rw (ne-eqb (x .sender) (k .sender) p) (of-its-sender senders few ks earlier k (suc n) (rw (ne-eqb (x .sender) (k .sender) p) at e) (omega arith))
+]
   where
-    m : Memory
-    m = rememberAll ks
+    earlier : (y : Key) → among ks y ≡ true → has senders (y .sender) ≡ true
+    earlier y q = all y (right (sameKey x y) q)
 
-    o : Ordered ks (rememberAll ks) (placesOf ks)
-    o = ordered ks
+    go : (among ks k ≡ true → since ks k < n → has (take n (sequencesOf (k .sender) (given ks))) (k .sequence) ≡ true)
+        → (t : Bool) → (t || among ks k) ≡ true → pick t 0 (1 + since ks k) < suc n
+        → (t || has (take n (pick (has (latest (given ks)) (k .sender)) (sequencesOf (k .sender) (given ks)) [])) (k .sequence)) ≡ true
+    go ih true u v = refl
+    go ih false u v =
+        let z : 1 + since ks k < suc n = v in
+        subst (λ (b : Bool). has (take n (pick b (sequencesOf (k .sender) (given ks)) [])) (k .sequence) ≡ true)
+        (sym (undropped senders few ks earlier .every k u)) (ih u (omega arith))
 
-    go : (x : Option ℕ) → first (isOf s) (rememberAll ks) ≡ x → isThere x ≡ has (map (senderAt (rememberAll ks)) (placesOf ks)) s
-    go none e = sym (map-lacks (senderAt (rememberAll ks)) (placesOf ks) s (λ i t q.
-        never (taken-of s (placeAt (rememberAll ks) i) (o .taken i t) q) (first-none (isOf s) noPlace (rememberAll ks) e i (omega (arith, o .inside i t, o .whole .places)))))
-    go (some j) e =
-        let r : First (isOf s) (rememberAll ks) j noPlace = first-some (isOf s) noPlace (rememberAll ks) j e in
-        let t : has (placesOf ks) j ≡ true = elim (either (has (placesOf ks) j)) [
-          | inl y ↦ y
-          | inr y ↦ never (o .rest j (omega (arith, r .inside, o .whole .places)) y .0) (of-taken s (placeAt (rememberAll ks) j) (r .passes))
-        ] in
-        sym (subst (λ (x : ℕ). has (map (senderAt (rememberAll ks)) (placesOf ks)) x ≡ true) (of-sender s (placeAt (rememberAll ks) j) (r .passes)) (map-has (senderAt (rememberAll ks)) (placesOf ks) j t))
+-- a key delivered lately is remembered
+pub recalled : (ks : List Key) (k : Key) → among ks k ≡ true → Recent ks k → isRemembered (rememberAll ks) k ≡ true
+recalled ks k e h =
+    let u : Undropped (h .few .senders) ks = undropped (h .few .senders) (h .few .few) ks (h .few .all) in
+    ap (λ (m : Memory). isRemembered m k) (sym (all-given ks))
+    ∙ recalled-exactly (given ks) k
+    ∙ and-of (has (latest (given ks)) (k .sender)) _ (u .every k e) (of-its-sender (h .few .senders) (h .few .few) ks (h .few .all) k keysEach e (h .lately))

@@ -13,4 +13,8 @@ pub mod Forgets
 pub mod Reaches
 pub mod Ages
 pub mod Copies
+pub mod Deliveries
+pub mod Emptying
+pub mod Recalls
+pub mod Limited
 pub mod Running

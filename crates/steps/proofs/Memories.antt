@@ -1,23 +1,23 @@
 -- Laws of the memory of keys. Nothing else opens its definitions: another memory shows these laws again.
-use mathlib.Core.Path.{_≡_, refl, ap, _∙_, sym, subst}
-use mathlib.Core.Logic.{_≢_, _⊎_, inl, inr}
-use mathlib.Core.Bool.{Bool, true, false, not, _&&_, _||_, or-assoc, or-false, or-comm}
-use mathlib.Core.Option.{Option, none, some, Option·map}
+use mathlib.Core.Path.{_≡_, refl, ap, _∙_, sym}
+use mathlib.Core.Logic.{_≢_, inl, inr}
+use mathlib.Core.Bool.{Bool, true, false, not, _||_, or-assoc, or-false, or-comm}
+use mathlib.Core.Option.{Option, none, some}
 use mathlib.Core.List.{List, [], _∷_, _++_, map, reverse, reverse-cons, reverse-append}
-use Prim.Native.Nat.{ℕ, zero, suc, _+_, _-_, _≤_, _<_, zero-le, suc-le-suc}
+use Prim.Native.Nat.{ℕ, zero, suc, _-_, _≤_, _<_, zero-le}
 use lib.Dec.{eqb, leb, ltb, lit≤}
 use native.Mathlib.Nat.{le-refl, le-of-suc-le-suc, not-suc-le-zero}
 use native.Mathlib.Omega.{arith}
 use native.Mathlib.Decide.{decLe, ℕ-discrete}
-use lib.ListN.{length, getD, set, take, drop, replicate, length-take, length-set, length-drop, length-append, length-map, length-replicate, getD-replicate}
+use lib.ListN.{length, getD, set, take, drop, length-take, length-set, length-drop, length-append, length-map, getD-replicate}
 use lib.Seq.{take-suc-set, take-all, take-suc, getD-set-same, getD-set-other}
 use borrow.Author.Tests.{eqb-true, eq-eqb, ne-eqb, lt-ltb, le-ltb, le-leb}
 use Rattle.wire.specs.Choice.{pick}
-use Rattle.wire.proofs.Choices.{either, never, and-l, and-r, and-of, or-l, or-r, pick-all}
+use Rattle.wire.proofs.Choices.{either, never, and-l, and-r, or-l, or-r, pick-all, and-false}
 use Rattle.steps.specs.Limits.{sendersMost, keysEach}
-use Rattle.steps.specs.Search.{allBelow, one, first}
-use Rattle.steps.specs.Memory.{Key, keyOf, sameKey, among, Place, noPlace, vacant, isOf, remembered, has, Memory, emptyMemory, placeAt, keptAt, isRemembered, furthestBack, orElse, placeFor, countOf, pushed, withKey, sunk, remember, freed, forgetKeys, memoryOk, rememberAll, without, since, Lately, FewSenders, Recent}
-use Rattle.steps.proofs.Tables.{or-not, or-yes, or-none, not-true, not-false, all-of, First, first-some, first-none}
+use Rattle.steps.specs.Search.{first}
+use Rattle.steps.specs.Memory.{Key, sameKey, among, Place, noPlace, vacant, isOf, remembered, has, Memory, emptyMemory, placeAt, keptAt, isRemembered, furthestBack, orElse, placeFor, countOf, withKey, sunk, remember, freed, forgetKeys, memoryOk, rememberAll, without}
+use Rattle.steps.proofs.Tables.{or-not, or-none, not-true, all-of, First, first-some, first-none}
 
 -- ---- keys
 
@@ -43,7 +43,7 @@ has-append : (a b : List ℕ) (q : ℕ) → has (a ++ b) q ≡ (has a q || has b
 has-append [] b q = refl
 has-append (x ∷ a) b q = ap (λ (t : Bool). eqb x q || t) (has-append a b q) ∙ sym (or-assoc (eqb x q) (has a q) (has b q))
 
-has-reverse : (a : List ℕ) (q : ℕ) → has (reverse a) q ≡ has a q
+pub has-reverse : (a : List ℕ) (q : ℕ) → has (reverse a) q ≡ has a q
 has-reverse [] q = refl
 has-reverse (x ∷ a) q =
     ap (λ (l : List ℕ). has l q) (reverse-cons x a)
@@ -383,7 +383,7 @@ empty-none : (k : Key) → isRemembered emptyMemory k ≡ false
 unfolding isRemembered emptyMemory
 empty-none k = refl
 
-empty-vacant : (j : ℕ) → j < sendersMost → vacant (placeAt emptyMemory j) ≡ true
+pub empty-vacant : (j : ℕ) → j < sendersMost → vacant (placeAt emptyMemory j) ≡ true
 unfolding emptyMemory
 empty-vacant j b = rw (getD-replicate sendersMost j noPlace noPlace b)
 
@@ -396,16 +396,11 @@ strange (x ∷ ks) k h = remember-other (rememberAll ks) x k (all-whole ks) (or-
 pub memory-ok : (ks : List Key) → memoryOk (rememberAll ks) ≡ true
 memory-ok ks = whole-ok (rememberAll ks) (all-whole ks)
 
--- the sequences that were delivered of that sender, the latest first
-abbrev ofSender : ℕ → List Key → List ℕ
-ofSender s [] = []
-ofSender s (k ∷ ks) = pick (eqb (k .sender) s) (k .sequence ∷ ofSender s ks) (ofSender s ks)
-
--- a place has the last 32 of these, the oldest first
-record Holds (l : List ℕ) (p : Place) : Type 0 where
-  shown : remembered p ≡ reverse (take keysEach l)
-  filled : p .used ≡ length (take keysEach l)
-  room : length (p .sequences) ≡ keysEach
+-- a place has the last 32 of these sequences, which have the latest first; it has the oldest first
+pub record Holds (l : List ℕ) (p : Place) : Type 0 where
+  pub shown : remembered p ≡ reverse (take keysEach l)
+  pub filled : p .used ≡ length (take keysEach l)
+  pub room : length (p .sequences) ≡ keysEach
 
 -- those before the latest
 abbrev earlier : List ℕ → List ℕ
@@ -437,7 +432,7 @@ module _ (l : List ℕ) (p : Place) (r : Holds l p) (k : Key) where
       }
 
 -- one delivery more at a place that is the sender's own
-holds-own : (l : List ℕ) (p : Place) (k : Key) → isOf (k .sender) p ≡ true → Holds l p → Holds (k .sequence ∷ l) (withKey k p)
+pub holds-own : (l : List ℕ) (p : Place) (k : Key) → isOf (k .sender) p ≡ true → Holds l p → Holds (k .sequence ∷ l) (withKey k p)
 unfolding withKey
 holds-own l p k o r = rw (count-own (k .sender) p o) (elim (decLe (suc (p .used)) keysEach) [
   | yes h ↦ rw (lt-ltb (p .used) keysEach h) (still-room l p r k h)
@@ -445,172 +440,31 @@ holds-own l p k o r = rw (count-own (k .sender) p o) (elim (decLe (suc (p .used)
 ])
 
 -- the first at a place that is not
-holds-first : (p : Place) (k : Key) → isOf (k .sender) p ≡ false → length (p .sequences) ≡ keysEach → Holds (k .sequence ∷ []) (withKey k p)
+pub holds-first : (p : Place) (k : Key) → isOf (k .sender) p ≡ false → length (p .sequences) ≡ keysEach → Holds (k .sequence ∷ []) (withKey k p)
 unfolding withKey
 holds-first p k o e = rw (count-none (k .sender) p o)
     (still-room [] (record { sender = p .sender; used = 0; turn = p .turn; sequences = p .sequences }) (record { shown = refl; filled = refl; room = e }) k (lit≤ tt))
 
--- every place has the last 32 of its sender, and where a sender has none, nothing was delivered of it
-record Recalls (senders : List ℕ) (ks : List Key) (m : Memory) : Type 0 where
-  whole : Whole m
-  known : (j : ℕ) → j < sendersMost → vacant (placeAt m j) ≡ false → has senders (placeAt m j .sender) ≡ true
-  holds : (s j : ℕ) → j < sendersMost → isOf s (placeAt m j) ≡ true → Holds (ofSender s ks) (placeAt m j)
-  nothing : (s : ℕ) → ((j : ℕ) → j < sendersMost → isOf s (placeAt m j) ≡ false) → ofSender s ks ≡ []
-
-module _ (senders : List ℕ) (few : length senders ≤ sendersMost) (ks : List Key) (k : Key) (is : has senders (k .sender) ≡ true) (m : Memory) (r : Recalls senders ks m) where
-  abbrev i : ℕ
-  i = placeFor m (k .sender)
-
-  inside : i < sendersMost
-  inside = place-inside m (r .whole .places) (k .sender)
-
-  here : placeAt (remember m k) i ≡ withKey k (placeAt m i)
-  here = after-here m (r .whole .places) k
-
-  there : (j : ℕ) → j < sendersMost → j ≢ i → placeAt (remember m k) j ≡ sunk (placeAt m i .turn) (placeAt m j)
-  there = after-other m (r .whole .places) k
-
-  -- 16 other senders, and this one, would be 17
-  not-full : ((j : ℕ) → j < sendersMost → isOf (k .sender) (placeAt m j) ≡ false) → ((j : ℕ) → j < sendersMost → vacant (placeAt m j) ≡ false) → ⊥
-  not-full none-own all =
-      let sixteen : sendersMost ≤ length (without senders (k .sender)) = at-most sendersMost (λ j. placeAt m j .sender) (without senders (k .sender))
-      (λ j b. without-other senders (k .sender) (placeAt m j .sender)
-      (λ e. never (taken-of (k .sender) (placeAt m j) (all j b) e) (none-own j b)) (r .known j b (all j b)))
-      (λ a b p q e. r .whole .single (placeAt m b .sender) a b p q (taken-of (placeAt m b .sender) (placeAt m a) (all a p) e) (taken-of (placeAt m b .sender) (placeAt m b) (all b q) refl)) in
-      omega (arith, without-less senders (k .sender) is)
-
-  -- the place was this sender's or nobody's
-  not-another : (s : ℕ) → s ≢ k .sender → isOf s (placeAt m i) ≡ false
-  not-another s n = go (seated m (r .whole .places) (k .sender))
-    where
-      go : Seated m (k .sender) → isOf s (placeAt m i) ≡ false
-      go (own o) = elim (either (isOf s (placeAt m i))) [
-        | inl e ↦ absurd (n (sym (of-sender s (placeAt m i) e) ∙ of-sender (k .sender) (placeAt m i) o))
-        | inr e ↦ e
-      ]
-      go (free a v) = vacant-of s (placeAt m i) v
-      go (full a v) = absurd (not-full a v)
-
-  more-own : ofSender (k .sender) (k ∷ ks) ≡ k .sequence ∷ ofSender (k .sender) ks
-  more-own = rw (eq-eqb (k .sender) (k .sender) refl)
-
-  more-other : (s : ℕ) → s ≢ k .sender → ofSender s (k ∷ ks) ≡ ofSender s ks
-  more-other s n = rw (ne-eqb (k .sender) s (λ e. n (sym e)))
-
-  held-here : Holds (ofSender (k .sender) (k ∷ ks)) (withKey k (placeAt m i))
-  held-here = rw more-own (go (seated m (r .whole .places) (k .sender)))
-    where
-      new : ((j : ℕ) → j < sendersMost → isOf (k .sender) (placeAt m j) ≡ false) → Holds (k .sequence ∷ ofSender (k .sender) ks) (withKey k (placeAt m i))
-      new a = rw (r .nothing (k .sender) a) (holds-first (placeAt m i) k (a i inside) (r .whole .long i inside))
-
-      go : Seated m (k .sender) → Holds (k .sequence ∷ ofSender (k .sender) ks) (withKey k (placeAt m i))
-      go (own o) = holds-own (ofSender (k .sender) ks) (placeAt m i) k o (r .holds (k .sender) i inside o)
-      go (free a v) = new a
-      go (full a v) = new a
-
-  next : Recalls senders (k ∷ ks) (remember m k)
-  next = record {
-    whole = remember-whole m k (r .whole);
-    known = λ j b v. elim (ℕ-discrete j i) [
-      | yes e ↦ rw (e, here, key-sender k (placeAt m i)) is
-      | no e ↦ rw (there j b e) (r .known j b (rw (there j b e) at v))
-    ];
-    holds = λ s j b o. elim (ℕ-discrete j i) [
-      | yes e ↦
-          let z : k .sender ≡ s = sym (key-sender k (placeAt m i)) ∙ of-sender s (withKey k (placeAt m i)) (rw (e, here) at o) in
-          rw (e, here) (subst (λ (x : ℕ). Holds (ofSender x (k ∷ ks)) (withKey k (placeAt m i))) z held-here)
-      | no e ↦
-          let o′ : isOf s (placeAt m j) ≡ true = rw (there j b e) at o in
-          let h : Holds (ofSender s ks) (placeAt m j) = r .holds s j b o′ in
-          rw (there j b e, more-other s (λ z. e (sym (own-place m (r .whole) (k .sender) j b (subst (λ (x : ℕ). isOf x (placeAt m j) ≡ true) z o′)))))
-          (record { shown = h .shown; filled = h .filled; room = h .room })
-    ];
-    nothing = λ s a.
-        let n : s ≢ k .sender = λ z. never (key-own k (placeAt m i)) (subst (λ (x : ℕ). isOf x (withKey k (placeAt m i)) ≡ false) z (rw here at (a i inside))) in
-        more-other s n ∙ r .nothing s (λ j b. elim (ℕ-discrete j i) [
-          | yes e ↦ rw e (not-another s n)
-          | no e ↦ rw (there j b e) at (a j b)
-        ]);
-  }
-
-recalls : (senders : List ℕ) → length senders ≤ sendersMost → (ks : List Key) → ((k : Key) → among ks k ≡ true → has senders (k .sender) ≡ true) → Recalls senders ks (rememberAll ks)
-unfolding rememberAll among
-recalls senders few [] all = record {
-  whole = empty-whole;
-  known = λ j b v. never (empty-vacant j b) v;
-  holds = λ s j b o. never o (vacant-of s (placeAt emptyMemory j) (empty-vacant j b));
-  nothing = λ s a. refl;
-}
-recalls senders few (k ∷ ks) all =
-    next senders few ks k (all k (or-yes (sameKey k k) (among ks k) (key-same k))) (rememberAll ks)
-    (recalls senders few ks (λ x e. all x (or-any (sameKey k x) (among ks x) e)))
-  where
-    or-any : (a b : Bool) → b ≡ true → (a || b) ≡ true
-    or-any true b e = refl
-    or-any false b e = e
-
--- a key that was delivered is among its sender's, and one that was delivered lately among the last
-of-its-sender : (ks : List Key) (k : Key) (n : ℕ) → among ks k ≡ true → since ks k < n → has (take n (ofSender (k .sender) ks)) (k .sequence) ≡ true
-unfolding among since
-of-its-sender [] k n e h = never e refl
-of-its-sender (x ∷ ks) k zero e h = absurd (not-suc-le-zero h)
-of-its-sender (x ∷ ks) k (suc n) e h = elim (ℕ-discrete (x .sender) (k .sender)) [
-  | yes p ↦ rw (eq-eqb (x .sender) (k .sender) p) (go (of-its-sender ks k n) (eqb (x .sequence) (k .sequence)) (rw (eq-eqb (x .sender) (k .sender) p) at e) (rw (eq-eqb (x .sender) (k .sender) p) at h))
-  | no p ↦
-      let z : 0 + since ks k < suc n = rw (ne-eqb (x .sender) (k .sender) p) at h in
-      rw (ne-eqb (x .sender) (k .sender) p) (of-its-sender ks k (suc n) (rw (ne-eqb (x .sender) (k .sender) p) at e) (omega arith))
-]
-  where
-    go : (among ks k ≡ true → since ks k < n → has (take n (ofSender (k .sender) ks)) (k .sequence) ≡ true)
-        → (t : Bool) → (t || among ks k) ≡ true → pick t 0 (1 + since ks k) < suc n → (t || has (take n (ofSender (k .sender) ks)) (k .sequence)) ≡ true
-    go ih true u v = refl
-    go ih false u v = let z : 1 + since ks k < suc n = v in ih u (omega arith)
-
--- a key delivered lately is remembered
-pub recalled : (ks : List Key) (k : Key) → among ks k ≡ true → Recent ks k → isRemembered (rememberAll ks) k ≡ true
-recalled ks k e h = go (first (isOf (k .sender)) (rememberAll ks)) refl
-  where
-    r : Recalls (h .few .senders) ks (rememberAll ks)
-    r = recalls (h .few .senders) (h .few .few) ks (h .few .all)
-
-    last : has (take keysEach (ofSender (k .sender) ks)) (k .sequence) ≡ true
-    last = of-its-sender ks k keysEach e (h .lately)
-
-    go : (o : Option ℕ) → first (isOf (k .sender)) (rememberAll ks) ≡ o → isRemembered (rememberAll ks) k ≡ true
-    go none q =
-        let z : ofSender (k .sender) ks ≡ [] = r .nothing (k .sender) (λ j b. first-none (isOf (k .sender)) noPlace (rememberAll ks) q j (omega (arith, r .whole .places))) in
-        never (rw z at last) refl
-    go (some j) q =
-        let f : First (isOf (k .sender)) (rememberAll ks) j noPlace = first-some (isOf (k .sender)) noPlace (rememberAll ks) j q in
-        let b : j < sendersMost = omega (arith, f .inside, r .whole .places) in
-        found (rememberAll ks) (r .whole) k j b (f .passes)
-        ∙ ap (λ (l : List ℕ). has l (k .sequence)) (r .holds (k .sender) j b (f .passes) .shown)
-        ∙ has-reverse (take keysEach (ofSender (k .sender) ks)) (k .sequence) ∙ last
-
 -- ---- a sender is forgotten
 
-freed-own : (from : ℕ) (p : Place) → isOf from (freed from p) ≡ false
+pub freed-own : (from : ℕ) (p : Place) → isOf from (freed from p) ≡ false
 freed-own from p = elim (either (eqb (p .sender) from)) [
   | inl e ↦ rw e
-  | inr e ↦ rw e (and-no (not (vacant p)))
+  | inr e ↦ rw e (and-false (not (vacant p)))
 ]
-  where
-    and-no : (b : Bool) → (b && false) ≡ false
-    and-no true = refl
-    and-no false = refl
+
+-- another's place stays as it is
+pub freed-same : (from : ℕ) (p : Place) → eqb (p .sender) from ≡ false → freed from p ≡ p
+freed-same from p e = ap (λ (b : Bool). record { sender = p .sender; used = pick b 0 (p .used); turn = p .turn; sequences = p .sequences }) e
 
 module _ (from s : ℕ) (n : s ≢ from) where
-  freed-other : (p : Place) → isOf s (freed from p) ≡ isOf s p
+  pub freed-other : (p : Place) → isOf s (freed from p) ≡ isOf s p
   freed-other p = elim (ℕ-discrete (p .sender) from) [
     | yes e ↦
         let d : eqb (p .sender) s ≡ false = ne-eqb (p .sender) s (λ z. n (sym z ∙ e)) in
-        rw (eq-eqb (p .sender) from e, d) (sym (and-no (not (vacant p))))
+        rw (eq-eqb (p .sender) from e, d) (sym (and-false (not (vacant p))))
     | no e ↦ rw (ne-eqb (p .sender) from e)
   ]
-    where
-      and-no : (b : Bool) → (b && false) ≡ false
-      and-no true = refl
-      and-no false = refl
 
   freed-kept : (p : Place) → isOf s p ≡ true → remembered (freed from p) ≡ remembered p
   freed-kept p e = rw (ne-eqb (p .sender) from (λ z. n (sym (of-sender s p e) ∙ z)))

@@ -6,14 +6,14 @@ use mathlib.Core.Option.{Option, none, some}
 use mathlib.Core.List.{List}
 use Prim.Native.Nat.{ℕ, _+_, _≤_, _<_}
 use native.Mathlib.Omega.{arith}
-use lib.Dec.{eqb, leb, ltb, lit<, lit≤}
+use lib.Dec.{eqb, leb, ltb, lit≤}
 use lib.ListN.{length, drop}
 use Rattle.wire.specs.Choice.{pick}
 use Rattle.wire.proofs.Choices.{either, and-false, or-l, or-r, pick-all}
 use borrow.Author.Tests.{leb-false, lt-leb, eqb-false, ne-eqb, not-false}
 use Rattle.datagram.specs.Limits.{maxDatagram, maxFragments}
 use Rattle.datagram.specs.Name.{nameLength}
-use Rattle.datagram.specs.Read.{magicIn, smallMagic, fragmentMagic, sizeIn, numberIn, countIn, place, smallHeader, goodForm, fragmentHeader, formed, zeroTo, smallTo, readSmall, readFragment, readDatagram, partOf}
+use Rattle.datagram.specs.Read.{magicIn, smallMagic, fragmentMagic, sizeIn, numberIn, countIn, place, goodForm, fragmentHeader, formed, zeroTo, smallTo, readSmall, readFragment, readDatagram, partOf}
 use Rattle.datagram.specs.Said.{Fragment, Said, refused, small, fragment, fragmentIn, says, said}
 use Rattle.datagram.specs.declared.Named.{Named}
 use Rattle.datagram.specs.declared.Named.the-variants.{Nameless, Long}
@@ -21,13 +21,13 @@ use Rattle.datagram.specs.declared.Place.{Place}
 use Rattle.datagram.specs.declared.Header.{Header}
 use Rattle.datagram.specs.declared.Read.{Read}
 use Rattle.datagram.specs.declared.Read.the-variants as read
-use Rattle.steps.specs.Limits.{slotCount, ledgerLength, slotSizeOf}
+use Rattle.steps.specs.Limits.{slotCount, sendersMost, keysEach, ledgerLength, slotSizeOf}
 use Rattle.steps.specs.Search.{allBelow}
 use Rattle.steps.specs.Held.{isHeld}
-use Rattle.steps.specs.Memory.{Key, keyOf, isRemembered, memoryOk}
-use Rattle.steps.specs.Slots.{Slot, busy, slotAt, findOpen, seat, filled, allHeld, Emptied, Nobody}
+use Rattle.steps.specs.Memory.{Key, keyOf, Memory, placeAt, isRemembered, memoryOk}
+use Rattle.steps.specs.Slots.{Slot, busy, slotAt, findOpen, filled, allHeld, Emptied, Nobody}
 use Rattle.steps.specs.Receive.{Machine, After, Answer, Refused, Kept, Repeat, Delivered, stay, Verdict, refuse, again, deliver, join, begin, sameMessage, sameFragment, agreesWithAll, step2, step3, step3or4, decide, step5, act, receive, slotOk, sound, step, forget}
-use Rattle.steps.specs.Promises.{Unfit, by-store, by-ledger, by-slot-size, by-slot, by-memory}
+use Rattle.steps.specs.Promises.{Crowded, by-senders, by-keys, Unfit, by-store, by-ledger, by-slot-size, by-slot, by-memory}
 use Rattle.steps.proofs.Tables.{and-no, and-none, all-none, all-not, clash-none}
 use Rattle.steps.proofs.Branches.{step-unsound, step-sound, step5-delivered, step5-kept}
 
@@ -97,6 +97,22 @@ Mild (begin f) = Unit {0}
 
 eight : To8 8
 eight = (lit≤ tt, lit≤ tt)
+
+-- ---- how many keys are remembered
+
+module _ (m : Memory) where
+  crowded : memoryOk m ≡ false → Crowded m
+  unfolding memoryOk
+  crowded e = elim (and-none (leb (length m) sendersMost) _ e) [
+    | inl q ↦ by-senders (leb-false (length m) sendersMost q)
+    | inr q ↦ let r = all-none (length m) (λ i. leb (placeAt m i .used) keysEach) q in by-keys (r .0) (r .1) (leb-false (placeAt m (r .0) .used) keysEach (r .2))
+  ]
+
+  not-ok : Crowded m → memoryOk m ≡ false
+  unfolding memoryOk
+  not-ok (by-senders h) = rw (lt-leb (length m) sendersMost h)
+  not-ok (by-keys i b h) =
+      and-no (leb (length m) sendersMost) (all-not (length m) (λ j. leb (placeAt m j .used) keysEach) i b (lt-leb (placeAt m i .used) keysEach h))
 
 module _ (m : Machine) (store ledger : List ℕ) where
   mild2 : (o : Option ℕ) (name payload : List ℕ) → Mild (step2 o name payload)
@@ -186,7 +202,7 @@ module _ (m : Machine) (store ledger : List ℕ) where
         | inl q ↦ by-slot-size (eqb-false (m .slotSize) (slotSizeOf (length store)) q)
         | inr e₃ ↦ elim (and-none (allBelow slotCount okAt) (memoryOk (m .memory)) e₃) [
           | inl q ↦ let r = all-none slotCount okAt q in slot-unfit (r .0) (r .1) (r .2)
-          | inr q ↦ by-memory q
+          | inr q ↦ by-memory (crowded (m .memory) q)
         ]
       ]
     ]
@@ -207,7 +223,7 @@ module _ (m : Machine) (store ledger : List ℕ) where
       (and-no (eqb (m .slotSize) (slotSizeOf (length store))) (rw (all-not slotCount okAt s b (slot-bad s e h)))))
   not-sound (by-memory e) =
       and-no (eqb (length store) (m .storeLength)) (and-no (eqb (length ledger) ledgerLength)
-      (and-no (eqb (m .slotSize) (slotSizeOf (length store))) (and-no (allBelow slotCount okAt) e)))
+      (and-no (eqb (m .slotSize) (slotSizeOf (length store))) (and-no (allBelow slotCount okAt) (not-ok (m .memory) e))))
 
   pub nine-exactly : (sender : ℕ) (d : List ℕ) → (step m store ledger sender d .answer ≡ Refused 9) ↔ Unfit m store ledger
   nine-exactly sender d = (
@@ -219,10 +235,10 @@ module _ (m : Machine) (store ledger : List ℕ) where
   )
 
 -- forget is refused by 9 alone, and only a state with too many remembered keys
-pub forget-nine : (m : Machine) (sender n : ℕ) → (forget m sender .refusal ≡ some n) ↔ ((n ≡ 9) × (memoryOk (m .memory) ≡ false))
+pub forget-nine : (m : Machine) (sender n : ℕ) → (forget m sender .refusal ≡ some n) ↔ ((n ≡ 9) × Crowded (m .memory))
 unfolding forget
-forget-nine m sender n = (there (memoryOk (m .memory)) refl, λ p. rw (p .0, p .1))
+forget-nine m sender n = (there (memoryOk (m .memory)) refl, λ p. rw (p .0, not-ok (m .memory) (p .1)))
   where
-    there : (b : Bool) → memoryOk (m .memory) ≡ b → forget m sender .refusal ≡ some n → (n ≡ 9) × (memoryOk (m .memory) ≡ false)
+    there : (b : Bool) → memoryOk (m .memory) ≡ b → forget m sender .refusal ≡ some n → (n ≡ 9) × Crowded (m .memory)
     there true e q = clash-none (rw e at q)
-    there false e q = let z : some 9 ≡ some n = rw e at q in (let y : 9 ≡ n = cc in sym y, e)
+    there false e q = let z : some 9 ≡ some n = rw e at q in (let y : 9 ≡ n = cc in sym y, crowded (m .memory) e)

@@ -1,24 +1,23 @@
 -- Every state that calls can reach is in order; and what forget leaves of one.
 use mathlib.Core.Path.{_≡_, refl, sym, ap, _∙_, subst}
-use mathlib.Core.Logic.{_≢_, _⊎_, inl, inr}
-use mathlib.Core.Bool.{Bool, true, false, not, _&&_, _||_}
+use mathlib.Core.Logic.{_≢_, inl, inr}
+use mathlib.Core.Bool.{true, false, not, or-true}
 use mathlib.Core.Option.{none}
 use mathlib.Core.List.{List}
-use Prim.Native.Nat.{ℕ, suc, _+_, _≤_, _<_}
+use Prim.Native.Nat.{ℕ, _≤_, _<_}
 use native.Mathlib.Nat.{le-refl}
 use native.Mathlib.Omega.{arith}
 use native.Mathlib.Decide.{ℕ-discrete}
-use lib.Dec.{eqb, leb}
-use lib.ListN.{length, getD, set, length-set, length-replicate, getD-replicate, replicate}
+use lib.ListN.{length, set, length-set, length-replicate, getD-replicate, replicate}
 use lib.Seq.{getD-set-other}
 use borrow.Author.Tests.{eq-eqb, le-leb}
-use Rattle.wire.proofs.Choices.{either, never}
+use Rattle.wire.proofs.Choices.{either, never, and-five}
 use Rattle.datagram.specs.Limits.{maxFragments}
 use Rattle.datagram.specs.Said.{fragment, Fragment, said}
 use Rattle.datagram.proofs.Saids.{Formed, fragment-formed}
 use Rattle.steps.specs.Limits.{slotCount, ledgerLength, slotSizeOf}
 use Rattle.steps.specs.Search.{allBelow}
-use Rattle.steps.specs.Memory.{Key, keyOf, sameKey, Memory, isRemembered, remember, memoryOk}
+use Rattle.steps.specs.Memory.{Key, keyOf, sameKey, Memory, isRemembered, remember}
 use Rattle.steps.specs.Slots.{Slot, busy, noSlot, slotAt, findOpen, release, releaseOf, opening, filled, allHeld, seat, Emptied, Nobody}
 use Rattle.steps.specs.Receive.{Machine, After, stay, opened, step5, beginAt, slotOk, sound, step, forget}
 use Rattle.steps.specs.Reach.{Reached, opens, receives, forgets, InOrder}
@@ -40,15 +39,11 @@ pub record Tidy (C : ℕ) (slots : List Slot) (memory : Memory) : Type 0 where
   pub not-both : (s : ℕ) → s < slotCount → busyAt slots s ≡ true → isRemembered memory (keyAt slots s) ≡ false
   pub ranks : Ranks slots
 
-other-key : (a b : Key) → a ≢ b → sameKey a b ≡ false
+pub other-key : (a b : Key) → a ≢ b → sameKey a b ≡ false
 other-key a b n = elim (either (sameKey a b)) [ inl e ↦ absurd (n (same-key a b e)) | inr e ↦ e ]
 
 slot-ok : (C : ℕ) (x : Slot) → x .size ≤ C → x .count ≤ maxFragments → slotOk C x ≡ true
 slot-ok C x a b = rw (le-leb (x .size) C a, le-leb (x .count) maxFragments b) (or-true (not (busy x)))
-  where
-    or-true : (t : Bool) → (t || true) ≡ true
-    or-true true = refl
-    or-true false = refl
 
 module _ {C : ℕ} {slots : List Slot} {memory : Memory} (h : Tidy C slots memory) where
   -- slot s becomes x
@@ -157,10 +152,7 @@ good-sound n m g =
     let all : allBelow slotCount (λ s. slotOk (m .slotSize) (slotAt (m .slots) s)) ≡ true =
     all-of slotCount (λ s. slotOk (m .slotSize) (slotAt (m .slots) s))
     (λ s b. subst (λ (c : ℕ). slotOk c (slotAt (m .slots) s) ≡ true) (sym (g .sized)) (g .tidy .sizes s b)) in
-    and5 _ _ _ _ _ (eq-eqb n (m .storeLength) (sym (g .long))) (eq-eqb ledgerLength ledgerLength refl) (eq-eqb (m .slotSize) (slotSizeOf n) (g .sized)) all (whole-ok (m .memory) (g .whole))
-  where
-    and5 : (a b c d e : Bool) → a ≡ true → b ≡ true → c ≡ true → d ≡ true → e ≡ true → (a && (b && (c && (d && e)))) ≡ true
-    and5 a b c d e p q r s t = rw (p, q, r, s, t)
+    and-five _ _ _ _ _ (eq-eqb n (m .storeLength) (sym (g .long))) (eq-eqb ledgerLength ledgerLength refl) (eq-eqb (m .slotSize) (slotSizeOf n) (g .sized)) all (whole-ok (m .memory) (g .whole))
 
 -- ---- a fragment is stored
 

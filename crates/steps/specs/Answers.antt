@@ -15,7 +15,16 @@ pub data Reply : Type 0 where
   -- with that payload
   delivered : List ℕ → Reply
 
--- where the payload begins, in the datagram or in the store as the call left it
+-- what holds a payload, the datagram or the store as the call left it, and where in it the payload begins
+abbrev pub holder : List ℕ → List ℕ → PayloadAt → List ℕ
+holder d store (InDatagram at) = d
+holder d store (InStore at) = store
+
+abbrev pub beginsAt : PayloadAt → ℕ
+beginsAt (InDatagram at) = at
+beginsAt (InStore at) = at
+
+-- what stands there from the payload's first byte on
 abbrev pub payloadAt : List ℕ → List ℕ → PayloadAt → List ℕ
 payloadAt d store (InDatagram at) = drop at d
 payloadAt d store (InStore at) = drop at store

@@ -137,15 +137,6 @@ unfoldable pub rememberAll : List Key → Memory
 rememberAll [] = emptyMemory
 rememberAll (k ∷ ks) = remember (rememberAll ks) k
 
--- the senders of these deliveries, each once, by their latest: at each delivery, where they are over 16, the one furthest back goes
-abbrev pub without : List ℕ → ℕ → List ℕ
-without [] x = []
-without (y ∷ l) x = pick (eqb y x) (without l x) (y ∷ without l x)
-
-unfoldable pub latest : List Key → List ℕ
-latest [] = []
-latest (k ∷ ks) = take sendersMost (k .sender ∷ without (latest ks) (k .sender))
-
 -- how many of these deliveries, the latest first, came of k's own sender since that of k
 unfoldable pub since : List Key → Key → ℕ
 since [] k = 0
@@ -154,14 +145,6 @@ since (x ∷ ks) k = pick (sameKey x k) 0 (one (eqb (x .sender) (k .sender)) + s
 -- 32 others of its own sender have not been delivered since k was
 abbrev pub Lately : List Key → Key → Type 0
 Lately ks k = since ks k < keysEach
-
--- a sender has a place
-abbrev pub isThere : Option ℕ → Bool
-isThere none = false
-isThere (some i) = true
-
-unfoldable pub isKnown : Memory → ℕ → Bool
-isKnown m from = isThere (first (isOf from) m)
 
 -- these keys are of at most 16 senders
 pub record FewSenders (ks : List Key) : Type 0 where
@@ -172,3 +155,49 @@ pub record FewSenders (ks : List Key) : Type 0 where
 pub record Recent (ks : List Key) (k : Key) : Type 0 where
   pub lately : Lately ks k
   pub few : FewSenders ks
+
+-- ---- what is remembered, told by what happened and not by places and turns
+
+-- a message is delivered, or a sender is forgotten
+pub data Deed : Type 0 where
+  delivery : Key → Deed
+  forgetting : ℕ → Deed
+
+-- the memory after these, the latest first
+unfoldable pub memoryAfter : List Deed → Memory
+memoryAfter [] = emptyMemory
+memoryAfter (delivery k ∷ h) = remember (memoryAfter h) k
+memoryAfter (forgetting s ∷ h) = forgetKeys (memoryAfter h) s
+
+abbrev pub without : List ℕ → ℕ → List ℕ
+without [] x = []
+without (y ∷ l) x = pick (eqb y x) (without l x) (y ∷ without l x)
+
+-- The senders that are remembered then, by their latest delivery. A delivery puts its sender first; where they are over 16, the one whose latest delivery
+-- lies furthest back goes. One that is forgotten goes, and the rest keep their order.
+unfoldable pub latest : List Deed → List ℕ
+latest [] = []
+latest (delivery k ∷ h) = take sendersMost (k .sender ∷ without (latest h) (k .sender))
+latest (forgetting s ∷ h) = without (latest h) s
+
+-- key k is delivered beside the sequences l of sender s, which are all dropped where that sender is not remembered
+abbrev pub deliveredBeside : Key → ℕ → Bool → List ℕ → List ℕ
+deliveredBeside k s known l = pick (eqb (k .sender) s) (k .sequence ∷ pick known l []) l
+
+-- the sequences delivered of sender s since it was last forgotten, or dropped with its keys, the latest first
+unfoldable pub sequencesOf : ℕ → List Deed → List ℕ
+sequencesOf s [] = []
+sequencesOf s (delivery k ∷ h) = deliveredBeside k s (has (latest h) s) (sequencesOf s h)
+sequencesOf s (forgetting x ∷ h) = pick (eqb x s) [] (sequencesOf s h)
+
+-- key k is among its sender's last 32 of these, and the sender is among the 16
+abbrev pub amongLast : List Deed → Key → Bool
+amongLast h k = has (latest h) (k .sender) && has (take keysEach (sequencesOf (k .sender) h)) (k .sequence)
+
+-- a sender has a place
+abbrev pub isThere : Option ℕ → Bool
+isThere none = false
+isThere (some i) = true
+
+unfoldable pub isKnown : Memory → ℕ → Bool
+isKnown m from = isThere (first (isOf from) m)

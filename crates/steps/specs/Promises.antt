@@ -1,17 +1,29 @@
--- What calls promise besides, said for the theorems of proofs/: refusal 9's list, what forget leaves, what a fragment of an open key has. Definitions only.
+-- What calls promise besides, said for the theorems of proofs/: where a delivered payload lies, refusal 9's list, what forget leaves, what a fragment of an
+-- open key has. Definitions only.
 use mathlib.Core.Path.{_≡_}
 use mathlib.Core.Logic.{_≢_, _⊎_}
 use mathlib.Core.Bool.{true, false}
 use mathlib.Core.List.{List}
-use Prim.Native.Nat.{ℕ, _<_}
+use Prim.Native.Nat.{ℕ, _+_, _≤_, _<_}
 use lib.ListN.{length, take, drop}
 use Rattle.datagram.specs.Limits.{maxFragments}
 use Rattle.datagram.specs.Said.{Fragment}
-use Rattle.steps.specs.Limits.{slotCount, ledgerLength, slotSizeOf}
+use Rattle.steps.specs.Limits.{slotCount, sendersMost, keysEach, ledgerLength, slotSizeOf}
 use Rattle.steps.specs.Held.{isHeld}
-use Rattle.steps.specs.Memory.{Key, isRemembered, memoryOk}
+use Rattle.steps.specs.Memory.{Key, Memory, placeAt, isRemembered}
 use Rattle.steps.specs.Slots.{Slot, busy, slotAt, padded}
-use Rattle.steps.specs.Receive.{Machine, offsetOf, lengthOf, placeOf}
+use Rattle.steps.specs.Receive.{Machine, PayloadAt, offsetOf, lengthOf, placeOf}
+use Rattle.steps.specs.Answers.{holder, beginsAt, payloadAt}
+
+-- a payload of n bytes at p: all of it lies in what holds it, and so many bytes are handed over
+pub record Lies (d store : List ℕ) (p : PayloadAt) (n : ℕ) : Type 0 where
+  pub inside : beginsAt p + n ≤ length (holder d store p)
+  pub long : length (take n (payloadAt d store p)) ≡ n
+
+-- over 16 remembered senders, or over 32 keys for one
+pub data Crowded (m : Memory) : Type 0 where
+  by-senders : sendersMost < length m → Crowded m
+  by-keys : (i : ℕ) → i < length m → keysEach < placeAt m i .used → Crowded m
 
 -- Refusal 9: store length not that of opening, ledger not 16,384, or a state with C not the store's, an open slot's P over C or n outside 1 to 1,024
 -- (an open slot's n is not 0), or over 16 remembered senders, or over 32 keys for one.
@@ -21,7 +33,7 @@ pub data Unfit (m : Machine) (store ledger : List ℕ) : Type 0 where
   by-slot-size : m .slotSize ≢ slotSizeOf (length store) → Unfit m store ledger
   by-slot : (s : ℕ) → s < slotCount → busy (slotAt (m .slots) s) ≡ true
       → ((m .slotSize < slotAt (m .slots) s .size) ⊎ (maxFragments < slotAt (m .slots) s .count)) → Unfit m store ledger
-  by-memory : memoryOk (m .memory) ≡ false → Unfit m store ledger
+  by-memory : Crowded (m .memory) → Unfit m store ledger
 
 -- a slot but for its turn
 abbrev pub unturned : Slot → Slot

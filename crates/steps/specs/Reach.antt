@@ -1,16 +1,17 @@
--- The states that calls can reach from an opening, what each of them keeps to, and the order of opening over the calls that led there. Definitions only.
+-- The states that calls can reach from an opening, what each of them keeps to, and, over the calls that led there, the order of opening and what was
+-- delivered and forgotten. Definitions only.
 use mathlib.Core.Path.{_≡_}
 use mathlib.Core.Logic.{_≢_}
 use mathlib.Core.Bool.{Bool, true, false, not, _&&_}
 use mathlib.Core.Option.{Option, none, some}
-use mathlib.Core.List.{List}
+use mathlib.Core.List.{List, [], _∷_}
 use Prim.Native.Nat.{ℕ, suc, _<_}
 use lib.ListN.{length}
 use Rattle.wire.specs.Choice.{pick}
 use Rattle.steps.specs.Limits.{slotCount, ledgerLength}
-use Rattle.steps.specs.Memory.{Key, sameKey, isRemembered}
+use Rattle.steps.specs.Memory.{Key, sameKey, isRemembered, Deed, delivery, forgetting}
 use Rattle.steps.specs.Slots.{busy, slotAt, findOpen, openCount}
-use Rattle.steps.specs.Receive.{Machine, PayloadAt, InDatagram, InStore, Answer, Refused, Kept, Repeat, Delivered, opened, step, forget, sound}
+use Rattle.steps.specs.Receive.{Machine, InDatagram, InStore, Answer, Refused, Kept, Repeat, Delivered, opened, step, forget, sound}
 use Rattle.steps.specs.Answers.{emptiedKey}
 use Rattle.steps.specs.Runs.{World, lending, Arrival, from, keyIn, call}
 
@@ -54,6 +55,18 @@ found (some s) = true
 abbrev pub isOpen : Machine → Key → Bool
 isOpen m k = found (findOpen (m .slots) k)
 
+-- key k is neither open nor remembered
+pub record Unknown (m : Machine) (k : Key) : Type 0 where
+  pub not-open : isOpen m k ≡ false
+  pub not-remembered : isRemembered (m .memory) k ≡ false
+
+-- accepted: Kept or Delivered
+abbrev pub isAccepted : Answer → Bool
+isAccepted (Refused n) = false
+isAccepted Kept = true
+isAccepted Repeat = false
+isAccepted (Delivered p n) = true
+
 -- a fragment was stored
 abbrev pub isStored : Answer → Bool
 isStored (Refused n) = false
@@ -88,3 +101,18 @@ pub record OldestFirst {n : ℕ} {m : Machine} (r : Reached n m) : Type 0 where
       → slotAt (m .slots) s .turn < slotAt (m .slots) t .turn → ago r (slotAt (m .slots) t .key) < ago r (slotAt (m .slots) s .key)
   -- whatever comes next, the key that it empties is the one whose opening lies furthest back
   pub emptied : (store ledger : List ℕ) (sender : ℕ) (d : List ℕ) (k : Key) → emptiedKey (step m store ledger sender d .emptied) ≡ some k → FurthestBack r k
+
+-- ---- what is remembered, told by the calls and not by places and turns
+
+-- what a call adds to the deliveries and forgettings before it: its datagram's key, where it delivers
+abbrev pub noted : Answer → Key → List Deed → List Deed
+noted (Refused n) k h = h
+noted Kept k h = h
+noted Repeat k h = h
+noted (Delivered p n) k h = delivery k ∷ h
+
+-- the deliveries and forgettings of the calls that led there, the latest first
+unfoldable pub deeds : {n : ℕ} {m : Machine} → Reached n m → List Deed
+deeds opens = []
+deeds (receives {m = m} r store ledger sender d) = noted (step m store ledger sender d .answer) (keyIn (m .slotSize) (from sender d)) (deeds r)
+deeds (forgets r sender) = forgetting sender ∷ deeds r

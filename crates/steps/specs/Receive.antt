@@ -1,8 +1,8 @@
 -- The receiver's step list, in the order and words of document 01, "The receiver". Definitions only.
-use mathlib.Core.Bool.{Bool, true, false, not, _&&_, _||_}
+use mathlib.Core.Bool.{Bool, true, not, _&&_, _||_}
 use mathlib.Core.Option.{Option, none, some}
-use mathlib.Core.List.{List, [], _∷_}
-use Prim.Native.Nat.{ℕ, suc, _+_, _*_}
+use mathlib.Core.List.{List}
+use Prim.Native.Nat.{ℕ, suc, _+_, _*_, min}
 use lib.Dec.{eqb, leb, ltb}
 use lib.ListN.{length, getD, set, take, drop, replicate}
 use Rattle.wire.specs.Choice.{pick, _when_else_}
@@ -14,7 +14,7 @@ use Rattle.steps.specs.Limits.{slotCount, ledgerLength, slotSizeOf}
 use Rattle.steps.specs.Search.{allBelow}
 use Rattle.steps.specs.Held.{isHeld}
 use Rattle.steps.specs.Memory.{Key, keyOf, Memory, emptyMemory, isRemembered, remember, forgetKeys, memoryOk}
-use Rattle.steps.specs.Slots.{Slot, busy, noSlot, slotAt, findOpen, release, releaseOf, Seat, seat, opening, filled, allHeld, noName, padded, Emptied, Nobody, Was}
+use Rattle.steps.specs.Slots.{Slot, busy, noSlot, slotAt, findOpen, release, releaseOf, Seat, seat, opening, filled, allHeld, noName, padded, Emptied, Nobody}
 pub use Rattle.steps.specs.declared.PayloadAt.{PayloadAt}
 pub use Rattle.steps.specs.declared.PayloadAt.the-variants.{InDatagram, InStore}
 pub use Rattle.steps.specs.declared.Answer.{Answer}
@@ -227,6 +227,13 @@ unfoldable pub step : Machine → List ℕ → List ℕ → ℕ → List ℕ →
 step m store ledger sender d =
     pick (sound m (length store) (length ledger))
     (receive m store ledger sender (said (m .slotSize) maxFragments d))
+    (stay m store ledger (Refused 9))
+
+-- The call within further limits, of a payload and of its fragments: they bind beside C and 1,024, by 6 and 5 (document 02, L10).
+unfoldable pub stepWithin : ℕ → ℕ → Machine → List ℕ → List ℕ → ℕ → List ℕ → After
+stepWithin payload fragments m store ledger sender d =
+    pick (sound m (length store) (length ledger))
+    (receive m store ledger sender (said (min (m .slotSize) payload) (min maxFragments fragments) d))
     (stay m store ledger (Refused 9))
 
 -- ---- forget

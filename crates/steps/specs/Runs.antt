@@ -1,6 +1,6 @@
 -- Calls of `step`, one after another, each with what the one before left. Definitions only.
 use mathlib.Core.Option.{Option}
-use mathlib.Core.List.{List, [], _∷_, map, zipWith}
+use mathlib.Core.List.{List, [], _∷_, zipWith}
 use Prim.Native.Nat.{ℕ}
 use lib.ListN.{length}
 use Rattle.datagram.specs.Limits.{maxFragments}

@@ -1,6 +1,6 @@
 -- Worked cases beside the marked ones: what is answered, with the emptied key. Definitions only.
 use mathlib.Core.Bool.{Bool}
-use mathlib.Core.Option.{Option, none, some}
+use mathlib.Core.Option.{none, some}
 use mathlib.Core.List.{List, [], _∷_, _++_, map}
 use Prim.Native.Nat.{ℕ, zero, suc}
 use lib.ListN.{replicate}
@@ -95,6 +95,8 @@ cases =
     ∷ eight (A-of 1 ∷ B-of 8 ∷ B-of 9 ∷ B-of 10 ∷ B-of 11 ∷ B-of 12 ∷ B-of 13 ∷ B-of 14 ∷ B-of 15 ∷ B-of 16 ∷ [])
     (only ABC ∷ only kept ∷ emptying 0 kept ∷ emptying 2 kept ∷ emptying 3 kept ∷ emptying 4 kept ∷ emptying 5 kept ∷ emptying 6 kept
     ∷ emptying 7 kept ∷ emptying 8 kept ∷ [])
+    -- an emptied message is sent again whole: it is delivered
+    ∷ eight (B-of 8 ∷ B-of 0 ∷ A-of 0 ∷ []) (emptying 0 kept ∷ emptying 1 kept ∷ only ABC ∷ [])
     -- a datagram that is refused empties nothing: the oldest is still there
     ∷ eight (headOf 8 5 0 0 1 (0x50 ∷ 0 ∷ 0x41 ∷ []) ∷ A-of 0 ∷ []) (only (refusedBy 6) ∷ only ABC ∷ [])
     ∷ []

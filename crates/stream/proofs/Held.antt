@@ -1,12 +1,12 @@
 -- The whole input in a buffer. Assumes nothing.
-use mathlib.Core.Path.{_≡_, refl, ap, sym, _∙_}
+use mathlib.Core.Path.{_≡_, refl, sym}
 use mathlib.Core.List.{List, _++_}
-use Prim.Native.Nat.{ℕ, _+_, _≤_, _<_}
+use Prim.Native.Nat.{ℕ}
 use native.Mathlib.Omega.{arith}
 use lib.ListN.{length, take, length-append}
 use lib.Seq.{length-take-le, take-at}
 use Rattle.stream.specs.Whole.{Held, Exceeds}
-use Rattle.stream.specs.Windows.{Grown}
+use Rattle.stream.specs.InsideWindows.{Grown}
 
 pub held-all : {before after : List ℕ} {k : ℕ} → Grown before 0 after k → Held (length before) after k
 held-all {before} {after} {k} g =

@@ -5,7 +5,7 @@ use Prim.Native.Nat.{ℕ, _+_, _-_, _≤_, _<_}
 use native.Mathlib.Omega.{arith}
 use lib.ListN.{length, take, drop, length-append}
 use lib.Seq.{slice, length-slice, drop-append-add, take-take}
-use Rattle.stream.specs.Windows.{Grown, Gone, Lacking}
+use Rattle.stream.specs.InsideWindows.{Grown, Gone, Lacking}
 use Rattle.stream.proofs.Slices.{slice-split, slice-rest}
 
 -- nothing came, and more came

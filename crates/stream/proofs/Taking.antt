@@ -1,7 +1,7 @@
 -- How a record is taken from the unread bytes and from what comes. Assumes nothing.
 use mathlib.Core.Path.{_≡_, refl, ap, sym, _∙_, subst}
 use mathlib.Core.Bool.{true, false}
-use mathlib.Core.List.{List, [], _∷_, _++_, append-assoc}
+use mathlib.Core.List.{List, [], _++_, append-assoc}
 use Prim.Native.Nat.{ℕ, zero, suc, _+_, _-_, _*_, _≤_, _<_, min}
 use native.Mathlib.Omega.{arith}
 use lib.ListN.{length, take, drop, getD, length-append, length-drop, List·getD-append}
@@ -18,7 +18,8 @@ use Rattle.stream.specs.declared.Skip.the-variants.{Done, Ended}
 use Rattle.stream.specs.declared.Next.{Next}
 use Rattle.stream.specs.declared.Next.the-variants.{Record, End, Cut}
 use Rattle.stream.specs.Records.{headOf, widthOf, unitOf, bodyLength, isWhole, unread, Roomy, holds, Took, Ends, Lacks, Gives}
-use Rattle.stream.specs.Windows.{Within, Headed, Fronted, Grown, Ready, Gone, Lacking, Dropped, afterSkip}
+use Rattle.stream.specs.Windows.{Within, Ready}
+use Rattle.stream.specs.InsideWindows.{Headed, Fronted, Grown, Gone, Lacking, Dropped, afterSkip}
 use Rattle.stream.proofs.Slices.{slice-rest, slice-slice, slice-within, slice-append}
 use Rattle.stream.proofs.Passing.{grown-joined}
 

@@ -1,3 +1,4 @@
 pub mod Records
 pub mod Whole
 pub mod Windows
+pub mod InsideWindows

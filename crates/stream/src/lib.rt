@@ -1,13 +1,14 @@
 // Input of any size in a stream. A lent buffer holds what was read and not yet taken, and one record at a time stands whole in it. No
 // contract can say what the system gives: they say that every byte that came is taken once and in order.
 ghost use mathlib.Core.Path.{_≡_};
-ghost use Prim.Native.Nat.{_+_, _-_, _≤_, _<_};
+ghost use Prim.Native.Nat.{_-_, _≤_, _<_};
 ghost use lib.ListN.{length, drop};
 ghost use lib.Seq.{slice};
 ghost use Rattle.wire.specs.Bytes.{be};
 ghost use Rattle.stream.specs.Records.{headOf, bodyLength, Gives};
 ghost use Rattle.stream.specs.Whole.{HoldsAll};
-ghost use Rattle.stream.specs.Windows.{Fronted, Grown, Ready, Dropped, Within, Headed, afterSkip};
+ghost use Rattle.stream.specs.Windows.{Ready, Within};
+ghost use Rattle.stream.specs.InsideWindows.{Fronted, Grown, Dropped, Headed, afterSkip};
 
 // More records than any input has: a proved loop has to end, so a program counts its records up to this.
 pub const MANY: u64 = 18446744073709551615;

@@ -14,7 +14,7 @@ use lib.Signed.{ltZ}
 use lib.Dec.{ltb}
 use borrow.Author.Tests.{lt-ltb, le-ltb, ltb-true, ltb-false}
 use Rattle.wire.specs.Choice.{pick}
-use Rattle.wire.specs.Signed.{Within}
+use Rattle.wire.specs.Inside.{Within}
 use Rattle.wire.proofs.Choices.{never}
 use Rattle.text.specs.Text.{digit, decimalBy, decimal, signedDecimal, hex}
 

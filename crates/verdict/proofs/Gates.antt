@@ -1,8 +1,8 @@
 -- What is known behind the gates: of a state that is not refused by 9, and of a header that was read.
-use mathlib.Core.Path.{_≡_, refl, sym, _∙_, ap, subst}
+use mathlib.Core.Path.{_≡_, refl, _∙_, subst}
 use mathlib.Core.Bool.{Bool, true, false, _&&_}
 use mathlib.Core.List.{List}
-use Prim.Native.Nat.{ℕ, _+_, _≤_, _<_, _^_, min}
+use Prim.Native.Nat.{ℕ, _<_, _^_}
 use native.Mathlib.Decide.{ℕ-discrete}
 use native.Mathlib.Omega.{arith}
 use lib.Dec.{eqb}
@@ -10,7 +10,7 @@ use lib.ListN.{length, getD}
 use borrow.Author.Tests.{eqb-true}
 use Rattle.wire.specs.Choice.{pick}
 use Rattle.wire.proofs.Choices.{never, and-l, and-r}
-use Rattle.datagram.specs.Limits.{maxPayload, maxFragments, maxDatagram, maxName}
+use Rattle.datagram.specs.Limits.{maxFragments}
 use Rattle.datagram.specs.Read.{readDatagram, partOf}
 use Rattle.datagram.specs.declared.Header.{Header}
 use Rattle.datagram.specs.declared.Read.the-variants.{Good}
@@ -22,7 +22,7 @@ use Rattle.steps.specs.Memory.{memoryOk}
 use Rattle.steps.specs.Slots.{slotAt}
 use Rattle.steps.specs.Receive.{slotOk, sound}
 use Rattle.receiver_state.specs.View.{storeWord, roomWord, stateWords, nameBytes, slotsOf, memoryOf, view, shaped, ready}
-use Rattle.receiver_state.specs.Inside.{Shaped, Ready, Told}
+use Rattle.receiver_state.specs.Inside.{Ready, Told}
 
 -- ---- a state that is not refused by 9
 

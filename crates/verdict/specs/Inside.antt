@@ -1,6 +1,6 @@
 -- INSIDE: what the private functions give, and what is known of a verdict. Definitions only; no promise of a public function rests on them.
 use mathlib.Core.Path.{_≡_}
-use mathlib.Core.Bool.{true, false}
+use mathlib.Core.Bool.{true}
 use mathlib.Core.List.{List}
 use Prim.Native.Nat.{ℕ, _<_}
 use Rattle.datagram.specs.declared.Header.{Header}

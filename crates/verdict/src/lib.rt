@@ -4,7 +4,7 @@ use datagram::Header;
 use datagram::Read;
 use slots::Found;
 ghost use mathlib.Core.Path.{_≡_};
-ghost use mathlib.Core.Bool.{true, false};
+ghost use mathlib.Core.Bool.{false};
 ghost use Prim.Native.Nat.{_<_};
 ghost use lib.ListN.{length, getD};
 ghost use Rattle.datagram.specs.Said.{says, fragmentIn};

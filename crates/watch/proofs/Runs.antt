@@ -156,7 +156,7 @@ gone-more s n m l missing hs hn e g =
       arrived = (let p : (s + ((n + (2 ^ 32 - s)) % 2 ^ 32 + distance n l)) % 2 ^ 32 ≡ (n + distance n l) % 2 ^ 32 = omega arith in p) ∙ g .arrived;
     }
 
-cons-eq : {x : Noted} {a b : List Noted} {y : Noted} → _≡_ {A = List Noted} (x ∷ a) (y ∷ b) → (x ≡ y) × (a ≡ b)
+pub cons-eq : {x : Noted} {a b : List Noted} {y : Noted} → _≡_ {A = List Noted} (x ∷ a) (y ∷ b) → (x ≡ y) × (a ≡ b)
 cons-eq e = (cc, cc)
 
 -- Over any run of Forwards the sum of the missing is the distance gone less the arrivals, and the distance leads from the first last number

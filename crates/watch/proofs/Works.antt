@@ -1,6 +1,6 @@
 -- Every worked case gives what the paper says, computed in one statement. Assumes nothing.
 use mathlib.Core.Path.{_≡_, refl}
-use mathlib.Core.List.{List, map}
+use mathlib.Core.List.{map}
 use Rattle.watch.specs.Senders.{setLast, moved}
 use Rattle.watch.specs.Watching.{askedAt, asked, after}
 use Rattle.watch.specs.Worked.{noted, Case, cases}

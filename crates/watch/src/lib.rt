@@ -8,7 +8,7 @@ ghost use lib.Signed.{ltZ};
 ghost use lib.ListN.{length, take};
 ghost use Rattle.watch.specs.Noted.{notes};
 ghost use Rattle.watch.specs.Difference.{difference, told};
-ghost use Rattle.watch.specs.Senders.{empty, place, senderPlace, moved};
+ghost use Rattle.watch.specs.Senders.{empty, place, moved};
 ghost use Rattle.watch.specs.Watching.{asked, moves, Result};
 
 // How many senders a watch has room for.

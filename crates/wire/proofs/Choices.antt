@@ -41,6 +41,13 @@ pub or-r : (a b : Bool) → (a || b) ≡ false → b ≡ false
 or-r true b e = never refl e
 or-r false b e = e
 
+pub or-of-right : (a : Bool) {b : Bool} → b ≡ true → (a || b) ≡ true
+or-of-right true e = refl
+or-of-right false e = e
+
+pub and-five : (a b c d e : Bool) → a ≡ true → b ≡ true → c ≡ true → d ≡ true → e ≡ true → (a && (b && (c && (d && e)))) ≡ true
+and-five a b c d e p q r s t = rw (p, q, r, s, t)
+
 -- what holds of both sides holds of the choice
 pub pick-all {ℓ} : {X : Type ℓ} (P : X → Type 0) (b : Bool) {x y : X} → (b ≡ true → P x) → (b ≡ false → P y) → P (pick b x y)
 pick-all P true f g = f refl

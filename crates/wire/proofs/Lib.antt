@@ -1,4 +1,5 @@
 pub mod Choices
+pub mod Halves
 pub mod Numbers
 pub mod Overlays
 pub mod Parts

@@ -171,3 +171,11 @@ overlay-sets d at (y ∷ s) =
 pub overlay-next : (d s t x y : List ℕ) (at : ℕ) → x ≡ overlay d 0 s → at ≡ length s → y ≡ overlay x at t → y ≡ overlay d 0 (s ++ t)
 overlay-next d s t x y at e f g =
     g ∙ rw (e, f) (sym (overlay-append d 0 s t ∙ ap (λ (n : ℕ). overlay (overlay d 0 s) n t) (zero-add (length s))))
+
+-- all of it is written anew
+pub overlay-whole : (d s : List ℕ) → length s ≡ length d → overlay d 0 s ≡ s
+unfolding overlay
+overlay-whole [] [] e = refl
+overlay-whole [] (y ∷ s) e = absurd (omega arith)
+overlay-whole (x ∷ d) [] e = absurd (omega arith)
+overlay-whole (x ∷ d) (y ∷ s) e = ap (λ (l : List ℕ). y ∷ l) (overlay-whole d s (omega arith))

@@ -4,7 +4,7 @@ use mathlib.Core.Bool.{Bool, true, false}
 use Prim.Native.Nat.{ℕ, zero, suc, _+_, _-_, _*_, _≤_, _<_, _^_}
 use native.Mathlib.Nat.{pow-suc, zero-add}
 use native.Mathlib.Omega.{arith}
-use lib.Pow.{pow-pos, pow-mono}
+use lib.Pow.{pow-mono}
 use lib.IntN.{ℤ, pos, negsuc, _-ℤ_, natAbs}
 use lib.Signed.{mag, ltZ, nonNeg}
 use lib.Dec.{T, ltb}
@@ -13,7 +13,8 @@ use mir.Syntax.{Width, w8, w16, w32, w64, w128}
 use mir.Val.{toZ, ofZ, sel, bits, hbits, SFits, Fits}
 use mir.ValLaws.{toZ-pos, toZ-neg, toZ-fits, toZ-ofZ, pow-bits, half-full}
 use Rattle.wire.specs.Choice.{pick}
-use Rattle.wire.specs.Signed.{signed, unsigned, Within}
+use Rattle.wire.specs.Signed.{signed, unsigned}
+use Rattle.wire.specs.Inside.{Within}
 
 -- a power is two of the power before it
 pub halves : (b : ℕ) → 1 ≤ b → 2 ^ b ≡ 2 ^ (b - 1) + 2 ^ (b - 1)

@@ -1,8 +1,10 @@
 pub mod Bytes
 pub mod Choice
+pub mod Halving
 pub mod Overlay
 pub mod Same
 pub mod Signed
+pub mod Inside
 pub mod Slices
 pub mod Sum
 pub mod Taken

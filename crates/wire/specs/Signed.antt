@@ -1,7 +1,6 @@
 -- Signed numbers of b bits and their bits, in two's complement; b is at least 1. `negsuc n` is -(n + 1). Definitions only.
-use Prim.Native.Nat.{ℕ, suc, _-_, _<_, _^_}
+use Prim.Native.Nat.{ℕ, suc, _-_, _^_}
 use lib.IntN.{ℤ, pos, negsuc}
-use lib.Signed.{mag}
 use lib.Dec.{ltb}
 use Rattle.wire.specs.Choice.{pick}
 
@@ -13,7 +12,3 @@ signed b u = pick (ltb u (2 ^ (b - 1))) (pos u) (negsuc (2 ^ b - suc u))
 abbrev pub unsigned : ℕ → ℤ → ℕ
 unsigned b (pos n) = n
 unsigned b (negsuc n) = 2 ^ b - suc n
-
--- z is a signed number of b bits: at least -2 ^ (b - 1) and below 2 ^ (b - 1)
-abbrev pub Within : ℕ → ℤ → Type 0
-Within b z = mag z < 2 ^ (b - 1)

@@ -20,13 +20,14 @@ use Rattle.datagram.specs.declared.Place.{Place}
 use Rattle.datagram.specs.declared.Header.{Header}
 use Rattle.datagram.specs.declared.Read.{Read}
 use Rattle.datagram.specs.declared.Read.the-variants.{Good, Refused}
+use Rattle.datagram.proofs.Larger.{passed}
 use Rattle.steps.specs.declared.Answer.the-variants as answer
 use Rattle.steps.specs.Receive.{Machine, After, stay, sound, decide, act, receive, step}
 use Rattle.steps.proofs.Branches.{step-unsound}
 use Rattle.steps.proofs.Numbers.{said-number, refusal-number}
 use Rattle.log.specs.declared.reader.Limits.{Limits}
 use Rattle.within_limits.specs.Within.{readWithin, stepWithin}
-use Rattle.within_limits.proofs.Readers.{passed, within-good}
+use Rattle.within_limits.proofs.Readers.{within-good}
 use Rattle.within_limits.proofs.Withins.{step-good, step-nine, step-refused}
 
 clash : {X : Type 0} {k : ℕ} {h : Header} → Refused k ≡ Good h → X

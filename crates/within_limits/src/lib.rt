@@ -1,7 +1,6 @@
 // The receiver over a log's datagrams: the log's limits bind beside the slot size. They never concern small messages.
 ghost use mathlib.Core.Path.{_≡_};
 ghost use Prim.Native.Nat.{min};
-ghost use lib.ListN.{length};
 ghost use Rattle.datagram.specs.Limits.{maxFragments};
 ghost use Rattle.steps.specs.Slots.{noName};
 ghost use Rattle.steps.specs.declared.Answer.the-variants.{Refused};

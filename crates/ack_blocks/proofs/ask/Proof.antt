@@ -10,13 +10,10 @@ returns c =
     let a = c .before .before .args in
     sym (asked-long (a .b .now) (a .n) (c .if1 .taken))
 
-walk-requires : tie.Need-walk-requires
-walk-requires c κs = search needs
-
 returns-2 : tie.Need-returns-2
 returns-2 c =
     let a = c .before .before .before .args in
     c .walk .ensures ∙ sym (asked-fits (a .b .now) (a .n) (c .before .if1 .left))
 
 pub ask-spec : {M : Type 1} → statement M
-ask-spec = tie.close (tie.spec returns walk-requires returns-2)
+ask-spec = tie.close (tie.spec returns (λ c κs. search needs) returns-2)

@@ -7,21 +7,12 @@ use borrow.Author.Needs.{needs}
 use Rattle.ack_blocks.proofs.fault_at.Statement.{statement}
 use Rattle.ack_blocks.proofs.fault_at.Tie as tie
 
-kind-at-requires : tie.Need-kind-at-requires
-kind-at-requires c κs = search needs
-
 returns : tie.Need-returns
 returns c =
     let a = c .before .before .before .args in
     let s = drop (a .at) (a .b .now) in
     let k = c .before in
     sym (fault-kind s (omega (arith, k .kind-at .ensures)))
-
-sub-if2 : tie.Need-sub-if2
-sub-if2 c = search needs
-
-size-at-requires : tie.Need-size-at-requires
-size-at-requires c κs = search needs
 
 returns-2 : tie.Need-returns-2
 returns-2 c =
@@ -32,9 +23,6 @@ returns-2 c =
     let s = drop (a .at) (a .b .now) in
     sym (fault-cut s (omega (arith, k .kind-at .ensures)) (omega (arith, at-size-at .size-at .ensures .0, length-drop (a .at) (a .b .now))))
 
-run-fault-requires : tie.Need-run-fault-requires
-run-fault-requires c κs = search needs
-
 returns-3 : tie.Need-returns-3
 returns-3 c =
     let at-if3 = c .before in
@@ -44,9 +32,6 @@ returns-3 c =
     let a = start .args in
     let s = drop (a .at) (a .b .now) in
     c .run-fault .ensures ∙ sym (fault-run s (omega (arith, k .kind-at .ensures)) (omega (arith, z .size-at .ensures .0, length-drop (a .at) (a .b .now))) (sym (k .kind-at .ensures) ∙ at-if3 .if3 .taken))
-
-map-fault-requires : tie.Need-map-fault-requires
-map-fault-requires c κs = search needs
 
 returns-4 : tie.Need-returns-4
 returns-4 c =
@@ -73,13 +58,13 @@ pub fault-at-spec : {M : Type 1} → statement M
 fault-at-spec =
     tie.close
     (tie.spec
-    kind-at-requires
+    (λ c κs. search needs)
     returns
-    sub-if2
-    size-at-requires
+    (λ c. search needs)
+    (λ c κs. search needs)
     returns-2
-    run-fault-requires
+    (λ c κs. search needs)
     returns-3
-    map-fault-requires
+    (λ c κs. search needs)
     returns-4
     returns-5)

@@ -9,12 +9,6 @@ use borrow.Author.Needs.{needs}
 use Rattle.ack_blocks.proofs.field.Statement.{statement}
 use Rattle.ack_blocks.proofs.field.Tie as tie
 
-add-number : tie.Need-add-number
-add-number c = search needs
-
-number-requires : tie.Need-number-requires
-number-requires c κs = search needs
-
 returns : tie.Need-returns
 returns c =
     let a = c .before .before .args in
@@ -25,4 +19,4 @@ returns c =
     )
 
 pub field-spec : {M : Type 1} → statement M
-field-spec = tie.close (tie.spec add-number number-requires returns)
+field-spec = tie.close (tie.spec (λ c. search needs) (λ c κs. search needs) returns)

@@ -10,12 +10,6 @@ use borrow.Author.Needs.{needs}
 use Rattle.ack_blocks.proofs.has_at.Statement.{statement}
 use Rattle.ack_blocks.proofs.has_at.Tie as tie
 
-kind-at-requires : tie.Need-kind-at-requires
-kind-at-requires c κs = search needs
-
-field-requires : tie.Need-field-requires
-field-requires c κs = search needs
-
 returns : tie.Need-returns
 returns c =
     let at-field = c .before in
@@ -24,12 +18,6 @@ returns c =
     let a = start .args in
     let s = drop (a .at) (a .b .now) in
     ap (λ (x : ℕ). eqb (a .n) x) (at-field .field .ensures .0) ∙ ap (λ (k : Block). has k (a .n)) (sym (block-single s (sym (at-kind-at .kind-at .ensures) ∙ c .if1 .taken)))
-
-field-requires-2 : tie.Need-field-requires-2
-field-requires-2 c κs = search needs
-
-is-between-requires : tie.Need-is-between-requires
-is-between-requires c κs = search needs
 
 returns-2 : tie.Need-returns-2
 returns-2 c =
@@ -43,9 +31,6 @@ returns-2 c =
     c .is-between .ensures
     ∙ (λ i. between (at-field .field .ensures .0 i) (at-field2 .field2 .ensures .0 i) (a .n))
     ∙ ap (λ (k : Block). has k (a .n)) (sym (block-run s (sym (k .kind-at .ensures) ∙ at-if2 .if2 .taken)))
-
-map-has-requires : tie.Need-map-has-requires
-map-has-requires c κs = search needs
 
 returns-3 : tie.Need-returns-3
 returns-3 c =
@@ -65,11 +50,11 @@ pub has-at-spec : {M : Type 1} → statement M
 has-at-spec =
     tie.close
     (tie.spec
-    kind-at-requires
-    field-requires
+    (λ c κs. search needs)
+    (λ c κs. search needs)
     returns
-    field-requires-2
-    is-between-requires
+    (λ c κs. search needs)
+    (λ c κs. search needs)
     returns-2
-    map-has-requires
+    (λ c κs. search needs)
     returns-3)

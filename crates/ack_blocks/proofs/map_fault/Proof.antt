@@ -10,23 +10,11 @@ use borrow.Author.Needs.{needs}
 use Rattle.ack_blocks.proofs.map_fault.Statement.{statement}
 use Rattle.ack_blocks.proofs.map_fault.Tie as tie
 
-bits-at-requires : tie.Need-bits-at-requires
-bits-at-requires c κs = search needs
-
 returns : tie.Need-returns
 returns c =
     let a = c .before .before .before .args in
     let s = drop (a .at) (a .b .now) in
     sym (map-none s (sym (c .before .bits-at .ensures .0) ∙ c .if1 .taken))
-
-field-requires : tie.Need-field-requires
-field-requires c κs = search needs
-
-sub-if2 : tie.Need-sub-if2
-sub-if2 c = search needs
-
-sub-if2-2 : tie.Need-sub-if2-2
-sub-if2-2 c = search needs
 
 returns-2 : tie.Need-returns-2
 returns-2 c =
@@ -38,24 +26,6 @@ returns-2 c =
     let s = drop (a .at) (a .b .now) in
     let k = at-bits-at .bits-at .ensures .0 in
     sym (map-over s (λ h. at-if1 .if1 .left (k ∙ h)) (omega (arith, k, at-field .field .ensures .0)))
-
-map-bytes-requires : tie.Need-map-bytes-requires
-map-bytes-requires c κs = search needs
-
-mul-unused : tie.Need-mul-unused
-mul-unused c = search needs
-
-sub-unused : tie.Need-sub-unused
-sub-unused c = search needs
-
-shl-step : tie.Need-shl-step
-shl-step c = search needs
-
-add-field : tie.Need-add-field
-add-field c = search needs
-
-field-requires-2 : tie.Need-field-requires-2
-field-requires-2 c κs = search needs
 
 -- its last number is not above the largest
 fits : (e : tie.Else2) → let a = e .before .before .before .before .before .args in
@@ -107,18 +77,18 @@ pub map-fault-spec : {M : Type 1} → statement M
 map-fault-spec =
     tie.close
     (tie.spec
-    bits-at-requires
+    (λ c κs. search needs)
     returns
-    field-requires
-    sub-if2
-    sub-if2-2
+    (λ c κs. search needs)
+    (λ c. search needs)
+    (λ c. search needs)
     returns-2
-    map-bytes-requires
-    mul-unused
-    sub-unused
-    shl-step
-    add-field
-    field-requires-2
+    (λ c κs. search needs)
+    (λ c. search needs)
+    (λ c. search needs)
+    (λ c. search needs)
+    (λ c. search needs)
+    (λ c κs. search needs)
     rem-if3
     returns-3
     returns-4)

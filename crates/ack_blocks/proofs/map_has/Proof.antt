@@ -16,9 +16,6 @@ returns c =
     let s = drop (a .at) (a .b .now) in
     sym (map-before (a .first) (bitsIn s) (mapIn s) (a .n) (c .if1 .taken))
 
-bits-at-requires : tie.Need-bits-at-requires
-bits-at-requires c κs = search needs
-
 returns-2 : tie.Need-returns-2
 returns-2 c =
     let at-bits-at = c .before in
@@ -27,18 +24,6 @@ returns-2 c =
     let a = start .args in
     let s = drop (a .at) (a .b .now) in
     sym (map-past (a .first) (bitsIn s) (mapIn s) (a .n) (at-if1 .if1 .left) (omega (arith, at-bits-at .bits-at .ensures .0)))
-
-add-field : tie.Need-add-field
-add-field c = search needs
-
-field-requires : tie.Need-field-requires
-field-requires c κs = search needs
-
-sub-result : tie.Need-sub-result
-sub-result c = search needs
-
-shr-result : tie.Need-shr-result
-shr-result c = search needs
 
 returns-3 : tie.Need-returns-3
 returns-3 c =
@@ -57,10 +42,10 @@ map-has-spec =
     tie.close
     (tie.spec
     returns
-    bits-at-requires
+    (λ c κs. search needs)
     returns-2
-    add-field
-    field-requires
-    sub-result
-    shr-result
+    (λ c. search needs)
+    (λ c κs. search needs)
+    (λ c. search needs)
+    (λ c. search needs)
     returns-3)

@@ -8,12 +8,6 @@ use borrow.Author.Needs.{needs}
 use Rattle.ack_blocks.proofs.run_fault.Statement.{statement}
 use Rattle.ack_blocks.proofs.run_fault.Tie as tie
 
-field-requires : tie.Need-field-requires
-field-requires c κs = search needs
-
-field-requires-2 : tie.Need-field-requires-2
-field-requires-2 c κs = search needs
-
 returns : tie.Need-returns
 returns c =
     let at-field2 = c .before in
@@ -33,4 +27,4 @@ returns-2 c =
     sym (rw (le-ltb (lastIn s) (firstIn s) (omega (arith, at-field2 .field2 .ensures .0, at-field .field .ensures .0))))
 
 pub run-fault-spec : {M : Type 1} → statement M
-run-fault-spec = tie.close (tie.spec field-requires field-requires-2 returns returns-2)
+run-fault-spec = tie.close (tie.spec (λ c κs. search needs) (λ c κs. search needs) returns returns-2)

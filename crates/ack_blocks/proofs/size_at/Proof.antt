@@ -9,9 +9,6 @@ use borrow.Author.Needs.{needs}
 use Rattle.ack_blocks.proofs.size_at.Statement.{statement}
 use Rattle.ack_blocks.proofs.size_at.Tie as tie
 
-kind-at-requires : tie.Need-kind-at-requires
-kind-at-requires c κs = search needs
-
 returns : tie.Need-returns
 returns c =
     let a = c .before .before .before .args in
@@ -25,15 +22,6 @@ returns-2 c =
     let a = start .args in
     let s = drop (a .at) (a .b .now) in
     (sym (size-run s (sym (at-kind-at .kind-at .ensures) ∙ c .if2 .taken)), (omega arith, omega arith))
-
-bits-at-requires : tie.Need-bits-at-requires
-bits-at-requires c κs = search needs
-
-map-bytes-requires : tie.Need-map-bytes-requires
-map-bytes-requires c κs = search needs
-
-add-result : tie.Need-add-result
-add-result c = search needs
 
 returns-3 : tie.Need-returns-3
 returns-3 c =
@@ -52,10 +40,10 @@ pub size-at-spec : {M : Type 1} → statement M
 size-at-spec =
     tie.close
     (tie.spec
-    kind-at-requires
+    (λ c κs. search needs)
     returns
     returns-2
-    bits-at-requires
-    map-bytes-requires
-    add-result
+    (λ c κs. search needs)
+    (λ c κs. search needs)
+    (λ c. search needs)
     returns-3)

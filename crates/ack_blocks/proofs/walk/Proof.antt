@@ -5,7 +5,7 @@ use native.Mathlib.Omega.{arith}
 use lib.ListN.{length, drop}
 use mathlib.Core.Bool.{Bool, _||_}
 use Rattle.ack_blocks.specs.Read.{gives, refuses, blocksIn, told}
-use Rattle.ack_blocks.specs.Walk.{also}
+use Rattle.ack_blocks.specs.InsideWalk.{also}
 use Rattle.ack_blocks.proofs.Walks.{also-none, walk-next, walk-bad, walk-end}
 use borrow.Author.Needs.{needs}
 use Rattle.ack_blocks.proofs.walk.Statement.{statement}
@@ -35,21 +35,6 @@ returns c =
     let l = turn .loop in
     let e = at-fault-at .fault-at .ensures in
     sym (l .inv ∙ walk-bad (a .b .now) (l .found) (a .n) (l .at) (at-loop-test .loop-test .taken) (λ h. c .if1 .taken (e ∙ h)) ∙ ap refuses (sym e))
-
-has-at-requires : tie.Need-has-at-requires Inv-loop μ-loop
-has-at-requires c κs = search needs
-
-either-of-requires : tie.Need-either-of-requires Inv-loop μ-loop
-either-of-requires c κs = search needs
-
-size-at-requires : tie.Need-size-at-requires Inv-loop μ-loop
-size-at-requires c κs = search needs
-
-add-at : tie.Need-add-at Inv-loop μ-loop
-add-at c = search needs
-
-loop-less : tie.Need-loop-less Inv-loop μ-loop
-loop-less c = search needs
 
 loop-again : tie.Need-loop-again Inv-loop μ-loop
 loop-again c =
@@ -94,11 +79,11 @@ walk-spec =
     loop-holds
     fault-at-requires
     returns
-    has-at-requires
-    either-of-requires
-    size-at-requires
-    add-at
-    loop-less
+    (λ c κs. search needs)
+    (λ c κs. search needs)
+    (λ c κs. search needs)
+    (λ c. search needs)
+    (λ c. search needs)
     loop-again
     returns-2
     returns-3)

@@ -12,15 +12,6 @@ use borrow.Author.Needs.{needs}
 use Rattle.ack_bytes.proofs.one_more.Statement.{statement}
 use Rattle.ack_bytes.proofs.one_more.Tie as tie
 
-pour-decimal-requires : tie.Need-pour-decimal-requires
-pour-decimal-requires c κs = search needs
-
-pour-longer-requires : tie.Need-pour-longer-requires
-pour-longer-requires c κs = search needs
-
-same-length : tie.Need-same-length
-same-length c = search needs
-
 returns : tie.Need-returns
 returns c =
     let at-pour-longer = c .before .before in
@@ -29,12 +20,6 @@ returns c =
     let start = at-pour-decimal .before .before .before .before .before .before in
     let a = start .args in
     pours-is (pours-then (at-pour-decimal .pour-decimal .ensures) (at-pour-longer .pour-longer .ensures)) (line-longer (a .n) (a .body .now) (at-if1 .if1 .taken))
-
-pour-refused-requires : tie.Need-pour-refused-requires
-pour-refused-requires c κs = search needs
-
-same-length-2 : tie.Need-same-length-2
-same-length-2 c = search needs
 
 returns-2 : tie.Need-returns-2
 returns-2 c =
@@ -45,27 +30,6 @@ returns-2 c =
     let start = at-pour-decimal .before .before .before .before .before .before in
     let a = start .args in
     pours-is (pours-then (at-pour-decimal .pour-decimal .ensures) (at-pour-refused .pour-refused .ensures)) (line-cut (a .n) (a .body .now) (at-if1 .if1 .left) (at-if2 .if2 .taken))
-
-take-list-requires : tie.Need-take-list-requires
-take-list-requires c κs = search needs
-
-front-requires : tie.Need-front-requires
-front-requires c κs = search needs
-
-write-blocks-requires : tie.Need-write-blocks-requires
-write-blocks-requires c κs = search needs
-
-pour-written-requires : tie.Need-pour-written-requires
-pour-written-requires c κs = search needs
-
-same-length-3 : tie.Need-same-length-3
-same-length-3 c = search needs
-
-same-length-4 : tie.Need-same-length-4
-same-length-4 c = search needs
-
-same-length-5 : tie.Need-same-length-5
-same-length-5 c = search needs
 
 returns-3 : tie.Need-returns-3
 returns-3 c =
@@ -93,18 +57,18 @@ pub one-more-spec : {M : Type 1} → statement M
 one-more-spec =
     tie.close
     (tie.spec
-    pour-decimal-requires
-    pour-longer-requires
-    same-length
+    (λ c κs. search needs)
+    (λ c κs. search needs)
+    (λ c. search needs)
     returns
-    pour-refused-requires
-    same-length-2
+    (λ c κs. search needs)
+    (λ c. search needs)
     returns-2
-    take-list-requires
-    front-requires
-    write-blocks-requires
-    pour-written-requires
-    same-length-3
-    same-length-4
-    same-length-5
+    (λ c κs. search needs)
+    (λ c κs. search needs)
+    (λ c κs. search needs)
+    (λ c κs. search needs)
+    (λ c. search needs)
+    (λ c. search needs)
+    (λ c. search needs)
     returns-3)

@@ -5,15 +5,6 @@ use borrow.Author.Needs.{needs}
 use Rattle.ack_bytes.proofs.pour_bytes.Statement.{statement}
 use Rattle.ack_bytes.proofs.pour_bytes.Tie as tie
 
-slice-aggregate-pour : tie.Need-slice-aggregate-pour
-slice-aggregate-pour c = search needs
-
-pour-requires : tie.Need-pour-requires
-pour-requires c κs = search needs
-
-same-length : tie.Need-same-length
-same-length c = search needs
-
 returns : tie.Need-returns
 returns c =
     let at-pour = c .before .before in
@@ -21,24 +12,6 @@ returns c =
     let start = at-if1 .before .before .before in
     let a = start .args in
     pours-is (at-pour .pour .ensures) (bytes-none (a .blocks .now) (at-if1 .if1 .taken))
-
-slice-aggregate-pour-2 : tie.Need-slice-aggregate-pour-2
-slice-aggregate-pour-2 c = search needs
-
-pour-requires-2 : tie.Need-pour-requires-2
-pour-requires-2 c κs = search needs
-
-pour-hex-requires : tie.Need-pour-hex-requires
-pour-hex-requires c κs = search needs
-
-slice-aggregate-pour-3 : tie.Need-slice-aggregate-pour-3
-slice-aggregate-pour-3 c = search needs
-
-pour-requires-3 : tie.Need-pour-requires-3
-pour-requires-3 c κs = search needs
-
-same-length-2 : tie.Need-same-length-2
-same-length-2 c = search needs
 
 returns-2 : tie.Need-returns-2
 returns-2 c =
@@ -55,14 +28,14 @@ pub pour-bytes-spec : {M : Type 1} → statement M
 pour-bytes-spec =
     tie.close
     (tie.spec
-    slice-aggregate-pour
-    pour-requires
-    same-length
+    (λ c. search needs)
+    (λ c κs. search needs)
+    (λ c. search needs)
     returns
-    slice-aggregate-pour-2
-    pour-requires-2
-    pour-hex-requires
-    slice-aggregate-pour-3
-    pour-requires-3
-    same-length-2
+    (λ c. search needs)
+    (λ c κs. search needs)
+    (λ c κs. search needs)
+    (λ c. search needs)
+    (λ c κs. search needs)
+    (λ c. search needs)
     returns-2)

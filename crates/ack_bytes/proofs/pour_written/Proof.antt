@@ -6,24 +6,6 @@ use borrow.Author.Needs.{needs}
 use Rattle.ack_bytes.proofs.pour_written.Statement.{statement}
 use Rattle.ack_bytes.proofs.pour_written.Tie as tie
 
-enum-known-w : tie.Need-enum-known-w
-enum-known-w c = search needs
-
-part-requires : tie.Need-part-requires
-part-requires c κs = search needs
-
-pour-bytes-requires : tie.Need-pour-bytes-requires
-pour-bytes-requires c κs = search needs
-
-enum-known-w-2 : tie.Need-enum-known-w-2
-enum-known-w-2 c = search needs
-
-pour-refused-requires : tie.Need-pour-refused-requires
-pour-refused-requires c κs = search needs
-
-same-length : tie.Need-same-length
-same-length c = search needs
-
 returns : tie.Need-returns
 returns c =
     let at-pour-bytes = c .before .before in
@@ -33,9 +15,6 @@ returns c =
     let a = start .args in
     pours-is (at-pour-bytes .pour-bytes .ensures)
     (ap bytesText (at-part .part .ensures) ∙ ap (writtenText (a .blocks .now)) (sym (at-w .w .given .1)))
-
-same-length-2 : tie.Need-same-length-2
-same-length-2 c = search needs
 
 returns-2 : tie.Need-returns-2
 returns-2 c =
@@ -49,12 +28,12 @@ pub pour-written-spec : {M : Type 1} → statement M
 pour-written-spec =
     tie.close
     (tie.spec
-    enum-known-w
-    part-requires
-    pour-bytes-requires
-    enum-known-w-2
-    pour-refused-requires
-    same-length
+    (λ c. search needs)
+    (λ c κs. search needs)
+    (λ c κs. search needs)
+    (λ c. search needs)
+    (λ c κs. search needs)
+    (λ c. search needs)
     returns
-    same-length-2
+    (λ c. search needs)
     returns-2)

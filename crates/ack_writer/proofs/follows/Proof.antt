@@ -9,13 +9,10 @@ returns c =
     let a = c .before .args in
     follows-zero (a .last) (a .x) (c .if1 .taken)
 
-sub-result : tie.Need-sub-result
-sub-result c = search needs
-
 returns-2 : tie.Need-returns-2
 returns-2 c =
     let a = c .before .args in
     follows-some (a .last) (a .x) (c .if1 .left)
 
 pub follows-spec : {M : Type 1} → statement M
-follows-spec = tie.close (tie.spec returns sub-result returns-2)
+follows-spec = tie.close (tie.spec returns (λ c. search needs) returns-2)

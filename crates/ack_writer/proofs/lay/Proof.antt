@@ -21,9 +21,6 @@ loop-holds c =
     let a = c .before .before .args in
     sofar-start (a .list .now) (a .blocks .now)
 
-run-from-requires : tie.Need-run-from-requires Inv-loop μ-loop
-run-from-requires c κs = search needs
-
 same-length : tie.Need-same-length Inv-loop μ-loop
 same-length c = c .before .before .before .before .loop .inv .size
 
@@ -40,15 +37,6 @@ returns c =
       laid = λ n e. absurd (let z : _≡_ {A = ℕ} 0 1 = cc in omega arith);
     }
 
-mul-put-next : tie.Need-mul-put-next Inv-loop μ-loop
-mul-put-next c = search needs
-
-shared-slice-read-put-next : tie.Need-shared-slice-read-put-next Inv-loop μ-loop
-shared-slice-read-put-next c = search needs
-
-put-next-requires : tie.Need-put-next-requires Inv-loop μ-loop
-put-next-requires c κs = search needs
-
 loop-less : tie.Need-loop-less Inv-loop μ-loop
 loop-less c = let r = c .before .before .before .before .before .before .before .run-from .ensures in omega (arith, r .after, r .inside)
 
@@ -64,9 +52,6 @@ loop-again c =
     let r = at-run-from .run-from .ensures in
     let u = not-false _ (at-if1 .if1 .left) in
     sofar-next (a .list .now) (a .blocks .now) (l .blocks) _ (l .at) (l .i) _ _ _ (l .inv) r u (at-put-next .put-next .ensures)
-
-room-for-requires : tie.Need-room-for-requires Inv-loop μ-loop
-room-for-requires c κs = search needs
 
 same-length-2 : tie.Need-same-length-2 Inv-loop μ-loop
 same-length-2 c = c .before .before .loop .inv .size
@@ -92,14 +77,14 @@ lay-spec =
     Inv-loop
     μ-loop
     loop-holds
-    run-from-requires
+    (λ c κs. search needs)
     same-length
     returns
-    mul-put-next
-    shared-slice-read-put-next
-    put-next-requires
+    (λ c. search needs)
+    (λ c. search needs)
+    (λ c κs. search needs)
     loop-less
     loop-again
-    room-for-requires
+    (λ c κs. search needs)
     same-length-2
     returns-2)

@@ -11,18 +11,6 @@ use borrow.Author.Needs.{needs}
 use Rattle.ack_writer.proofs.put_block.Statement.{statement}
 use Rattle.ack_writer.proofs.put_block.Tie as tie
 
-put-number-requires : tie.Need-put-number-requires
-put-number-requires c κs = search needs
-
-add-put-number : tie.Need-add-put-number
-add-put-number c = search needs
-
-put-number-requires-2 : tie.Need-put-number-requires-2
-put-number-requires-2 c κs = search needs
-
-same-length : tie.Need-same-length
-same-length c = search needs
-
 returns : tie.Need-returns
 returns c =
     let k2 = c .before .before in
@@ -32,24 +20,6 @@ returns c =
     let a = start .args in
     put-next (a .out .now) _ _ _ _ (a .at) _ (k1 .put-number .ensures) (ap (λ (n : ℕ). a .at + n) (sym (length-bytes 1 0))) (k2 .put-number2 .ensures)
     ∙ ap (λ (k : Block). overlay (a .out .now) (a .at) (blockBytes k)) (sym (one-single (a .first) (a .last) (at-if1 .if1 .taken)))
-
-put-number-requires-3 : tie.Need-put-number-requires-3
-put-number-requires-3 c κs = search needs
-
-add-put-number-2 : tie.Need-add-put-number-2
-add-put-number-2 c = search needs
-
-put-number-requires-4 : tie.Need-put-number-requires-4
-put-number-requires-4 c κs = search needs
-
-add-put-number-3 : tie.Need-add-put-number-3
-add-put-number-3 c = search needs
-
-put-number-requires-5 : tie.Need-put-number-requires-5
-put-number-requires-5 c κs = search needs
-
-same-length-2 : tie.Need-same-length-2
-same-length-2 c = search needs
 
 returns-2 : tie.Need-returns-2
 returns-2 c =
@@ -67,15 +37,15 @@ pub put-block-spec : {M : Type 1} → statement M
 put-block-spec =
     tie.close
     (tie.spec
-    put-number-requires
-    add-put-number
-    put-number-requires-2
-    same-length
+    (λ c κs. search needs)
+    (λ c. search needs)
+    (λ c κs. search needs)
+    (λ c. search needs)
     returns
-    put-number-requires-3
-    add-put-number-2
-    put-number-requires-4
-    add-put-number-3
-    put-number-requires-5
-    same-length-2
+    (λ c κs. search needs)
+    (λ c. search needs)
+    (λ c κs. search needs)
+    (λ c. search needs)
+    (λ c κs. search needs)
+    (λ c. search needs)
     returns-2)

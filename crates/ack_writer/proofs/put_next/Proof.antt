@@ -12,18 +12,6 @@ returns c =
     let t = c .if1 .taken in
     record { on = omega arith; size = refl; next = λ h. absurd (omega (arith, t, h)); put = λ h. absurd (omega (arith, t, h)) }
 
-put-block-requires : tie.Need-put-block-requires
-put-block-requires c κs = search needs
-
-block-length-requires : tie.Need-block-length-requires
-block-length-requires c κs = search needs
-
-add-result : tie.Need-add-result
-add-result c = search needs
-
-same-length : tie.Need-same-length
-same-length c = search needs
-
 returns-2 : tie.Need-returns-2
 returns-2 c =
     let p = c .before .before .before .put-block .ensures in
@@ -31,4 +19,4 @@ returns-2 c =
     record { on = omega arith; size = ap length p ∙ simp length-overlay; next = λ h. omega (arith, b); put = λ h. p }
 
 pub put-next-spec : {M : Type 1} → statement M
-put-next-spec = tie.close (tie.spec returns put-block-requires block-length-requires add-result same-length returns-2)
+put-next-spec = tie.close (tie.spec returns (λ c κs. search needs) (λ c κs. search needs) (λ c. search needs) (λ c. search needs) returns-2)

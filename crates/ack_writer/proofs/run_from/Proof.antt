@@ -19,28 +19,10 @@ Inv-loop list from last₀ i₀ last i =
 abbrev μ-loop : tie.MeasureT-loop
 μ-loop list from last₀ i₀ last i = length list - i
 
-mul-last : tie.Need-mul-last Inv-loop μ-loop
-mul-last c = search needs
-
-shared-slice-read-last : tie.Need-shared-slice-read-last Inv-loop μ-loop
-shared-slice-read-last c = search needs
-
-add-i : tie.Need-add-i Inv-loop μ-loop
-add-i c = search needs
-
 loop-holds : tie.Need-loop-holds Inv-loop μ-loop
 loop-holds c =
     let a = c .before .before .args in
     (omega arith, (omega arith, (rising-start (a .list .now) (a .from) (omega arith), blocks-start (a .list .now) (a .from) (omega arith))))
-
-mul-x : tie.Need-mul-x Inv-loop μ-loop
-mul-x c = search needs
-
-shared-slice-read-x : tie.Need-shared-slice-read-x Inv-loop μ-loop
-shared-slice-read-x c = search needs
-
-follows-requires : tie.Need-follows-requires Inv-loop μ-loop
-follows-requires c κs = search needs
 
 returns : tie.Need-returns Inv-loop μ-loop
 returns c =
@@ -56,12 +38,6 @@ returns c =
       rise = l .inv .1 .1 .0 ∙ rising-breaks (a .list .now) (l .last) (l .i) (at-loop-test .loop-test .taken);
       blocks = l .inv .1 .1 .1 ∙ run-breaks (a .list .now) _ (l .last) (l .i) (at-loop-test .loop-test .taken) (sym (at-follows .follows .ensures) ∙ not-true _ (c .if1 .taken));
     }
-
-add-i-2 : tie.Need-add-i-2 Inv-loop μ-loop
-add-i-2 c = search needs
-
-loop-less : tie.Need-loop-less Inv-loop μ-loop
-loop-less c = search needs
 
 loop-again : tie.Need-loop-again Inv-loop μ-loop
 loop-again c =
@@ -94,15 +70,15 @@ run-from-spec =
     (tie.spec
     Inv-loop
     μ-loop
-    mul-last
-    shared-slice-read-last
-    add-i
+    (λ c. search needs)
+    (λ c. search needs)
+    (λ c. search needs)
     loop-holds
-    mul-x
-    shared-slice-read-x
-    follows-requires
+    (λ c. search needs)
+    (λ c. search needs)
+    (λ c κs. search needs)
     returns
-    add-i-2
-    loop-less
+    (λ c. search needs)
+    (λ c. search needs)
     loop-again
     returns-2)

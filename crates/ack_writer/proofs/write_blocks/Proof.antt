@@ -12,12 +12,6 @@ use Rattle.ack_writer.proofs.write_blocks.Tie as tie
 slice-aggregate-lay : tie.Need-slice-aggregate-lay
 slice-aggregate-lay c = sym (length-replicate {A = ℕ} maxBlocks 0)
 
-lay-requires : tie.Need-lay-requires
-lay-requires c κs = search needs
-
-enum-known-r : tie.Need-enum-known-r
-enum-known-r c = search needs
-
 enum-told : tie.Need-enum-told
 enum-told c = search needs
 
@@ -39,12 +33,6 @@ array-share-prefix-blocks c =
 slice-aggregate-put-bytes : tie.Need-slice-aggregate-put-bytes
 slice-aggregate-put-bytes c = front-size _ _ (array-share-prefix-blocks (c .before))
 
-put-bytes-requires : tie.Need-put-bytes-requires
-put-bytes-requires c κs = search needs
-
-same-length : tie.Need-same-length
-same-length c = search needs
-
 returns-2 : tie.Need-returns-2
 returns-2 c =
     let at-put-bytes = c .before .before in
@@ -59,12 +47,12 @@ write-blocks-spec =
     tie.close
     (tie.spec
     slice-aggregate-lay
-    lay-requires
-    enum-known-r
+    (λ c κs. search needs)
+    (λ c. search needs)
     enum-told
     returns
     array-share-prefix-blocks
     slice-aggregate-put-bytes
-    put-bytes-requires
-    same-length
+    (λ c κs. search needs)
+    (λ c. search needs)
     returns-2)

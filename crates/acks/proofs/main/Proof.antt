@@ -10,9 +10,6 @@ slice-aggregate-run c = zeros _
 slice-aggregate-run-2 : tie.Need-slice-aggregate-run-2
 slice-aggregate-run-2 c = zeros _
 
-run-requires : tie.Need-run-requires
-run-requires c κs = search needs
-
 returns : tie.Need-returns
 returns c = tt
 
@@ -22,5 +19,5 @@ main-spec =
     (tie.spec
     slice-aggregate-run
     slice-aggregate-run-2
-    run-requires
+    (λ c κs. search needs)
     returns)

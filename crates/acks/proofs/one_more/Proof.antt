@@ -14,15 +14,6 @@ use borrow.Author.Needs.{needs}
 use Rattle.acks.proofs.one_more.Statement.{statement}
 use Rattle.acks.proofs.one_more.Tie as tie
 
-pour-decimal-requires : tie.Need-pour-decimal-requires
-pour-decimal-requires c κs = search needs
-
-pour-refused-requires : tie.Need-pour-refused-requires
-pour-refused-requires c κs = search needs
-
-same-length : tie.Need-same-length
-same-length c = search needs
-
 returns : tie.Need-returns
 returns c =
     let at-pour-refused = c .before .before in
@@ -33,21 +24,6 @@ returns c =
     let d = place in
     pours-is (pours-then (d .pour-decimal .ensures) (at-pour-refused .pour-refused .ensures))
     (ap (λ (g : Given Bool). decimal (a .n) ++ answerText g) (sym (answer-short (a .b .now) (at-if1 .if1 .taken))))
-
-number-requires : tie.Need-number-requires
-number-requires c κs = search needs
-
-part-requires : tie.Need-part-requires
-part-requires c κs = search needs
-
-ask-requires : tie.Need-ask-requires
-ask-requires c κs = search needs
-
-pour-answer-requires : tie.Need-pour-answer-requires
-pour-answer-requires c κs = search needs
-
-same-length-2 : tie.Need-same-length-2
-same-length-2 c = search needs
 
 returns-2 : tie.Need-returns-2
 returns-2 c =
@@ -70,13 +46,13 @@ pub one-more-spec : {M : Type 1} → statement M
 one-more-spec =
     tie.close
     (tie.spec
-    pour-decimal-requires
-    pour-refused-requires
-    same-length
+    (λ c κs. search needs)
+    (λ c κs. search needs)
+    (λ c. search needs)
     returns
-    number-requires
-    part-requires
-    ask-requires
-    pour-answer-requires
-    same-length-2
+    (λ c κs. search needs)
+    (λ c κs. search needs)
+    (λ c κs. search needs)
+    (λ c κs. search needs)
+    (λ c. search needs)
     returns-2)

@@ -11,47 +11,17 @@ use Rattle.acks.proofs.pour_answer.Tie as tie
 enum-told : tie.Need-enum-told
 enum-told c = search needs
 
-slice-aggregate-pour : tie.Need-slice-aggregate-pour
-slice-aggregate-pour c = search needs
-
-pour-requires : tie.Need-pour-requires
-pour-requires c κs = search needs
-
-enum-told-2 : tie.Need-enum-told-2
-enum-told-2 c = search needs
-
-slice-aggregate-pour-2 : tie.Need-slice-aggregate-pour-2
-slice-aggregate-pour-2 c = search needs
-
-pour-requires-2 : tie.Need-pour-requires-2
-pour-requires-2 c κs = search needs
-
-enum-known-a : tie.Need-enum-known-a
-enum-known-a c = search needs
-
-pour-refused-requires : tie.Need-pour-refused-requires
-pour-refused-requires c κs = search needs
-
-same-length : tie.Need-same-length
-same-length c = search needs
-
 returns : tie.Need-returns
 returns c =
     let at-pour = c .before .before in
     let at-enum-told = at-pour .before .before .before in
     pours-is (at-pour .pour .ensures) (ap (λ (x : Answer). answerText (answers x)) (sym (at-enum-told .enum-told .given .1)))
 
-same-length-2 : tie.Need-same-length-2
-same-length-2 c = search needs
-
 returns-2 : tie.Need-returns-2
 returns-2 c =
     let at-pour2 = c .before .before in
     let at-enum-told2 = at-pour2 .before .before .before in
     pours-is (at-pour2 .pour2 .ensures) (ap (λ (x : Answer). answerText (answers x)) (sym (at-enum-told2 .enum-told2 .given .1)))
-
-same-length-3 : tie.Need-same-length-3
-same-length-3 c = search needs
 
 returns-3 : tie.Need-returns-3
 returns-3 c =
@@ -64,16 +34,16 @@ pour-answer-spec =
     tie.close
     (tie.spec
     enum-told
-    slice-aggregate-pour
-    pour-requires
-    enum-told-2
-    slice-aggregate-pour-2
-    pour-requires-2
-    enum-known-a
-    pour-refused-requires
-    same-length
+    (λ c. search needs)
+    (λ c κs. search needs)
+    (λ c. search needs)
+    (λ c. search needs)
+    (λ c κs. search needs)
+    (λ c. search needs)
+    (λ c κs. search needs)
+    (λ c. search needs)
     returns
-    same-length-2
+    (λ c. search needs)
     returns-2
-    same-length-3
+    (λ c. search needs)
     returns-3)

@@ -2,7 +2,7 @@
 use Prim.Native.Nat.{_-_}
 use native.Mathlib.Omega.{arith}
 use lib.ListN.{length}
-use Rattle.checksum.specs.Strides.{Summed}
+use Rattle.checksum.specs.InsideStrides.{Summed}
 use Rattle.wire.specs.Sum.{sum}
 use Rattle.checksum.proofs.Strides.{summed-more}
 use borrow.Author.Needs.{needs}
@@ -19,21 +19,6 @@ loop-holds : tie.Need-loop-holds Inv-loop μ-loop
 unfolding sum
 loop-holds c = search needs
 
-sub-loop : tie.Need-sub-loop Inv-loop μ-loop
-sub-loop c = search needs
-
-sum-of-stride-requires : tie.Need-sum-of-stride-requires Inv-loop μ-loop
-sum-of-stride-requires c κs = search needs
-
-add-t : tie.Need-add-t Inv-loop μ-loop
-add-t c = search needs
-
-add-i : tie.Need-add-i Inv-loop μ-loop
-add-i c = search needs
-
-loop-less : tie.Need-loop-less Inv-loop μ-loop
-loop-less c = search needs
-
 loop-again : tie.Need-loop-again Inv-loop μ-loop
 loop-again c =
     let at = c .before .before in
@@ -42,9 +27,6 @@ loop-again c =
 
 sum-on-by-eight-requires : tie.Need-sum-on-by-eight-requires Inv-loop μ-loop
 sum-on-by-eight-requires c κs = c .before .loop .inv
-
-cast-result : tie.Need-cast-result Inv-loop μ-loop
-cast-result c = search needs
 
 returns : tie.Need-returns Inv-loop μ-loop
 returns c = c .sum-on-by-eight .ensures
@@ -56,12 +38,12 @@ checksum-spec =
     Inv-loop
     μ-loop
     loop-holds
-    sub-loop
-    sum-of-stride-requires
-    add-t
-    add-i
-    loop-less
+    (λ c. search needs)
+    (λ c κs. search needs)
+    (λ c. search needs)
+    (λ c. search needs)
+    (λ c. search needs)
     loop-again
     sum-on-by-eight-requires
-    cast-result
+    (λ c. search needs)
     returns)

@@ -2,7 +2,7 @@
 use Prim.Native.Nat.{_-_}
 use native.Mathlib.Omega.{arith}
 use lib.ListN.{length}
-use Rattle.checksum.specs.Strides.{Summed}
+use Rattle.checksum.specs.InsideStrides.{Summed}
 use Rattle.checksum.proofs.Strides.{summed-more}
 use borrow.Author.Needs.{needs}
 use Rattle.checksum.proofs.sum_on_by_eight.Statement.{statement}
@@ -16,21 +16,6 @@ abbrev μ-loop : tie.MeasureT-loop
 
 loop-holds : tie.Need-loop-holds Inv-loop μ-loop
 loop-holds c = c .before .pre
-
-sub-loop : tie.Need-sub-loop Inv-loop μ-loop
-sub-loop c = search needs
-
-sum-of-eight-requires : tie.Need-sum-of-eight-requires Inv-loop μ-loop
-sum-of-eight-requires c κs = search needs
-
-add-t : tie.Need-add-t Inv-loop μ-loop
-add-t c = search needs
-
-add-i : tie.Need-add-i Inv-loop μ-loop
-add-i c = search needs
-
-loop-less : tie.Need-loop-less Inv-loop μ-loop
-loop-less c = search needs
 
 loop-again : tie.Need-loop-again Inv-loop μ-loop
 loop-again c =
@@ -51,11 +36,11 @@ sum-on-by-eight-spec =
     Inv-loop
     μ-loop
     loop-holds
-    sub-loop
-    sum-of-eight-requires
-    add-t
-    add-i
-    loop-less
+    (λ c. search needs)
+    (λ c κs. search needs)
+    (λ c. search needs)
+    (λ c. search needs)
+    (λ c. search needs)
     loop-again
     sum-on-requires
     returns)

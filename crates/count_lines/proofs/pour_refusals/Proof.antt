@@ -1,9 +1,8 @@
 -- The loop's invariant: the lines of the i numbers passed went out. Assumes nothing.
 use mathlib.Core.Path.{_≡_, refl, ap, _∙_, subst}
-use mathlib.Core.List.{List, _++_}
-use Prim.Native.Nat.{ℕ, _≤_, _-_, _+_}
+use Prim.Native.Nat.{ℕ, _≤_, _-_}
 use native.Mathlib.Omega.{arith}
-use lib.ListN.{length, getD}
+use lib.ListN.{length}
 use borrow.Author.Needs.{needs}
 use Rattle.output.specs.Output.{Pours}
 use Rattle.output.proofs.Sending.{sends-none, pours-then, pours-is}
@@ -21,18 +20,6 @@ abbrev μ-loop : tie.MeasureT-loop
 loop-holds : tie.Need-loop-holds Inv-loop μ-loop
 loop-holds c = let a = c .before .before .args in (omega arith, refl, λ l h. sends-none (a .out .now) (a .at) h)
 
-word-requires : tie.Need-word-requires Inv-loop μ-loop
-word-requires c κs = search needs
-
-pour-refused-requires : tie.Need-pour-refused-requires Inv-loop μ-loop
-pour-refused-requires c κs = search needs
-
-add-i : tie.Need-add-i Inv-loop μ-loop
-add-i c = search needs
-
-loop-less : tie.Need-loop-less Inv-loop μ-loop
-loop-less c = search needs
-
 loop-again : tie.Need-loop-again Inv-loop μ-loop
 loop-again c =
     let p = c .before .before in
@@ -45,9 +32,6 @@ loop-again c =
       c .before .out .given ∙ l .loop .inv .1,
       pours-is (pours-then (l .loop .inv .2) line) (refused-more i refused),
     )
-
-same-length : tie.Need-same-length Inv-loop μ-loop
-same-length c = search needs
 
 returns : tie.Need-returns Inv-loop μ-loop
 returns c =
@@ -63,10 +47,10 @@ pour-refusals-spec =
     Inv-loop
     μ-loop
     loop-holds
-    word-requires
-    pour-refused-requires
-    add-i
-    loop-less
+    (λ c κs. search needs)
+    (λ c κs. search needs)
+    (λ c. search needs)
+    (λ c. search needs)
     loop-again
-    same-length
+    (λ c. search needs)
     returns)

@@ -10,21 +10,6 @@ returns c =
     let a = c .before .before .args in
     λ room within. sends-is (sends-none (a .out .now) (a .at) within) (refused-none (a .number) (a .n) (c .if1 .taken))
 
-slice-aggregate-pour-counted : tie.Need-slice-aggregate-pour-counted
-slice-aggregate-pour-counted c = search needs
-
-pour-counted-requires : tie.Need-pour-counted-requires
-pour-counted-requires c κs = search needs
-
-slice-aggregate-pour-counted-line : tie.Need-slice-aggregate-pour-counted-line
-slice-aggregate-pour-counted-line c = search needs
-
-pour-counted-line-requires : tie.Need-pour-counted-line-requires
-pour-counted-line-requires c κs = search needs
-
-same-length : tie.Need-same-length
-same-length c = search needs
-
 returns-2 : tie.Need-returns-2
 returns-2 c =
     let t = c .before .before in
@@ -38,9 +23,9 @@ pour-refused-spec =
     tie.close
     (tie.spec
     returns
-    slice-aggregate-pour-counted
-    pour-counted-requires
-    slice-aggregate-pour-counted-line
-    pour-counted-line-requires
-    same-length
+    (λ c. search needs)
+    (λ c κs. search needs)
+    (λ c. search needs)
+    (λ c κs. search needs)
+    (λ c. search needs)
     returns-2)

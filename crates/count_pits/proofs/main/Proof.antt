@@ -7,14 +7,5 @@ use Rattle.count_pits.proofs.main.Tie as tie
 slice-aggregate-run : tie.Need-slice-aggregate-run
 slice-aggregate-run c = zeros _
 
-slice-aggregate-run-2 : tie.Need-slice-aggregate-run-2
-slice-aggregate-run-2 c = search needs
-
-run-requires : tie.Need-run-requires
-run-requires c κs = search needs
-
-returns : tie.Need-returns
-returns c = search needs
-
 pub main-spec : {M : Type 1} → statement M
-main-spec = tie.close (tie.spec slice-aggregate-run slice-aggregate-run-2 run-requires returns)
+main-spec = tie.close (tie.spec slice-aggregate-run (λ c. search needs) (λ c κs. search needs) (λ c. search needs))

@@ -7,24 +7,6 @@ use borrow.Author.Needs.{needs}
 use Rattle.count_pits.proofs.pour_log.Statement.{statement}
 use Rattle.count_pits.proofs.pour_log.Tie as tie
 
-count-log-requires : tie.Need-count-log-requires
-count-log-requires c κs = search needs
-
-pour-count-requires : tie.Need-pour-count-requires
-pour-count-requires c κs = search needs
-
-same-length : tie.Need-same-length
-same-length c = search needs
-
-same-length-2 : tie.Need-same-length-2
-same-length-2 c = search needs
-
-same-length-3 : tie.Need-same-length-3
-same-length-3 c = search needs
-
-same-length-4 : tie.Need-same-length-4
-same-length-4 c = search needs
-
 returns : tie.Need-returns
 returns c =
     let p = c .before .before in
@@ -36,10 +18,10 @@ pub pour-log-spec : {M : Type 1} → statement M
 pour-log-spec =
     tie.close
     (tie.spec
-    count-log-requires
-    pour-count-requires
-    same-length
-    same-length-2
-    same-length-3
-    same-length-4
+    (λ c κs. search needs)
+    (λ c κs. search needs)
+    (λ c. search needs)
+    (λ c. search needs)
+    (λ c. search needs)
+    (λ c. search needs)
     returns)

@@ -9,12 +9,6 @@ returns : tie.Need-returns
 unfolding planOf
 returns c = rw (lt-ltb _ _ (c .if1 .taken))
 
-count-of-requires : tie.Need-count-of-requires
-count-of-requires c κs = search needs
-
-cast-if2 : tie.Need-cast-if2
-cast-if2 c = search needs
-
 returns-2 : tie.Need-returns-2
 unfolding planOf
 returns-2 c =
@@ -30,9 +24,6 @@ returns-3 c =
     let at-if1 = at-count-of .before in
     let n = at-count-of .count-of .ensures in
     rw (le-ltb _ _ (at-if1 .if1 .left), le-ltb _ _ (rw n at (at-if2 .if2 .left)), le-leb _ _ (rw n at (c .if3 .taken)))
-
-length-of-requires : tie.Need-length-of-requires
-length-of-requires c κs = search needs
 
 returns-4 : tie.Need-returns-4
 unfolding planOf
@@ -74,10 +65,10 @@ plan-spec =
     tie.close
     (tie.spec
     returns
-    count-of-requires
-    cast-if2
+    (λ c κs. search needs)
+    (λ c. search needs)
     returns-2
     returns-3
-    length-of-requires
+    (λ c κs. search needs)
     returns-4
     returns-5)

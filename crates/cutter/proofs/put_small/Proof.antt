@@ -8,33 +8,6 @@ use borrow.Author.Needs.{needs}
 use Rattle.cutter.proofs.put_small.Statement.{statement}
 use Rattle.cutter.proofs.put_small.Tie as tie
 
-cast-put : tie.Need-cast-put
-cast-put c = search needs
-
-put-requires : tie.Need-put-requires
-put-requires c κs = search needs
-
-put-requires-2 : tie.Need-put-requires-2
-put-requires-2 c κs = search needs
-
-put-bytes-requires : tie.Need-put-bytes-requires
-put-bytes-requires c κs = search needs
-
-add-put : tie.Need-add-put
-add-put c = search needs
-
-put-requires-3 : tie.Need-put-requires-3
-put-requires-3 c κs = search needs
-
-add-put-bytes : tie.Need-add-put-bytes
-add-put-bytes c = search needs
-
-put-bytes-requires-2 : tie.Need-put-bytes-requires-2
-put-bytes-requires-2 c κs = search needs
-
-same-length : tie.Need-same-length
-same-length c = search needs
-
 returns : tie.Need-returns
 unfolding smallBytes
 returns c =
@@ -54,13 +27,13 @@ pub put-small-spec : {M : Type 1} → statement M
 put-small-spec =
     tie.close
     (tie.spec
-    cast-put
-    put-requires
-    put-requires-2
-    put-bytes-requires
-    add-put
-    put-requires-3
-    add-put-bytes
-    put-bytes-requires-2
-    same-length
+    (λ c. search needs)
+    (λ c κs. search needs)
+    (λ c κs. search needs)
+    (λ c κs. search needs)
+    (λ c. search needs)
+    (λ c κs. search needs)
+    (λ c. search needs)
+    (λ c κs. search needs)
+    (λ c. search needs)
     returns)

@@ -22,9 +22,6 @@ start c = c .before .before
 abbrev counted : tie.After-four → tie.After-two
 counted c = c .before .before .before .before .before
 
-two-requires : tie.Need-two-requires
-two-requires c κs = search needs
-
 returns : tie.Need-returns
 unfolding readFragment
 returns c = rw (eq-eqb _ _ (sym (c .before .two .ensures .0) ∙ c .if1 .taken))
@@ -35,9 +32,6 @@ returns-2 c =
     let some′ = c .before in
     let count = some′ .before .two .ensures .0 in
     rw (ne-eqb _ _ (rw count at (some′ .if1 .left)), lt-ltb _ _ (rw count at (c .if2 .taken)))
-
-two-requires-2 : tie.Need-two-requires-2
-two-requires-2 c κs = search needs
 
 returns-3 : tie.Need-returns-3
 unfolding readFragment
@@ -63,12 +57,6 @@ past-five c =
     let count = some′ .before .two .ensures .0 in
     rw (ne-eqb _ _ (rw count at (some′ .if1 .left)), le-ltb _ _ (rw count at (few .if2 .left)), lt-leb _ _ (rw (count, numbered .two2 .ensures .0) at (asked .if3 .left)))
 
-four-requires : tie.Need-four-requires
-four-requires c κs = search needs
-
-cast-if4 : tie.Need-cast-if4
-cast-if4 c = search needs
-
 returns-4 : tie.Need-returns-4
 returns-4 c =
     let sized = c .before in
@@ -87,28 +75,10 @@ past-six c =
 numbered : (c : tie.Else4) → c .before .before .before .two2 .result ≡ numberIn (start (counted (c .before)) .args .d .now)
 numbered c = c .before .before .before .two2 .ensures .0
 
-formed-of-requires : tie.Need-formed-of-requires
-formed-of-requires c κs = search needs
-
 returns-5 : tie.Need-returns-5
 returns-5 c =
     let fits = c .before .before in
     c .formed-of .ensures ∙ sym (past-six fits ∙ rw (ne-eqb _ _ (rw (numbered fits) at (c .before .if5 .taken))))
-
-sub-name-length : tie.Need-sub-name-length
-sub-name-length c = search needs
-
-part-name-length-start : tie.Need-part-name-length-start
-part-name-length-start c = search needs
-
-part-name-length-end : tie.Need-part-name-length-end
-part-name-length-end c = search needs
-
-name-length-requires : tie.Need-name-length-requires
-name-length-requires c κs = search needs
-
-enum-known-c : tie.Need-enum-known-c
-enum-known-c c = search needs
 
 enum-told : tie.Need-enum-told
 enum-told c = search needs
@@ -138,9 +108,6 @@ add-formed-of c =
     let known = c .before in
     omega (arith, found-short _ _ (named (known .before .before) ∙ known .c .given .1))
 
-formed-of-requires-2 : tie.Need-formed-of-requires-2
-formed-of-requires-2 c κs = search needs
-
 returns-7 : tie.Need-returns-7
 returns-7 c =
     let known = c .before .before in
@@ -151,23 +118,23 @@ pub read-fragment-spec : {M : Type 1} → statement M
 read-fragment-spec =
     tie.close
     (tie.spec
-    two-requires
+    (λ c κs. search needs)
     returns
     returns-2
-    two-requires-2
+    (λ c κs. search needs)
     returns-3
-    four-requires
-    cast-if4
+    (λ c κs. search needs)
+    (λ c. search needs)
     returns-4
-    formed-of-requires
+    (λ c κs. search needs)
     returns-5
-    sub-name-length
-    part-name-length-start
-    part-name-length-end
-    name-length-requires
-    enum-known-c
+    (λ c. search needs)
+    (λ c. search needs)
+    (λ c. search needs)
+    (λ c κs. search needs)
+    (λ c. search needs)
     enum-told
     returns-6
     add-formed-of
-    formed-of-requires-2
+    (λ c κs. search needs)
     returns-7)

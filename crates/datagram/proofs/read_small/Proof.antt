@@ -12,21 +12,6 @@ use Rattle.datagram.proofs.read_small.Tie as tie
 abbrev start : tie.After-name-length → tie.Start
 start c = c .before .before .before
 
-sub-name-length : tie.Need-sub-name-length
-sub-name-length c = search needs
-
-part-name-length-start : tie.Need-part-name-length-start
-part-name-length-start c = search needs
-
-part-name-length-end : tie.Need-part-name-length-end
-part-name-length-end c = search needs
-
-name-length-requires : tie.Need-name-length-requires
-name-length-requires c κs = search needs
-
-enum-known-c : tie.Need-enum-known-c
-enum-known-c c = search needs
-
 enum-told : tie.Need-enum-told
 enum-told c = search needs
 
@@ -43,15 +28,6 @@ add-at c =
     let known = c .before in
     omega (arith, found-short _ _ (named (known .before .before) ∙ known .c .given .1))
 
-room-requires : tie.Need-room-requires
-room-requires c κs = search needs
-
-four-requires : tie.Need-four-requires
-four-requires c κs = search needs
-
-cast-t11 : tie.Need-cast-t11
-cast-t11 c = search needs
-
 returns-2 : tie.Need-returns-2
 unfolding readSmall
 returns-2 c =
@@ -63,15 +39,15 @@ pub read-small-spec : {M : Type 1} → statement M
 read-small-spec =
     tie.close
     (tie.spec
-    sub-name-length
-    part-name-length-start
-    part-name-length-end
-    name-length-requires
-    enum-known-c
+    (λ c. search needs)
+    (λ c. search needs)
+    (λ c. search needs)
+    (λ c κs. search needs)
+    (λ c. search needs)
     enum-told
     returns
     add-at
-    room-requires
-    four-requires
-    cast-t11
+    (λ c κs. search needs)
+    (λ c κs. search needs)
+    (λ c. search needs)
     returns-2)

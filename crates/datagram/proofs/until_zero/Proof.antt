@@ -18,29 +18,14 @@ Inv-loop b n i₀ i = (i ≤ n) × (n ≡ min (length b) (maxName + 1)) × (unti
 abbrev μ-loop : tie.MeasureT-loop
 μ-loop b n i₀ i = n - i
 
-add-least : tie.Need-add-least Inv-loop μ-loop
-add-least c = search needs
-
-least-requires : tie.Need-least-requires Inv-loop μ-loop
-least-requires c κs = search needs
-
 loop-holds : tie.Need-loop-holds Inv-loop μ-loop
 loop-holds c = (omega arith, c .least .ensures, sym (zero-add _))
-
-shared-slice-read-if1 : tie.Need-shared-slice-read-if1 Inv-loop μ-loop
-shared-slice-read-if1 c = search needs
 
 returns : tie.Need-returns Inv-loop μ-loop
 returns c =
     let at = c .before .before .before in
     let b = at .before .before .before .args .b .now in
     omega (arith, at .loop .inv .2, zero-here b (at .loop .i) (omega arith) (c .if1 .taken))
-
-add-i : tie.Need-add-i Inv-loop μ-loop
-add-i c = search needs
-
-loop-less : tie.Need-loop-less Inv-loop μ-loop
-loop-less c = search needs
 
 loop-again : tie.Need-loop-again Inv-loop μ-loop
 loop-again c =
@@ -63,12 +48,12 @@ until-zero-spec =
     (tie.spec
     Inv-loop
     μ-loop
-    add-least
-    least-requires
+    (λ c. search needs)
+    (λ c κs. search needs)
     loop-holds
-    shared-slice-read-if1
+    (λ c. search needs)
     returns
-    add-i
-    loop-less
+    (λ c. search needs)
+    (λ c. search needs)
     loop-again
     returns-2)

@@ -1,7 +1,5 @@
 -- The place of the first entry of the key, or the refusal. Assumes nothing.
-use mathlib.Core.Path.{_≡_, sym, ap, _∙_}
-use mathlib.Core.Option.{Option}
-use Prim.Native.Nat.{ℕ}
+use mathlib.Core.Path.{sym, ap, _∙_}
 use native.Mathlib.Omega.{arith}
 use Rattle.wire.specs.Bytes.{Bytes}
 use Rattle.output.proofs.Sending.{pours-is}
@@ -12,30 +10,6 @@ use Rattle.index_lines.specs.Lines.{placeLine, answerLine}
 use borrow.Author.Needs.{needs}
 use Rattle.find.proofs.answer.Statement.{statement}
 use Rattle.find.proofs.answer.Tie as tie
-
-index-log-requires : tie.Need-index-log-requires
-index-log-requires c κs = search needs
-
-enum-known-indexed : tie.Need-enum-known-indexed
-enum-known-indexed c = search needs
-
-find-requires : tie.Need-find-requires
-find-requires c κs = search needs
-
-pour-found-requires : tie.Need-pour-found-requires
-pour-found-requires c κs = search needs
-
-enum-known-indexed-2 : tie.Need-enum-known-indexed-2
-enum-known-indexed-2 c = search needs
-
-pour-refused-requires : tie.Need-pour-refused-requires
-pour-refused-requires c κs = search needs
-
-same-length : tie.Need-same-length
-same-length c = search needs
-
-same-length-2 : tie.Need-same-length-2
-same-length-2 c = search needs
 
 returns : tie.Need-returns
 returns c =
@@ -50,12 +24,6 @@ returns c =
     let h = sym (ap says (k .indexed .given .1)) ∙ x .answer in
     pours-is (t .pour-found .ensures) (ap placeLine f ∙ ap (λ (w : Answer). answerLine w (firstEntry (a .log .now) (a .sender) (a .sequence))) h)
 
-same-length-3 : tie.Need-same-length-3
-same-length-3 c = search needs
-
-same-length-4 : tie.Need-same-length-4
-same-length-4 c = search needs
-
 returns-2 : tie.Need-returns-2
 returns-2 c =
     let t = c .before .before in
@@ -68,15 +36,15 @@ pub answer-spec : {M : Type 1} → statement M
 answer-spec =
     tie.close
     (tie.spec
-    index-log-requires
-    enum-known-indexed
-    find-requires
-    pour-found-requires
-    enum-known-indexed-2
-    pour-refused-requires
-    same-length
-    same-length-2
+    (λ c κs. search needs)
+    (λ c. search needs)
+    (λ c κs. search needs)
+    (λ c κs. search needs)
+    (λ c. search needs)
+    (λ c κs. search needs)
+    (λ c. search needs)
+    (λ c. search needs)
     returns
-    same-length-3
-    same-length-4
+    (λ c. search needs)
+    (λ c. search needs)
     returns-2)

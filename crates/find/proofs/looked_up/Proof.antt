@@ -1,5 +1,4 @@
 -- Nothing is asked of the buffers but their lengths, which are those written. Assumes nothing.
-use lib.ListN.{length}
 use borrow.Author.Needs.{needs}
 use Rattle.output.proofs.Zeros.{zeros}
 use Rattle.find.proofs.looked_up.Statement.{statement}
@@ -15,13 +14,10 @@ slice-aggregate-run-2 c = zeros _
 slice-aggregate-run-3 : tie.Need-slice-aggregate-run-3
 slice-aggregate-run-3 c = zeros _
 
-run-requires : tie.Need-run-requires
-run-requires c κs = search needs
-
 returns : tie.Need-returns
 returns c = tt
 
 pub looked-up-spec : {M : Type 1} → statement M
 looked-up-spec =
     tie.close
-    (tie.spec slice-aggregate-run slice-aggregate-run-2 slice-aggregate-run-3 run-requires returns)
+    (tie.spec slice-aggregate-run slice-aggregate-run-2 slice-aggregate-run-3 (λ c κs. search needs) returns)

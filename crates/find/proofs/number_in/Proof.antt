@@ -25,15 +25,6 @@ loop-holds c =
     let a = c .before .before .args in
     (omega arith, some-digits (a .most) (a .text .now) (c .if1 .left))
 
-shared-slice-read-with-digit : tie.Need-shared-slice-read-with-digit Inv-loop μ-loop
-shared-slice-read-with-digit c = search needs
-
-with-digit-requires : tie.Need-with-digit-requires Inv-loop μ-loop
-with-digit-requires c κs = search needs
-
-enum-known-next : tie.Need-enum-known-next Inv-loop μ-loop
-enum-known-next c = search needs
-
 enum-told : tie.Need-enum-told Inv-loop μ-loop
 enum-told c = search needs
 
@@ -43,12 +34,6 @@ returns-2 c =
     let l = c .before .before .before .before .before .loop in
     let e = sym (ap says (c .enum-told .given .1)) ∙ c .before .before .with-digit .ensures in
     digits-none (a .most) (l .v) (a .text .now) (l .i) (c .before .before .before .before .loop-test .taken) e ∙ l .inv .1
-
-add-i : tie.Need-add-i Inv-loop μ-loop
-add-i c = search needs
-
-loop-less : tie.Need-loop-less Inv-loop μ-loop
-loop-less c = search needs
 
 loop-again : tie.Need-loop-again Inv-loop μ-loop
 loop-again c =
@@ -71,12 +56,12 @@ number-in-spec =
     μ-loop
     returns
     loop-holds
-    shared-slice-read-with-digit
-    with-digit-requires
-    enum-known-next
+    (λ c. search needs)
+    (λ c κs. search needs)
+    (λ c. search needs)
     enum-told
     returns-2
-    add-i
-    loop-less
+    (λ c. search needs)
+    (λ c. search needs)
     loop-again
     returns-3)

@@ -15,9 +15,6 @@ returns-2 c =
     let a = c .before .before .args in
     above-digits (a .most) (a .v) (a .x) (c .before .if1 .left) (c .if2 .taken)
 
-cast-d : tie.Need-cast-d
-cast-d c = search needs
-
 returns-3 : tie.Need-returns-3
 returns-3 c =
     let a = c .before .before .before .args in
@@ -28,12 +25,6 @@ returns-4 c =
     let a = c .before .before .before .before .args in
     above-most (a .most) (a .v) (a .x) (c .before .before .before .if1 .left) (c .before .before .if2 .left) (omega arith)
 
-mul-t7 : tie.Need-mul-t7
-mul-t7 c = search needs
-
-add-t8 : tie.Need-add-t8
-add-t8 c = search needs
-
 returns-5 : tie.Need-returns-5
 returns-5 c =
     let a = c .before .before .before .before .args in
@@ -41,4 +32,4 @@ returns-5 c =
 
 pub with-digit-spec : {M : Type 1} → statement M
 with-digit-spec =
-    tie.close (tie.spec returns returns-2 cast-d returns-3 returns-4 mul-t7 add-t8 returns-5)
+    tie.close (tie.spec returns returns-2 (λ c. search needs) returns-3 returns-4 (λ c. search needs) (λ c. search needs) returns-5)

@@ -5,22 +5,13 @@ use borrow.Author.Needs.{needs}
 use Rattle.forms.proofs.good_fragment.Statement.{statement}
 use Rattle.forms.proofs.good_fragment.Tie as tie
 
-good-start-requires : tie.Need-good-start-requires
-good-start-requires c κs = search needs
-
 returns : tie.Need-returns
 returns c = rw (sym (c .before .good-start .ensures) ∙ not-true _ (c .if1 .taken))
-
-add-end : tie.Need-add-end
-add-end c = search needs
 
 returns-2 : tie.Need-returns-2
 returns-2 c =
     let begins = c .before in
     rw (sym (begins .before .good-start .ensures) ∙ not-false _ (begins .if1 .left), lt-leb _ _ (c .if2 .taken))
-
-add-if3 : tie.Need-add-if3
-add-if3 c = search needs
 
 returns-3 : tie.Need-returns-3
 returns-3 c =
@@ -36,4 +27,4 @@ returns-4 c =
 
 pub good-fragment-spec : {M : Type 1} → statement M
 good-fragment-spec =
-    tie.close (tie.spec good-start-requires returns add-end returns-2 add-if3 returns-3 returns-4)
+    tie.close (tie.spec (λ c κs. search needs) returns (λ c. search needs) returns-2 (λ c. search needs) returns-3 returns-4)

@@ -7,24 +7,6 @@ use Rattle.fragment_fit.proofs.Aparts.{near, far}
 use Rattle.fragment_fit.proofs.agree.Statement.{statement}
 use Rattle.fragment_fit.proofs.agree.Tie as tie
 
-add-if2 : tie.Need-add-if2
-add-if2 c = search needs
-
-add-result : tie.Need-add-result
-add-result c = search needs
-
-add-result-2 : tie.Need-add-result-2
-add-result-2 c = search needs
-
-add-if3 : tie.Need-add-if3
-add-if3 c = search needs
-
-add-result-3 : tie.Need-add-result-3
-add-result-3 c = search needs
-
-add-result-4 : tie.Need-add-result-4
-add-result-4 c = search needs
-
 returns : tie.Need-returns
 returns c = let a = c .before .before .args in rw (lt-ltb _ _ (c .before .if1 .taken)) (sym (near (a .j) (a .other + a .size) (a .k) (a .offset) (c .if2 .taken)))
 
@@ -41,12 +23,12 @@ pub agree-spec : {M : Type 1} → statement M
 agree-spec =
     tie.close
     (tie.spec
-    add-if2
-    add-result
-    add-result-2
-    add-if3
-    add-result-3
-    add-result-4
+    (λ c. search needs)
+    (λ c. search needs)
+    (λ c. search needs)
+    (λ c. search needs)
+    (λ c. search needs)
+    (λ c. search needs)
     returns
     returns-2
     returns-3

@@ -22,21 +22,6 @@ abbrev μ-loop : tie.MeasureT-loop
 loop-holds : tie.Need-loop-holds Inv-loop μ-loop
 loop-holds c = (omega arith, refl)
 
-run-length-requires : tie.Need-run-length-requires Inv-loop μ-loop
-run-length-requires c κs = search needs
-
-word-requires : tie.Need-word-requires Inv-loop μ-loop
-word-requires c κs = search needs
-
-shr-w : tie.Need-shr-w Inv-loop μ-loop
-shr-w c = search needs
-
-mul-run-apart : tie.Need-mul-run-apart Inv-loop μ-loop
-mul-run-apart c = search needs
-
-run-apart-requires : tie.Need-run-apart-requires Inv-loop μ-loop
-run-apart-requires c κs = search needs
-
 returns : tie.Need-returns Inv-loop μ-loop
 returns c =
     let word = c .before .before .before in
@@ -47,12 +32,6 @@ returns c =
     let e = ap (λ (x : ℕ). x / 2 ^ (l .j % 64)) (word .word .ensures) in
     let run = run-word (a .held .now) (a .ledger .now) (a .k) (a .offset) (a .len) (l .j) (m .result) (m .ensures .1) (m .ensures .3) _ e in
     sym (run-fails (apartAt (a .held .now) (a .ledger .now) (a .k) (a .offset) (a .len)) (a .n) (l .j) (m .result) (omega arith) (run ∙ sym (c .before .run-apart .ensures) ∙ not-true _ (c .if2 .taken)))
-
-add-j : tie.Need-add-j Inv-loop μ-loop
-add-j c = search needs
-
-loop-less : tie.Need-loop-less Inv-loop μ-loop
-loop-less c = search needs
 
 loop-again : tie.Need-loop-again Inv-loop μ-loop
 loop-again c =
@@ -81,13 +60,13 @@ all-apart-spec =
     Inv-loop
     μ-loop
     loop-holds
-    run-length-requires
-    word-requires
-    shr-w
-    mul-run-apart
-    run-apart-requires
+    (λ c κs. search needs)
+    (λ c κs. search needs)
+    (λ c. search needs)
+    (λ c. search needs)
+    (λ c κs. search needs)
     returns
-    add-j
-    loop-less
+    (λ c. search needs)
+    (λ c. search needs)
     loop-again
     returns-2)

@@ -1,34 +1,39 @@
 -- `fragment_fit::fits_apart` meets its contract. Assumes nothing.
-use mathlib.Core.Path.{sym, _∙_}
+use mathlib.Core.Path.{_≡_, sym, ap, _∙_}
+use Prim.Native.Nat.{ℕ}
 use native.Mathlib.Omega.{arith}
 use borrow.Author.Tests.{not-true, not-false}
 use borrow.Author.Needs.{needs}
+use Rattle.steps.specs.Search.{allBelow}
+use Rattle.fragment_fit.specs.Fits.{fitsIn}
+use Rattle.fragment_fit.specs.Apart.{apartAt}
 use Rattle.fragment_fit.proofs.Aparts.{near-missed, near-apart}
 use Rattle.fragment_fit.proofs.fits_apart.Statement.{statement}
 use Rattle.fragment_fit.proofs.fits_apart.Tie as tie
-
-near-fit-requires : tie.Need-near-fit-requires
-near-fit-requires c κs = search needs
 
 returns : tie.Need-returns
 returns c =
     let a = c .before .before .before .before .args in
     sym (near-missed (a .held .now) (a .ledger .now) (a .n) (a .k) (a .offset) (a .len) (omega arith) (sym (c .before .near-fit .ensures) ∙ not-true _ (c .if1 .taken)))
 
-as-size-requires : tie.Need-as-size-requires
-as-size-requires c κs = search needs
-
-all-apart-requires : tie.Need-all-apart-requires
-all-apart-requires c κs = search needs
+-- it agrees with its neighbours: that none crosses it decides
+beside : (c : tie.After-as-size)
+    → let a = c .before .before .before .before .before .args in
+    allBelow (a .n) (apartAt (a .held .now) (a .ledger .now) (c .as-size .result) (a .offset) (a .len))
+    ≡ allBelow (a .n) (fitsIn (a .held .now) (a .ledger .now) (a .k) (a .offset) (a .len))
+beside c =
+    let asked = c .before .before in
+    let a = asked .before .before .before .args in
+    ap (λ (x : ℕ). allBelow (a .n) (apartAt (a .held .now) (a .ledger .now) x (a .offset) (a .len))) (c .as-size .ensures .0)
+    ∙ near-apart (a .held .now) (a .ledger .now) (a .n) (a .k) (a .offset) (a .len) (sym (asked .near-fit .ensures) ∙ not-false _ (c .before .if1 .left))
 
 returns-2 : tie.Need-returns-2
-returns-2 c =
-    let asked = c .before .before .before in
-    let a = asked .before .before .before .args in
-    let beside = sym (asked .near-fit .ensures) ∙ not-false _ (c .before .before .if1 .left) in
-    rw (c .before .as-size .ensures .0) at (c .all-apart .ensures) ∙ near-apart (a .held .now) (a .ledger .now) (a .n) (a .k) (a .offset) (a .len) beside
+returns-2 c = c .few-apart .ensures ∙ beside (c .before .before)
+
+returns-3 : tie.Need-returns-3
+returns-3 c = c .all-apart .ensures ∙ beside (c .before .before)
 
 pub fits-apart-spec : {M : Type 1} → statement M
 fits-apart-spec =
     tie.close
-    (tie.spec near-fit-requires returns as-size-requires all-apart-requires returns-2)
+    (tie.spec (λ c κs. search needs) returns (λ c κs. search needs) (λ c κs. search needs) returns-2 (λ c κs. search needs) returns-3)

@@ -21,20 +21,11 @@ abbrev μ-loop : tie.MeasureT-loop
 loop-holds : tie.Need-loop-holds Inv-loop μ-loop
 loop-holds c = (omega arith, refl)
 
-fits-with-requires : tie.Need-fits-with-requires Inv-loop μ-loop
-fits-with-requires c κs = search needs
-
 returns : tie.Need-returns Inv-loop μ-loop
 returns c =
     let start = c .before .before .before in
     let a = start .before .before .before .args in
     sym (all-not (a .n) (fitsIn (a .held .now) (a .ledger .now) (a .k) (a .offset) (a .len)) (start .loop .j) (omega arith) (sym (c .before .fits-with .ensures) ∙ not-true _ (c .if1 .taken)))
-
-add-j : tie.Need-add-j Inv-loop μ-loop
-add-j c = search needs
-
-loop-less : tie.Need-loop-less Inv-loop μ-loop
-loop-less c = search needs
 
 loop-again : tie.Need-loop-again Inv-loop μ-loop
 loop-again c =
@@ -55,9 +46,9 @@ fits-each-spec =
     Inv-loop
     μ-loop
     loop-holds
-    fits-with-requires
+    (λ c κs. search needs)
     returns
-    add-j
-    loop-less
+    (λ c. search needs)
+    (λ c. search needs)
     loop-again
     returns-2)

@@ -1,36 +1,17 @@
 -- `fragment_fit::near_fit` meets its contract. Assumes nothing.
-use mathlib.Core.Path.{_≡_, sym, _∙_, refl}
+use mathlib.Core.Path.{sym, _∙_}
 use mathlib.Core.Logic.{⊎-elim}
-use native.Mathlib.Omega.{arith}
 use borrow.Author.Tests.{not-true, not-false}
 use Rattle.fragment_fit.proofs.Aparts.{first-fits, first-free, near-breaks, near-other, near-only}
 use borrow.Author.Needs.{needs}
 use Rattle.fragment_fit.proofs.near_fit.Statement.{statement}
 use Rattle.fragment_fit.proofs.near_fit.Tie as tie
 
-as-size-requires : tie.Need-as-size-requires
-as-size-requires c κs = search needs
-
-sub-fits-with : tie.Need-sub-fits-with
-sub-fits-with c = search needs
-
-fits-with-requires : tie.Need-fits-with-requires
-fits-with-requires c κs = search needs
-
 returns : tie.Need-returns
 returns c =
     let a = c .before .before .before .before .before .before .args in
     let k = c .before .before .before .as-size .ensures .0 in
     sym (near-breaks (a .held .now) (a .ledger .now) (a .n) (a .k) (a .offset) (a .len) (rw k at (c .before .before .if1 .taken)) (rw k at (sym (c .before .fits-with .ensures) ∙ not-true _ (c .if2 .taken))))
-
-add-if3 : tie.Need-add-if3
-add-if3 c = search needs
-
-add-fits-with : tie.Need-add-fits-with
-add-fits-with c = search needs
-
-fits-with-requires-2 : tie.Need-fits-with-requires-2
-fits-with-requires-2 c κs = search needs
 
 returns-2 : tie.Need-returns-2
 returns-2 c =
@@ -56,12 +37,12 @@ pub near-fit-spec : {M : Type 1} → statement M
 near-fit-spec =
     tie.close
     (tie.spec
-    as-size-requires
-    sub-fits-with
-    fits-with-requires
+    (λ c κs. search needs)
+    (λ c. search needs)
+    (λ c κs. search needs)
     returns
-    add-if3
-    add-fits-with
-    fits-with-requires-2
+    (λ c. search needs)
+    (λ c. search needs)
+    (λ c κs. search needs)
     returns-2
     returns-3)

@@ -2,8 +2,6 @@
 use Rattle.fragment_fit.proofs.Aparts.{past, past-by}
 use Rattle.fragment_fit.proofs.reach_past.Statement.{statement}
 use Rattle.fragment_fit.proofs.reach_past.Tie as tie
-use Rattle.fragment_fit.proofs.reach_past.Reads as reads
-use Rattle.fragment_fit.proofs.reach_past.Lts as lts
 
 -- src/lib.rt:259:9
 returns : tie.Need-returns

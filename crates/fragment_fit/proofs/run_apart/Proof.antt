@@ -7,7 +7,7 @@ use native.Mathlib.Omega.{arith}
 use lib.Dec.{eqb}
 use borrow.Author.Needs.{needs}
 use Rattle.steps.specs.Search.{allBelow}
-use Rattle.fragment_fit.specs.Apart.{apartIn}
+use Rattle.fragment_fit.specs.Inside.{apartIn}
 use Rattle.fragment_fit.proofs.Aparts.{none-more, one-more}
 use Rattle.fragment_fit.proofs.run_apart.Statement.{statement}
 use Rattle.fragment_fit.proofs.run_apart.Tie as tie
@@ -20,42 +20,6 @@ abbrev μ-loop : tie.MeasureT-loop
 
 loop-holds : tie.Need-loop-holds Inv-loop μ-loop
 loop-holds c = (omega arith, omega arith, refl)
-
-mul-e : tie.Need-mul-e Inv-loop μ-loop
-mul-e c = search needs
-
-add-e : tie.Need-add-e Inv-loop μ-loop
-add-e c = search needs
-
-mul-crosses : tie.Need-mul-crosses Inv-loop μ-loop
-mul-crosses c = search needs
-
-shared-slice-read-crosses : tie.Need-shared-slice-read-crosses Inv-loop μ-loop
-shared-slice-read-crosses c = search needs
-
-add-crosses : tie.Need-add-crosses Inv-loop μ-loop
-add-crosses c = search needs
-
-mul-crosses-2 : tie.Need-mul-crosses-2 Inv-loop μ-loop
-mul-crosses-2 c = search needs
-
-shared-slice-read-crosses-2 : tie.Need-shared-slice-read-crosses-2 Inv-loop μ-loop
-shared-slice-read-crosses-2 c = search needs
-
-crosses-requires : tie.Need-crosses-requires Inv-loop μ-loop
-crosses-requires c κs = search needs
-
-shr-held : tie.Need-shr-held Inv-loop μ-loop
-shr-held c = search needs
-
-add-crossed : tie.Need-add-crossed Inv-loop μ-loop
-add-crossed c = search needs
-
-add-b : tie.Need-add-b Inv-loop μ-loop
-add-b c = search needs
-
-loop-less : tie.Need-loop-less Inv-loop μ-loop
-loop-less c = search needs
 
 loop-again : tie.Need-loop-again Inv-loop μ-loop
 loop-again c =
@@ -83,17 +47,17 @@ run-apart-spec =
     Inv-loop
     μ-loop
     loop-holds
-    mul-e
-    add-e
-    mul-crosses
-    shared-slice-read-crosses
-    add-crosses
-    mul-crosses-2
-    shared-slice-read-crosses-2
-    crosses-requires
-    shr-held
-    add-crossed
-    add-b
-    loop-less
+    (λ c. search needs)
+    (λ c. search needs)
+    (λ c. search needs)
+    (λ c. search needs)
+    (λ c. search needs)
+    (λ c. search needs)
+    (λ c. search needs)
+    (λ c κs. search needs)
+    (λ c. search needs)
+    (λ c. search needs)
+    (λ c. search needs)
+    (λ c. search needs)
     loop-again
     returns)

@@ -5,18 +5,6 @@ use borrow.Author.Needs.{needs}
 use Rattle.gaps.proofs.judge.Statement.{statement}
 use Rattle.gaps.proofs.judge.Tie as tie
 
-read-datagram-requires : tie.Need-read-datagram-requires
-read-datagram-requires c κs = search needs
-
-enum-known-read : tie.Need-enum-known-read
-enum-known-read c = search needs
-
-see-requires : tie.Need-see-requires
-see-requires c κs = search needs
-
-enum-known-read-2 : tie.Need-enum-known-read-2
-enum-known-read-2 c = search needs
-
 returns : tie.Need-returns
 returns c =
     let k = c .before .before in
@@ -37,9 +25,9 @@ pub judge-spec : {M : Type 1} → statement M
 judge-spec =
     tie.close
     (tie.spec
-    read-datagram-requires
-    enum-known-read
-    see-requires
-    enum-known-read-2
+    (λ c κs. search needs)
+    (λ c. search needs)
+    (λ c κs. search needs)
+    (λ c. search needs)
     returns
     returns-2)

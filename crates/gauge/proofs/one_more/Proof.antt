@@ -1,6 +1,5 @@
 -- A packet is heard, and its line goes out. Assumes nothing.
-use mathlib.Core.Path.{_≡_, ap}
-use Prim.Native.Nat.{ℕ}
+use mathlib.Core.Path.{ap}
 use Rattle.watch.specs.Noted.{Noted}
 use Rattle.moss.specs.Packet.{packetOf}
 use Rattle.output.proofs.Sending.{pours-is}
@@ -8,15 +7,6 @@ use Rattle.gauge.specs.Lines.{line}
 use borrow.Author.Needs.{needs}
 use Rattle.gauge.proofs.one_more.Statement.{statement}
 use Rattle.gauge.proofs.one_more.Tie as tie
-
-see-packet-requires : tie.Need-see-packet-requires
-see-packet-requires c κs = search needs
-
-pour-line-requires : tie.Need-pour-line-requires
-pour-line-requires c κs = search needs
-
-same-length : tie.Need-same-length
-same-length c = search needs
 
 returns : tie.Need-returns
 returns c =
@@ -32,7 +22,7 @@ pub one-more-spec : {M : Type 1} → statement M
 one-more-spec =
     tie.close
     (tie.spec
-    see-packet-requires
-    pour-line-requires
-    same-length
+    (λ c κs. search needs)
+    (λ c κs. search needs)
+    (λ c. search needs)
     returns)

@@ -1,65 +1,78 @@
--- Lengths, each after a space. The loop's invariant: those of the i messages passed went out. Assumes nothing.
+-- Lengths, each after a space. The loop's invariant: what went out and the lengths of the blocks that are left are those of all. Assumes nothing.
 use mathlib.Core.Path.{_≡_, refl, sym, ap, _∙_}
-use mathlib.Core.List.{List}
-use Prim.Native.Nat.{ℕ, _-_, _≤_}
+use mathlib.Core.List.{List, [], _∷_, _++_, append-nil, append-assoc}
+use Prim.Native.Nat.{ℕ, _+_, _-_}
 use native.Mathlib.Omega.{arith}
-use lib.ListN.{length}
-use Rattle.moss.specs.Packet.{packetOf}
-use Rattle.output.specs.Output.{Pours}
+use lib.ListN.{length, drop}
+use Rattle.moss.specs.Blocks.{messagesIn}
+use Rattle.moss.specs.Packet.{fillFault}
+use Rattle.text.specs.Text.{decimal}
 use Rattle.output.proofs.Sending.{sends-none, pours-then, pours-is}
-use Rattle.gauge.specs.Lines.{spaced, firstLengths}
-use Rattle.gauge.proofs.Texts.{lengths-turn}
+use Rattle.gauge.specs.Lines.{spaced, lengthsIn}
+use Rattle.gauge.proofs.Texts.{Passed, block-fits, rest-filled, lengths-next, lengths-end}
 use borrow.Author.Needs.{needs}
 use Rattle.gauge.proofs.pour_lengths.Statement.{statement}
 use Rattle.gauge.proofs.pour_lengths.Tie as tie
 
 abbrev Inv-loop : tie.InvT-loop
-Inv-loop out₀ at p count next₀ i₀ t7 out next i =
-    (i ≤ count) × (length out ≡ length out₀) × Pours out₀ at (spaced (firstLengths (packetOf p) i)) out next
+Inv-loop out₀ at p from next₀ block₀ t8 out next block =
+    (fillFault (messagesIn (drop block p)) ≡ 0) × (length out ≡ length out₀) × Passed out₀ at p from block out next
 
 abbrev μ-loop : tie.MeasureT-loop
-μ-loop out₀ at p count next₀ i₀ t7 out next i = count - i
+μ-loop out₀ at p from next₀ block₀ t8 out next block = length p - block
 
 loop-holds : tie.Need-loop-holds Inv-loop μ-loop
 loop-holds c =
-    let a = c .before .before .args in
-    (omega arith, refl, λ l h. sends-none (a .out .now) (a .at) h)
+    let s = c .before .before in
+    let a = s .args in
+    (s .pre, refl, record { text = []; gone = λ l h. sends-none (a .out .now) (a .at) h; whole = refl })
 
-message-requires : tie.Need-message-requires Inv-loop μ-loop
-message-requires c κs = search needs
+add-block : tie.Need-add-block Inv-loop μ-loop
+add-block c = omega (arith, c .before .before .before .before .before .number .ensures .fits)
 
-slice-aggregate-pour-counted : tie.Need-slice-aggregate-pour-counted Inv-loop μ-loop
-slice-aggregate-pour-counted c = search needs
-
-pour-counted-requires : tie.Need-pour-counted-requires Inv-loop μ-loop
-pour-counted-requires c κs = search needs
-
-add-i : tie.Need-add-i Inv-loop μ-loop
-add-i c = search needs
+add-block-2 : tie.Need-add-block-2 Inv-loop μ-loop
+add-block-2 c =
+    let m = c .before .before .before .before .before in
+    let l = m .before .before in
+    omega (arith, block-fits (l .before .before .before .args .p .now) (l .loop .block) (m .number .result) (m .before .loop-test .taken) (l .loop .inv .0) (m .number .ensures .value))
 
 loop-less : tie.Need-loop-less Inv-loop μ-loop
-loop-less c = search needs
+loop-less c = omega (arith, c .before .before .before .before .before .before .loop-test .taken)
 
 loop-again : tie.Need-loop-again Inv-loop μ-loop
 loop-again c =
     let t = c .before .before in
     let m = t .before .before .before in
-    let l = m .before .before in
-    let a = l .before .before .before .args in (
-      omega arith,
-      omega (arith, t .pour-counted .kept .0, l .loop .inv .1),
-      pours-is (pours-then (l .loop .inv .2) (t .pour-counted .ensures)) (lengths-turn (packetOf (a .p .now)) (l .loop .i) _ (ap length (m .message .ensures))),
+    let test = m .before in
+    let l = test .before in
+    let a = l .before .before .before .args in
+    let b : ℕ = l .loop .block in
+    let k : ℕ = m .number .result in
+    let size = m .number .ensures .value in
+    let inv = l .loop .inv in
+    let passed = inv .2 in
+    let rest : List ℕ = spaced (lengthsIn (messagesIn (drop (b + (2 + k)) (a .p .now)))) in (
+      rest-filled (a .p .now) b k (test .loop-test .taken) (inv .0) size,
+      omega (arith, t .pour-counted .kept .0, inv .1),
+      record {
+        text = passed .text ++ (32 ∷ [] ++ decimal k);
+        gone = pours-then (passed .gone) (t .pour-counted .ensures);
+        whole =
+            append-assoc (passed .text) (32 ∷ decimal k) rest
+            ∙ ap (λ (x : List ℕ). passed .text ++ spaced x) (sym (lengths-next (a .p .now) b k (test .loop-test .taken) (inv .0) size))
+            ∙ passed .whole;
+      },
     )
-
-same-length : tie.Need-same-length Inv-loop μ-loop
-same-length c = search needs
 
 returns : tie.Need-returns Inv-loop μ-loop
 returns c =
     let l = c .before in
     let a = l .before .before .before .args in
-    let e : l .loop .i ≡ a .count = omega (arith, l .loop .inv .0) in
-    pours-is (l .loop .inv .2) (ap (λ (k : ℕ). spaced (firstLengths (packetOf (a .p .now)) k)) e)
+    let passed = l .loop .inv .2 in
+    pours-is (passed .gone)
+    (sym (append-nil (passed .text))
+    ∙ ap (λ (x : List ℕ). passed .text ++ spaced x) (sym (lengths-end (a .p .now) (l .loop .block) (c .loop-test .left)))
+    ∙ passed .whole)
 
 pub pour-lengths-spec : {M : Type 1} → statement M
 pour-lengths-spec =
@@ -68,11 +81,12 @@ pour-lengths-spec =
     Inv-loop
     μ-loop
     loop-holds
-    message-requires
-    slice-aggregate-pour-counted
-    pour-counted-requires
-    add-i
+    (λ c κs. search needs)
+    (λ c. search needs)
+    (λ c κs. search needs)
+    add-block
+    add-block-2
     loop-less
     loop-again
-    same-length
+    (λ c. search needs)
     returns)

@@ -1,41 +1,45 @@
 -- The lengths of a data packet's messages. Assumes nothing.
-use mathlib.Core.Path.{sym}
+use mathlib.Core.Path.{ap}
+use mathlib.Core.List.{List, _++_}
+use Prim.Native.Nat.{ℕ}
 use borrow.Author.Tests.{eq-eqb, ne-eqb}
-use Rattle.output.proofs.Sending.{sends-none, pours-then}
+use Rattle.wire.specs.Text.{ascii}
+use Rattle.output.proofs.Sending.{sends-none, pours-then, pours-is}
+use Rattle.gauge.specs.Lines.{spaced}
+use Rattle.gauge.proofs.Texts.{blocks-filled, blocks-lengths}
 use borrow.Author.Needs.{needs}
 use Rattle.gauge.proofs.pour_messages.Statement.{statement}
 use Rattle.gauge.proofs.pour_messages.Tie as tie
 
-slice-aggregate-pour : tie.Need-slice-aggregate-pour
-slice-aggregate-pour c = search needs
-
-pour-requires : tie.Need-pour-requires
-pour-requires c κs = search needs
-
 pour-lengths-requires : tie.Need-pour-lengths-requires
-pour-lengths-requires c κs = search needs
-
-same-length : tie.Need-same-length
-same-length c = search needs
+pour-lengths-requires c κs =
+    let t = c .before .before .before .before .before .before in
+    let s = t .before .before .before .before in
+    blocks-filled (s .args .p .now) (s .args .header) (s .pre) (t .if1 .taken)
 
 returns : tie.Need-returns
 returns c =
     let p = c .before .before in
     let q = p .before .before .before .before in
-    rw (eq-eqb _ _ (q .before .before .before .if1 .taken)) (pours-then (q .pour .ensures) (p .pour-lengths .ensures))
+    let t = q .before .before .before in
+    let s = t .before .before .before .before in
+    let a = s .args in
+    let lengths = blocks-lengths (a .p .now) (a .header) (s .pre) (t .if1 .taken) in
+    rw (eq-eqb _ _ (t .if1 .taken))
+    (pours-is (pours-then (q .pour .ensures) (p .pour-lengths .ensures)) (ap (λ (l : List ℕ). ascii " messages" ++ spaced l) lengths))
 
 returns-2 : tie.Need-returns-2
 returns-2 c =
-    let a = c .before .before .before .args in
+    let a = c .before .before .before .before .args in
     rw (ne-eqb _ _ (c .if1 .left)) (λ l h. sends-none (a .out .now) (a .at) h)
 
 pub pour-messages-spec : {M : Type 1} → statement M
 pour-messages-spec =
     tie.close
     (tie.spec
-    slice-aggregate-pour
-    pour-requires
+    (λ c. search needs)
+    (λ c κs. search needs)
     pour-lengths-requires
-    same-length
+    (λ c. search needs)
     returns
     returns-2)

@@ -1,28 +1,19 @@
 -- A record's line. Assumes nothing.
-use mathlib.Core.Path.{_≡_, sym, ap, _∙_, subst}
-use mathlib.Core.List.{List, [], _∷_, _++_}
+use mathlib.Core.Path.{sym, ap, _∙_}
+use mathlib.Core.List.{_++_}
 use Prim.Native.Nat.{ℕ}
 use native.Mathlib.Omega.{arith}
-use lib.ListN.{length, take, drop, length-drop}
+use lib.ListN.{length, drop, length-drop}
 use lib.Seq.{take-all}
 use Rattle.moss.specs.Packet.{Given}
 use Rattle.wire.specs.Bytes.{Bytes}
 use Rattle.text.specs.Text.{decimal}
 use Rattle.output.proofs.Sending.{pours-then, pours-is}
-use Rattle.gauge_bytes.specs.Lines.{recordBytes, recordAnswer, answerText}
+use Rattle.gauge_bytes.specs.Lines.{recordBytes, answerText}
 use Rattle.gauge_bytes.proofs.Records.{answer-short, session-front, line-bytes, line-refused}
 use borrow.Author.Needs.{needs}
 use Rattle.gauge_bytes.proofs.one_more.Statement.{statement}
 use Rattle.gauge_bytes.proofs.one_more.Tie as tie
-
-pour-decimal-requires : tie.Need-pour-decimal-requires
-pour-decimal-requires c κs = search needs
-
-pour-refused-requires : tie.Need-pour-refused-requires
-pour-refused-requires c κs = search needs
-
-same-length : tie.Need-same-length
-same-length c = search needs
 
 returns : tie.Need-returns
 returns c =
@@ -32,39 +23,6 @@ returns c =
     let a = d .before .before .before .before .before .args in
     pours-is (pours-then (d .pour-decimal .ensures) (p .pour-refused .ensures))
     (ap (λ (g : Given ℕ). decimal (a .n) ++ answerText g (recordBytes (a .b .now))) (sym (answer-short (a .b .now) (f .if1 .taken))))
-
-session-at-requires : tie.Need-session-at-requires
-session-at-requires c κs = search needs
-
-word-at-requires : tie.Need-word-at-requires
-word-at-requires c κs = search needs
-
-shared-slice-read-kind : tie.Need-shared-slice-read-kind
-shared-slice-read-kind c = search needs
-
-part-requires : tie.Need-part-requires
-part-requires c κs = search needs
-
-write-packet-requires : tie.Need-write-packet-requires
-write-packet-requires c κs = search needs
-
-enum-known-w : tie.Need-enum-known-w
-enum-known-w c = search needs
-
-pour-bytes-requires : tie.Need-pour-bytes-requires
-pour-bytes-requires c κs = search needs
-
-enum-known-w-2 : tie.Need-enum-known-w-2
-enum-known-w-2 c = search needs
-
-pour-refused-requires-2 : tie.Need-pour-refused-requires-2
-pour-refused-requires-2 c κs = search needs
-
-same-length-2 : tie.Need-same-length-2
-same-length-2 c = search needs
-
-same-length-3 : tie.Need-same-length-3
-same-length-3 c = search needs
 
 returns-2 : tie.Need-returns-2
 returns-2 c =
@@ -83,12 +41,6 @@ returns-2 c =
     let blocks = q .part .ensures ∙ take-all (length b) (drop 15 b) (omega (arith, length-drop 15 b)) in
     pours-is (pours-then (d .pour-decimal .ensures) (p .pour-bytes .ensures))
     (line-bytes (a .n) b (a .packet .now) _ _ _ _ _ all (f .if1 .left) (z .before .before .before .pre) (s .session-at .ensures ∙ session-front b (f .if1 .left)) (v .word-at .ensures) blocks (k .write-packet .ensures) _ (t .w .given .1))
-
-same-length-4 : tie.Need-same-length-4
-same-length-4 c = search needs
-
-same-length-5 : tie.Need-same-length-5
-same-length-5 c = search needs
 
 returns-3 : tie.Need-returns-3
 returns-3 c =
@@ -112,22 +64,22 @@ pub one-more-spec : {M : Type 1} → statement M
 one-more-spec =
     tie.close
     (tie.spec
-    pour-decimal-requires
-    pour-refused-requires
-    same-length
+    (λ c κs. search needs)
+    (λ c κs. search needs)
+    (λ c. search needs)
     returns
-    session-at-requires
-    word-at-requires
-    shared-slice-read-kind
-    part-requires
-    write-packet-requires
-    enum-known-w
-    pour-bytes-requires
-    enum-known-w-2
-    pour-refused-requires-2
-    same-length-2
-    same-length-3
+    (λ c κs. search needs)
+    (λ c κs. search needs)
+    (λ c. search needs)
+    (λ c κs. search needs)
+    (λ c κs. search needs)
+    (λ c. search needs)
+    (λ c κs. search needs)
+    (λ c. search needs)
+    (λ c κs. search needs)
+    (λ c. search needs)
+    (λ c. search needs)
     returns-2
-    same-length-4
-    same-length-5
+    (λ c. search needs)
+    (λ c. search needs)
     returns-3)

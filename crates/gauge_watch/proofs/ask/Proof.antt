@@ -1,8 +1,5 @@
 -- What the watch says of a packet. Assumes nothing.
 use mathlib.Core.Path.{_≡_, sym, ap, _∙_}
-use mathlib.Core.Bool.{true}
-use Prim.Native.Nat.{ℕ}
-use native.Mathlib.Omega.{arith}
 use lib.ListN.{length}
 use mir.Syntax.{w32}
 use mir.ValLaws.{toZ-ofZ}
@@ -30,12 +27,6 @@ returns c =
     let h = its s in
     sym (ap (asked (s .args .g)) (h .is) ∙ noted-silent (s .args .g) (h .packet) (not-true _ (c .if1 .taken)))
 
-slice-aggregate-same-at : tie.Need-slice-aggregate-same-at
-slice-aggregate-same-at c = search needs
-
-same-at-requires : tie.Need-same-at-requires
-same-at-requires c κs = search needs
-
 returns-2 : tie.Need-returns-2
 returns-2 c =
     let k = c .before in
@@ -45,12 +36,6 @@ returns-2 c =
     let h = its s in
     let e = session-compared (a .p .now) (a .g .session) (h .packet) (a .header) (h .is) (h .header) (ten f) in
     sym (ap (asked (a .g)) (h .is) ∙ noted-other (a .g) (h .packet) (sym e ∙ sym (k .same-at .ensures) ∙ not-true _ (c .if2 .taken)))
-
-sequence-difference-requires : tie.Need-sequence-difference-requires
-sequence-difference-requires c κs = search needs
-
-tell-requires : tie.Need-tell-requires
-tell-requires c κs = search needs
 
 returns-3 : tie.Need-returns-3
 returns-3 c =
@@ -72,9 +57,9 @@ ask-spec =
     tie.close
     (tie.spec
     returns
-    slice-aggregate-same-at
-    same-at-requires
+    (λ c. search needs)
+    (λ c κs. search needs)
     returns-2
-    sequence-difference-requires
-    tell-requires
+    (λ c κs. search needs)
+    (λ c κs. search needs)
     returns-3)

@@ -1,11 +1,9 @@
 -- The answer and the gauge afterwards. Assumes nothing.
 use mathlib.Core.Path.{_≡_, sym, ap, _∙_}
-use Prim.Native.Nat.{ℕ}
 use native.Mathlib.Omega.{arith}
-use lib.ListN.{length, drop, replicate}
+use lib.ListN.{drop, replicate}
 use borrow.Author.Needs.{needs}
 use Rattle.wire.specs.Overlay.{overlay}
-use Rattle.watch.specs.Noted.{Noted}
 use Rattle.watch.specs.Watching.{moves}
 use Rattle.moss.specs.Limits.{sessionLength}
 use Rattle.moss.specs.Packet.{packetOf}
@@ -24,15 +22,6 @@ its c = headed (packetOf (c .args .p .now)) (c .args .header) (c .pre)
 -- what was answered is what is noted of that packet
 noted : (c : tie.After-ask) → let s = c .before .before in asked (s .args .g) (packetOf (s .args .p .now)) ≡ notedOf (s .args .g) (its s .packet)
 noted c = let s = c .before .before in ap (asked (s .args .g)) (its s .is)
-
-ask-requires : tie.Need-ask-requires
-ask-requires c κs = search needs
-
-does-move-requires : tie.Need-does-move-requires
-does-move-requires c κs = search needs
-
-session-at-requires : tie.Need-session-at-requires
-session-at-requires c κs = search needs
 
 last-of-requires : tie.Need-last-of-requires
 last-of-requires c κs =
@@ -71,9 +60,9 @@ pub see-header-spec : {M : Type 1} → statement M
 see-header-spec =
     tie.close
     (tie.spec
-    ask-requires
-    does-move-requires
-    session-at-requires
+    (λ c κs. search needs)
+    (λ c κs. search needs)
+    (λ c κs. search needs)
     last-of-requires
     returns
     returns-2)

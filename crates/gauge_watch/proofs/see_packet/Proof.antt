@@ -1,5 +1,5 @@
 -- A packet that is read, or the reader's refusal. Assumes nothing.
-use mathlib.Core.Path.{_≡_, sym, ap, _∙_}
+use mathlib.Core.Path.{sym, ap, _∙_}
 use borrow.Author.Needs.{needs}
 use Rattle.moss.specs.Packet.{packetOf}
 use Rattle.moss.specs.Answers.{reads}
@@ -8,12 +8,6 @@ use Rattle.gauge_watch.proofs.Hears.{not-read}
 use Rattle.gauge_watch.proofs.see_packet.Statement.{statement}
 use Rattle.gauge_watch.proofs.see_packet.Tie as tie
 
-read-packet-requires : tie.Need-read-packet-requires
-read-packet-requires c κs = search needs
-
-enum-known-read : tie.Need-enum-known-read
-enum-known-read c = search needs
-
 see-header-requires : tie.Need-see-header-requires
 see-header-requires c κs =
     let at-read = c .before in
@@ -21,9 +15,6 @@ see-header-requires c κs =
     let r = at-read .read in
     let k = place in
     sym (ap reads (r .given .1)) ∙ k .read-packet .ensures
-
-enum-known-read-2 : tie.Need-enum-known-read-2
-enum-known-read-2 c = search needs
 
 returns : tie.Need-returns
 returns c = c .see-header .ensures
@@ -42,9 +33,9 @@ pub see-packet-spec : {M : Type 1} → statement M
 see-packet-spec =
     tie.close
     (tie.spec
-    read-packet-requires
-    enum-known-read
+    (λ c κs. search needs)
+    (λ c. search needs)
     see-header-requires
-    enum-known-read-2
+    (λ c. search needs)
     returns
     returns-2)

@@ -1,5 +1,5 @@
 -- `held_bits::all_held` meets its contract. The loop's invariant: the fragments from word q on are held. Assumes nothing.
-use mathlib.Core.Path.{_≡_, refl, sym, _∙_}
+use mathlib.Core.Path.{_≡_, sym, _∙_}
 use Prim.Native.Nat.{_*_, _^_, _<_}
 use native.Mathlib.Omega.{arith}
 use borrow.Author.Tests.{eq-eqb, ne-eqb, not-true, not-false}
@@ -16,12 +16,6 @@ Inv-loop held n q₀ q = allBelow n (isHeld held) ≡ allBelow (64 * q) (isHeld 
 abbrev μ-loop : tie.MeasureT-loop
 μ-loop held n q₀ q = q
 
-word-requires : tie.Need-word-requires Inv-loop μ-loop
-word-requires c κs = search needs
-
-low-set-requires : tie.Need-low-set-requires Inv-loop μ-loop
-low-set-requires c κs = search needs
-
 returns : tie.Need-returns Inv-loop μ-loop
 returns c =
     let a = c .before .before .before .before .args in
@@ -34,12 +28,6 @@ loop-holds c =
     let last = rw (c .before .before .word .ensures) at (sym (c .before .low-set .ensures) ∙ not-false _ (c .if1 .left)) in
     rw last at (held-last (a .held .now) (a .n))
 
-sub-q : tie.Need-sub-q Inv-loop μ-loop
-sub-q c = search needs
-
-word-requires-2 : tie.Need-word-requires-2 Inv-loop μ-loop
-word-requires-2 c κs = search needs
-
 returns-2 : tie.Need-returns-2 Inv-loop μ-loop
 returns-2 c =
     let start = c .before .before .before in
@@ -49,9 +37,6 @@ returns-2 c =
     let small : w .result < 2 ^ 64 = omega arith in
     let missed = ne-eqb _ _ (λ q. c .if2 .taken (w .ensures ∙ q)) in
     sym (l .inv ∙ rw missed at (held-word (a .held .now) (l .q) (omega arith) (rw (w .ensures) at small)))
-
-loop-less : tie.Need-loop-less Inv-loop μ-loop
-loop-less c = search needs
 
 loop-again : tie.Need-loop-again Inv-loop μ-loop
 loop-again c =
@@ -74,13 +59,13 @@ all-held-spec =
     (tie.spec
     Inv-loop
     μ-loop
-    word-requires
-    low-set-requires
+    (λ c κs. search needs)
+    (λ c κs. search needs)
     returns
     loop-holds
-    sub-q
-    word-requires-2
+    (λ c. search needs)
+    (λ c κs. search needs)
     returns-2
-    loop-less
+    (λ c. search needs)
     loop-again
     returns-3)

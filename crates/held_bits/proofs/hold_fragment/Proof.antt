@@ -8,18 +8,6 @@ use Rattle.held_bits.proofs.Bits.{above-bits}
 use Rattle.held_bits.proofs.hold_fragment.Statement.{statement}
 use Rattle.held_bits.proofs.hold_fragment.Tie as tie
 
-word-requires : tie.Need-word-requires
-word-requires c κs = search needs
-
-shl-bit : tie.Need-shl-bit
-shl-bit c = search needs
-
-put-word-requires : tie.Need-put-word-requires
-put-word-requires c κs = search needs
-
-same-length : tie.Need-same-length
-same-length c = search needs
-
 returns : tie.Need-returns
 unfolding hold
 returns c =
@@ -29,4 +17,4 @@ returns c =
 
 pub hold-fragment-spec : {M : Type 1} → statement M
 hold-fragment-spec =
-    tie.close (tie.spec word-requires shl-bit put-word-requires same-length returns)
+    tie.close (tie.spec (λ c κs. search needs) (λ c. search needs) (λ c κs. search needs) (λ c. search needs) returns)

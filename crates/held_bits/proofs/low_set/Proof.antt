@@ -1,14 +1,10 @@
 -- `held_bits::low_set` meets its contract. Assumes nothing.
-use mathlib.Core.Path.{_≡_}
 use native.Mathlib.Omega.{arith}
 use lib.Pow.{pow-pos}
 use borrow.Author.Needs.{needs}
 use Rattle.held_bits.proofs.Bits.{above-bits, low-bits}
 use Rattle.held_bits.proofs.low_set.Statement.{statement}
 use Rattle.held_bits.proofs.low_set.Tie as tie
-
-shl-above : tie.Need-shl-above
-shl-above c = search needs
 
 rem-result : tie.Need-rem-result
 rem-result c =
@@ -26,4 +22,4 @@ returns c =
     rw (above-bits (a .n) (omega arith)) (low-bits (a .n) (a .w))
 
 pub low-set-spec : {M : Type 1} → statement M
-low-set-spec = tie.close (tie.spec shl-above rem-result sub-result returns)
+low-set-spec = tie.close (tie.spec (λ c. search needs) rem-result sub-result returns)

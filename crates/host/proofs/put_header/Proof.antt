@@ -14,12 +14,6 @@ returns c =
     let t = lt-ltb _ 10 (c .if1 .taken) in
     record { gave = rw t; left = rw t }
 
-kind-of-requires : tie.Need-kind-of-requires
-kind-of-requires c κs = search needs
-
-slice-write-fields : tie.Need-slice-write-fields
-slice-write-fields c = search needs
-
 slice-write-fields-2 : tie.Need-slice-write-fields-2
 slice-write-fields-2 c = simp length-set (omega arith)
 
@@ -35,32 +29,17 @@ slice-write-fields-5 c = simp length-set (omega arith)
 slice-write-fields-6 : tie.Need-slice-write-fields-6
 slice-write-fields-6 c = simp length-set (omega arith)
 
-cast-fields : tie.Need-cast-fields
-cast-fields c = search needs
-
 slice-write-fields-7 : tie.Need-slice-write-fields-7
 slice-write-fields-7 c = simp length-set (omega arith)
-
-cast-fields-2 : tie.Need-cast-fields-2
-cast-fields-2 c = search needs
 
 slice-write-fields-8 : tie.Need-slice-write-fields-8
 slice-write-fields-8 c = simp length-set (omega arith)
 
-cast-fields-3 : tie.Need-cast-fields-3
-cast-fields-3 c = search needs
-
 slice-write-fields-9 : tie.Need-slice-write-fields-9
 slice-write-fields-9 c = simp length-set (omega arith)
 
-cast-fields-4 : tie.Need-cast-fields-4
-cast-fields-4 c = search needs
-
 slice-write-fields-10 : tie.Need-slice-write-fields-10
 slice-write-fields-10 c = simp length-set (omega arith)
-
-same-length : tie.Need-same-length
-same-length c = search needs
 
 returns-2 : tie.Need-returns-2
 returns-2 c =
@@ -76,20 +55,20 @@ put-header-spec =
     tie.close
     (tie.spec
     returns
-    kind-of-requires
-    slice-write-fields
+    (λ c κs. search needs)
+    (λ c. search needs)
     slice-write-fields-2
     slice-write-fields-3
     slice-write-fields-4
     slice-write-fields-5
     slice-write-fields-6
-    cast-fields
+    (λ c. search needs)
     slice-write-fields-7
-    cast-fields-2
+    (λ c. search needs)
     slice-write-fields-8
-    cast-fields-3
+    (λ c. search needs)
     slice-write-fields-9
-    cast-fields-4
+    (λ c. search needs)
     slice-write-fields-10
-    same-length
+    (λ c. search needs)
     returns-2)

@@ -10,12 +10,6 @@ use borrow.Author.Needs.{needs}
 use Rattle.host.proofs.qm_cut.Statement.{statement}
 use Rattle.host.proofs.qm_cut.Tie as tie
 
-cut-datagram-requires : tie.Need-cut-datagram-requires
-cut-datagram-requires c κs = search needs
-
-enum-known-count : tie.Need-enum-known-count
-enum-known-count c = search needs
-
 mul-result : tie.Need-mul-result
 mul-result c =
     let at-count = c .before in
@@ -30,23 +24,11 @@ add-result c =
     let d = made _ _ _ _ _ _ _ (sym (at-cut-datagram .cut-datagram .ensures .answer) ∙ ap says (at-count .count .given .1)) in
     omega (arith, d .plan .few, made-short _ _ _ _ _ _ _ d)
 
-enum-known-n : tie.Need-enum-known-n
-enum-known-n c = search needs
-
-cast-result : tie.Need-cast-result
-cast-result c = search needs
-
-same-length : tie.Need-same-length
-same-length c = search needs
-
 returns : tie.Need-returns
 returns c =
     let at-count = c .before in
     let at-cut-datagram = at-count .before .before .before .before in
     cut-told _ _ _ _ _ _ _ _ _ (at-cut-datagram .cut-datagram .ensures) (sym (ap (λ (r : Cut). codeOf (says r)) (at-count .count .given .1)))
-
-same-length-2 : tie.Need-same-length-2
-same-length-2 c = search needs
 
 returns-2 : tie.Need-returns-2
 returns-2 c =
@@ -58,13 +40,13 @@ pub qm-cut-spec : {M : Type 1} → statement M
 qm-cut-spec =
     tie.close
     (tie.spec
-    cut-datagram-requires
-    enum-known-count
+    (λ c κs. search needs)
+    (λ c. search needs)
     mul-result
     add-result
-    enum-known-n
-    cast-result
-    same-length
+    (λ c. search needs)
+    (λ c. search needs)
+    (λ c. search needs)
     returns
-    same-length-2
+    (λ c. search needs)
     returns-2)

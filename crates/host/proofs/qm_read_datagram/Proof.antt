@@ -6,24 +6,12 @@ use borrow.Author.Needs.{needs}
 use Rattle.host.proofs.qm_read_datagram.Statement.{statement}
 use Rattle.host.proofs.qm_read_datagram.Tie as tie
 
-read-datagram-requires : tie.Need-read-datagram-requires
-read-datagram-requires c κs = search needs
-
-enum-known-h : tie.Need-enum-known-h
-enum-known-h c = search needs
-
 put-header-requires : tie.Need-put-header-requires
 put-header-requires c κs =
     let at-h = c .before .before in
     let at-read-datagram = at-h .before .before in
     let start = at-read-datagram .before .before .before in
     places-fit maxPayload maxFragments (start .args .datagram .now) _ (sym (at-read-datagram .read-datagram .ensures .answer) ∙ at-h .h .given .1)
-
-enum-known-n : tie.Need-enum-known-n
-enum-known-n c = search needs
-
-same-length : tie.Need-same-length
-same-length c = search needs
 
 returns : tie.Need-returns
 returns c =
@@ -42,10 +30,10 @@ pub qm-read-datagram-spec : {M : Type 1} → statement M
 qm-read-datagram-spec =
     tie.close
     (tie.spec
-    read-datagram-requires
-    enum-known-h
+    (λ c κs. search needs)
+    (λ c. search needs)
     put-header-requires
-    enum-known-n
-    same-length
+    (λ c. search needs)
+    (λ c. search needs)
     returns
     returns-2)

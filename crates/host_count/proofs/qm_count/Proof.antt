@@ -12,29 +12,8 @@ returns c =
     let start = c .before .before .before .before .before in
     let a = start .args in not-counted (a .log .now) (loan (a .store .now) (a .ledger .now) (a .numbers .now)) (a .report .now) (c .if1 .taken)
 
-count-log-requires : tie.Need-count-log-requires
-count-log-requires c κs = search needs
-
 enum-told : tie.Need-enum-told
 enum-told c = search needs
-
-put-report-requires : tie.Need-put-report-requires
-put-report-requires c κs = search needs
-
-enum-known-answer : tie.Need-enum-known-answer
-enum-known-answer c = search needs
-
-same-length : tie.Need-same-length
-same-length c = search needs
-
-same-length-2 : tie.Need-same-length-2
-same-length-2 c = search needs
-
-same-length-3 : tie.Need-same-length-3
-same-length-3 c = search needs
-
-same-length-4 : tie.Need-same-length-4
-same-length-4 c = search needs
 
 returns-2 : tie.Need-returns-2
 returns-2 c =
@@ -47,15 +26,6 @@ returns-2 c =
     let e = told .enum-told .given .1 in
     told-as-counted (a .log .now) (loan (a .store .now) (a .ledger .now) (a .numbers .now)) (a .report .now) (test .if1 .left) (l .count-log .ensures) (sym (ap codeBy e))
     (at-put-report .put-report .ensures ∙ sym (ap (λ (z : Answer). leftBy z (l .count-log .result .report) (a .report .now)) e))
-
-same-length-5 : tie.Need-same-length-5
-same-length-5 c = search needs
-
-same-length-6 : tie.Need-same-length-6
-same-length-6 c = search needs
-
-same-length-7 : tie.Need-same-length-7
-same-length-7 c = search needs
 
 returns-3 : tie.Need-returns-3
 returns-3 c =
@@ -72,16 +42,16 @@ qm-count-spec =
     tie.close
     (tie.spec
     returns
-    count-log-requires
+    (λ c κs. search needs)
     enum-told
-    put-report-requires
-    enum-known-answer
-    same-length
-    same-length-2
-    same-length-3
-    same-length-4
+    (λ c κs. search needs)
+    (λ c. search needs)
+    (λ c. search needs)
+    (λ c. search needs)
+    (λ c. search needs)
+    (λ c. search needs)
     returns-2
-    same-length-5
-    same-length-6
-    same-length-7
+    (λ c. search needs)
+    (λ c. search needs)
+    (λ c. search needs)
     returns-3)

@@ -9,27 +9,6 @@ use Rattle.host_flight.proofs.qm_log_first.Tie as tie
 returns : tie.Need-returns
 returns c = first-short _ _ (lt-ltb _ 3 (c .if1 .taken))
 
-first-entry-requires : tie.Need-first-entry-requires
-first-entry-requires c κs = search needs
-
-enum-known-first : tie.Need-enum-known-first
-enum-known-first c = search needs
-
-cast-t13 : tie.Need-cast-t13
-cast-t13 c = search needs
-
-slice-aggregate-put-words : tie.Need-slice-aggregate-put-words
-slice-aggregate-put-words c = search needs
-
-put-words-requires : tie.Need-put-words-requires
-put-words-requires c κs = search needs
-
-enum-known-first-2 : tie.Need-enum-known-first-2
-enum-known-first-2 c = search needs
-
-same-length : tie.Need-same-length
-same-length c = search needs
-
 returns-2 : tie.Need-returns-2
 returns-2 c =
     let putting = c .before .before in
@@ -47,12 +26,12 @@ qm-log-first-spec =
     tie.close
     (tie.spec
     returns
-    first-entry-requires
-    enum-known-first
-    cast-t13
-    slice-aggregate-put-words
-    put-words-requires
-    enum-known-first-2
-    same-length
+    (λ c κs. search needs)
+    (λ c. search needs)
+    (λ c. search needs)
+    (λ c. search needs)
+    (λ c κs. search needs)
+    (λ c. search needs)
+    (λ c. search needs)
     returns-2
     returns-3)

@@ -9,26 +9,8 @@ use Rattle.host_flight.proofs.qm_log_next.Tie as tie
 returns : tie.Need-returns
 returns c = next-short _ _ _ (lt-ltb _ 6 (c .if1 .taken))
 
-next-entry-requires : tie.Need-next-entry-requires
-next-entry-requires c κs = search needs
-
-enum-known-step : tie.Need-enum-known-step
-enum-known-step c = search needs
-
-put-found-requires : tie.Need-put-found-requires
-put-found-requires c κs = search needs
-
 enum-told : tie.Need-enum-told
 enum-told c = search needs
-
-put-end-requires : tie.Need-put-end-requires
-put-end-requires c κs = search needs
-
-enum-known-step-2 : tie.Need-enum-known-step-2
-enum-known-step-2 c = search needs
-
-same-length : tie.Need-same-length
-same-length c = search needs
 
 returns-2 : tie.Need-returns-2
 returns-2 c =
@@ -36,9 +18,6 @@ returns-2 c =
     let met = c .before .before .before .before .before in
     let reading = met .before .before in
     next-told _ _ _ _ _ _ (le-ltb _ 6 (reading .before .if1 .left)) (sym (reading .next-entry .ensures) ∙ met .step .given .1) (p .0) (p .1)
-
-same-length-2 : tie.Need-same-length-2
-same-length-2 c = search needs
 
 returns-3 : tie.Need-returns-3
 returns-3 c =
@@ -57,14 +36,14 @@ qm-log-next-spec =
     tie.close
     (tie.spec
     returns
-    next-entry-requires
-    enum-known-step
-    put-found-requires
+    (λ c κs. search needs)
+    (λ c. search needs)
+    (λ c κs. search needs)
     enum-told
-    put-end-requires
-    enum-known-step-2
-    same-length
+    (λ c κs. search needs)
+    (λ c. search needs)
+    (λ c. search needs)
     returns-2
-    same-length-2
+    (λ c. search needs)
     returns-3
     returns-4)

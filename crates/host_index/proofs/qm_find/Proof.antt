@@ -7,24 +7,6 @@ use Rattle.host_index.proofs.qm_find.Tie as tie
 returns : tie.Need-returns
 returns c = find-short _ _ _ _ _ (c .if1 .taken)
 
-as-word-requires : tie.Need-as-word-requires
-as-word-requires c κs = search needs
-
-find-requires : tie.Need-find-requires
-find-requires c κs = search needs
-
-place-numbers-requires : tie.Need-place-numbers-requires
-place-numbers-requires c κs = search needs
-
-slice-aggregate-put-words : tie.Need-slice-aggregate-put-words
-slice-aggregate-put-words c = search needs
-
-put-words-requires : tie.Need-put-words-requires
-put-words-requires c κs = search needs
-
-same-length : tie.Need-same-length
-same-length c = search needs
-
 returns-2 : tie.Need-returns-2
 returns-2 c =
     let putting = c .before .before in
@@ -39,10 +21,10 @@ qm-find-spec =
     tie.close
     (tie.spec
     returns
-    as-word-requires
-    find-requires
-    place-numbers-requires
-    slice-aggregate-put-words
-    put-words-requires
-    same-length
+    (λ c κs. search needs)
+    (λ c κs. search needs)
+    (λ c κs. search needs)
+    (λ c. search needs)
+    (λ c κs. search needs)
+    (λ c. search needs)
     returns-2)

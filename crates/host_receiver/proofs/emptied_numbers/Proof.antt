@@ -5,17 +5,8 @@ use borrow.Author.Needs.{needs}
 use Rattle.host_receiver.proofs.emptied_numbers.Statement.{statement}
 use Rattle.host_receiver.proofs.emptied_numbers.Tie as tie
 
-enum-told : tie.Need-enum-told
-enum-told c = search needs
-
-enum-known-emptied : tie.Need-enum-known-emptied
-enum-known-emptied c = search needs
-
-returns : tie.Need-returns
-returns c = search needs
-
 returns-2 : tie.Need-returns-2
 returns-2 c = sym (ap emptiedNumbers (c .before .emptied .given .1))
 
 pub emptied-numbers-spec : {M : Type 1} → statement M
-emptied-numbers-spec = tie.close (tie.spec enum-told enum-known-emptied returns returns-2)
+emptied-numbers-spec = tie.close (tie.spec (λ c. search needs) (λ c. search needs) (λ c. search needs) returns-2)

@@ -6,12 +6,6 @@ use borrow.Author.Needs.{needs}
 use Rattle.host_receiver.proofs.place_numbers.Statement.{statement}
 use Rattle.host_receiver.proofs.place_numbers.Tie as tie
 
-enum-known-place : tie.Need-enum-known-place
-enum-known-place c = search needs
-
-enum-known-place-2 : tie.Need-enum-known-place-2
-enum-known-place-2 c = search needs
-
 returns : tie.Need-returns
 returns c =
     let s = c .before .before .before in
@@ -23,4 +17,4 @@ returns-2 c =
     sym (ap (λ (p : PayloadAt). placeNumbers p (s .args .len)) (c .before .place2 .given .1))
 
 pub place-numbers-spec : {M : Type 1} → statement M
-place-numbers-spec = tie.close (tie.spec enum-known-place enum-known-place-2 returns returns-2)
+place-numbers-spec = tie.close (tie.spec (λ c. search needs) (λ c. search needs) returns returns-2)

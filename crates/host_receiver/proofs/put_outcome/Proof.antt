@@ -5,36 +5,6 @@ use borrow.Author.Needs.{needs}
 use Rattle.host_receiver.proofs.put_outcome.Statement.{statement}
 use Rattle.host_receiver.proofs.put_outcome.Tie as tie
 
-answer-numbers-requires : tie.Need-answer-numbers-requires
-answer-numbers-requires c κs = search needs
-
-emptied-numbers-requires : tie.Need-emptied-numbers-requires
-emptied-numbers-requires c κs = search needs
-
-slice-aggregate-put-words : tie.Need-slice-aggregate-put-words
-slice-aggregate-put-words c = search needs
-
-put-words-requires : tie.Need-put-words-requires
-put-words-requires c κs = search needs
-
-slice-aggregate-put-words-2 : tie.Need-slice-aggregate-put-words-2
-slice-aggregate-put-words-2 c = search needs
-
-put-words-requires-2 : tie.Need-put-words-requires-2
-put-words-requires-2 c κs = search needs
-
-slice-aggregate-put-bytes : tie.Need-slice-aggregate-put-bytes
-slice-aggregate-put-bytes c = search needs
-
-put-bytes-requires : tie.Need-put-bytes-requires
-put-bytes-requires c κs = search needs
-
-same-length : tie.Need-same-length
-same-length c = search needs
-
-same-length-2 : tie.Need-same-length-2
-same-length-2 c = search needs
-
 returns : tie.Need-returns
 returns c =
     let named = c .before .before in
@@ -54,14 +24,14 @@ pub put-outcome-spec : {M : Type 1} → statement M
 put-outcome-spec =
     tie.close
     (tie.spec
-    answer-numbers-requires
-    emptied-numbers-requires
-    slice-aggregate-put-words
-    put-words-requires
-    slice-aggregate-put-words-2
-    put-words-requires-2
-    slice-aggregate-put-bytes
-    put-bytes-requires
-    same-length
-    same-length-2
+    (λ c κs. search needs)
+    (λ c κs. search needs)
+    (λ c. search needs)
+    (λ c κs. search needs)
+    (λ c. search needs)
+    (λ c κs. search needs)
+    (λ c. search needs)
+    (λ c κs. search needs)
+    (λ c. search needs)
+    (λ c. search needs)
     returns)

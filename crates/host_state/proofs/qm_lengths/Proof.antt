@@ -9,18 +9,6 @@ returns c =
     let t = lt-ltb _ 10 (c .if1 .taken) in
     record { gave = rw t; left = rw t }
 
-cast-t7 : tie.Need-cast-t7
-cast-t7 c = search needs
-
-slice-aggregate-put-words : tie.Need-slice-aggregate-put-words
-slice-aggregate-put-words c = search needs
-
-put-words-requires : tie.Need-put-words-requires
-put-words-requires c κs = search needs
-
-same-length : tie.Need-same-length
-same-length c = search needs
-
 returns-2 : tie.Need-returns-2
 returns-2 c =
     let t = le-ltb _ 10 (c .before .before .before .before .before .if1 .left) in
@@ -29,4 +17,4 @@ returns-2 c =
 pub qm-lengths-spec : {M : Type 1} → statement M
 qm-lengths-spec =
     tie.close
-    (tie.spec returns cast-t7 slice-aggregate-put-words put-words-requires same-length returns-2)
+    (tie.spec returns (λ c. search needs) (λ c. search needs) (λ c κs. search needs) (λ c. search needs) returns-2)

@@ -2,23 +2,11 @@
 use mathlib.Core.Path.{sym, _∙_}
 use Prim.Native.Nat.{ℕ}
 use native.Mathlib.Omega.{arith}
-use lib.ListN.{length, replicate, length-replicate}
+use lib.ListN.{length, length-replicate}
 use Rattle.index_builder.proofs.Answers.{adds-refused, adds-full, adds-all, room-before}
 use borrow.Author.Needs.{needs}
 use Rattle.index_builder.proofs.add.Statement.{statement}
 use Rattle.index_builder.proofs.add.Tie as tie
-
-slice-aggregate-walk : tie.Need-slice-aggregate-walk
-slice-aggregate-walk c = search needs
-
-slice-aggregate-walk-2 : tie.Need-slice-aggregate-walk-2
-slice-aggregate-walk-2 c = search needs
-
-walk-requires : tie.Need-walk-requires
-walk-requires c κs = search needs
-
-enum-known-counted : tie.Need-enum-known-counted
-enum-known-counted c = search needs
 
 enum-told : tie.Need-enum-told
 enum-told c = search needs
@@ -30,9 +18,6 @@ returns c =
     let a = start .args in
     adds-refused _ _ _ _ _ (a .index .now) (a .n) _ (at-walk .walk .ensures) (c .enum-told .given .1)
 
-no-room-requires : tie.Need-no-room-requires
-no-room-requires c κs = search needs
-
 returns-2 : tie.Need-returns-2
 returns-2 c =
     let at-no-room = c .before in
@@ -42,9 +27,6 @@ returns-2 c =
     let a = start .args in
     adds-full _ _ _ _ _ (a .index .now) (a .n) _ (at-walk .walk .ensures) (at-counted .counted .given .1) (sym (at-no-room .no-room .ensures) ∙ c .if1 .taken)
 
-slice-aggregate-walk-3 : tie.Need-slice-aggregate-walk-3
-slice-aggregate-walk-3 c = search needs
-
 walk-requires-2 : tie.Need-walk-requires-2
 walk-requires-2 c κs =
     let at-if1 = c .before .before in
@@ -52,9 +34,6 @@ walk-requires-2 c κs =
     let start = at-no-room .before .before .before .before .before .before .before .before .before .before .before in
     let a = start .args in
     room-before (length (a .index .now)) (a .n) _ (sym (at-no-room .no-room .ensures) ∙ at-if1 .if1 .left)
-
-same-length : tie.Need-same-length
-same-length c = search needs
 
 returns-3 : tie.Need-returns-3
 returns-3 c =
@@ -72,15 +51,15 @@ pub add-spec : {M : Type 1} → statement M
 add-spec =
     tie.close
     (tie.spec
-    slice-aggregate-walk
-    slice-aggregate-walk-2
-    walk-requires
-    enum-known-counted
+    (λ c. search needs)
+    (λ c. search needs)
+    (λ c κs. search needs)
+    (λ c. search needs)
     enum-told
     returns
-    no-room-requires
+    (λ c κs. search needs)
     returns-2
-    slice-aggregate-walk-3
+    (λ c. search needs)
     walk-requires-2
-    same-length
+    (λ c. search needs)
     returns-3)

@@ -1,5 +1,5 @@
 -- A row where the reader accepts the datagram, or none. Assumes nothing.
-use mathlib.Core.Path.{_≡_, sym, _∙_}
+use mathlib.Core.Path.{sym, _∙_}
 use Rattle.index_builder.proofs.Walks.{take-none, take-one}
 use borrow.Author.Needs.{needs}
 use Rattle.index_builder.proofs.enter_datagram.Statement.{statement}
@@ -13,12 +13,6 @@ use Rattle.index_builder.proofs.enter_datagram.Tie as tie
 
 -- A row where the reader accepts the datagram, or none. Assumes nothing.
 
-read-datagram-requires : tie.Need-read-datagram-requires
-read-datagram-requires c κs = search needs
-
-enum-known-read : tie.Need-enum-known-read
-enum-known-read c = search needs
-
 enum-told : tie.Need-enum-told
 enum-told c = search needs
 
@@ -28,18 +22,6 @@ returns c =
     let start = at-read-datagram .before .before .before in
     let a = start .args in
     take-none (a .sender) (a .place) (a .index .now) (a .n) _ _ (sym (at-read-datagram .read-datagram .ensures .answer) ∙ c .enum-told .given .1)
-
-cast-enter : tie.Need-cast-enter
-cast-enter c = search needs
-
-enter-requires : tie.Need-enter-requires
-enter-requires c κs = search needs
-
-add-result : tie.Need-add-result
-add-result c = search needs
-
-same-length : tie.Need-same-length
-same-length c = search needs
 
 returns-2 : tie.Need-returns-2
 returns-2 c =
@@ -54,12 +36,12 @@ pub enter-datagram-spec : {M : Type 1} → statement M
 enter-datagram-spec =
     tie.close
     (tie.spec
-    read-datagram-requires
-    enum-known-read
+    (λ c κs. search needs)
+    (λ c. search needs)
     enum-told
     returns
-    cast-enter
-    enter-requires
-    add-result
-    same-length
+    (λ c. search needs)
+    (λ c κs. search needs)
+    (λ c. search needs)
+    (λ c. search needs)
     returns-2)

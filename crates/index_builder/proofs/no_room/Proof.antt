@@ -22,16 +22,10 @@ returns-2 c =
     let a = c .before .before .args in
     full-then (a .words) (a .n) (a .k) (c .before .if1 .left) (c .if2 .taken)
 
-add-result : tie.Need-add-result
-add-result c = search needs
-
-mul-result : tie.Need-mul-result
-mul-result c = search needs
-
 returns-3 : tie.Need-returns-3
 returns-3 c =
     let a = c .before .before .args in
     room-words (a .words) (a .n) (a .k) (c .before .if1 .left) (c .if2 .left)
 
 pub no-room-spec : {M : Type 1} → statement M
-no-room-spec = tie.close (tie.spec returns returns-2 add-result mul-result returns-3)
+no-room-spec = tie.close (tie.spec returns returns-2 (λ c. search needs) (λ c. search needs) returns-3)

@@ -18,15 +18,6 @@ returns c =
     let t = c .if1 .taken in
     record { sum = refl; size = refl; waits = λ h. (refl, refl); settles = λ h. absurd (omega (arith, t, h)) }
 
-merge-requires : tie.Need-merge-requires
-merge-requires c κs = search needs
-
-add-t9 : tie.Need-add-t9
-add-t9 c = search needs
-
-same-length : tie.Need-same-length
-same-length c = search needs
-
 returns-2 : tie.Need-returns-2
 returns-2 c =
     let at-merge = c .before .before in
@@ -36,4 +27,4 @@ returns-2 c =
     record { sum = omega arith; size = ap length m ∙ rows-length _ _ _ _; waits = λ h. absurd (omega (arith, t, h)); settles = λ h. (refl, m) }
 
 pub settle-spec : {M : Type 1} → statement M
-settle-spec = tie.close (tie.spec returns merge-requires add-t9 same-length returns-2)
+settle-spec = tie.close (tie.spec returns (λ c κs. search needs) (λ c. search needs) (λ c. search needs) returns-2)

@@ -1,5 +1,5 @@
 -- The loop: the rows in the index, those that wait and those to come are all. Assumes nothing.
-use mathlib.Core.Path.{_≡_, sym, ap, _∙_}
+use mathlib.Core.Path.{sym, ap, _∙_}
 use mathlib.Core.List.{List}
 use Prim.Native.Nat.{ℕ, _+_, _-_, _≤_}
 use native.Mathlib.Omega.{arith}
@@ -8,7 +8,7 @@ use Rattle.wire.specs.Bytes.{Bytes}
 use Rattle.datagram.specs.Read.{readDatagram}
 use Rattle.datagram.specs.declared.Read.{Read}
 use Rattle.log_index.specs.Index.{rowFor, rowsFrom}
-use Rattle.log_index.proofs.Gathers.{ahead, Goes, next-found, next-ended, next-refused, rows-past}
+use Rattle.log_index.proofs.Gathers.{ahead, next-found, next-ended, next-refused, rows-past}
 use Rattle.index_builder.proofs.Walks.{Going, going-start, going-next, going-refused, going-none, going-done}
 use borrow.Author.Needs.{needs}
 use Rattle.index_builder.proofs.walk.Statement.{statement}
@@ -26,15 +26,6 @@ loop-holds : tie.Need-loop-holds Inv-loop μ-loop
 loop-holds c =
     let a = c .before .before .before .args in
     (omega arith, (omega arith, going-start (a .index .now) (a .n) (rowsFrom (a .limits) (a .log .now) (a .from)) (a .batch .now)))
-
-next-entry-requires : tie.Need-next-entry-requires Inv-loop μ-loop
-next-entry-requires c κs = search needs
-
-enum-known-step : tie.Need-enum-known-step Inv-loop μ-loop
-enum-known-step c = search needs
-
-part-requires : tie.Need-part-requires Inv-loop μ-loop
-part-requires c κs = search needs
 
 enter-datagram-requires : tie.Need-enter-datagram-requires Inv-loop μ-loop
 enter-datagram-requires c κs =
@@ -96,12 +87,6 @@ finish-requires c κs =
     let start = turn .before .before .before .before in
     omega (arith, turn .loop .inv .0, at-loop-test .loop-test .taken, start .pre)
 
-same-length : tie.Need-same-length Inv-loop μ-loop
-same-length c = search needs
-
-same-length-2 : tie.Need-same-length-2 Inv-loop μ-loop
-same-length-2 c = search needs
-
 returns : tie.Need-returns Inv-loop μ-loop
 returns c =
     let at-finish = c .before .before in
@@ -115,9 +100,6 @@ returns c =
     let all : Bytes (a .log .now) = λ i. omega (arith, z .shared-slice-known .given i) in
     let e = next-ended (a .limits) (a .log .now) all (l .at) (sym (at-next-entry .next-entry .ensures) ∙ k .enum-told .given .1) in
     going-done _ _ _ _ _ _ _ _ _ (l .inv .1 .1) e _ _ (at-finish .finish .ensures)
-
-enum-known-step-2 : tie.Need-enum-known-step-2 Inv-loop μ-loop
-enum-known-step-2 c = search needs
 
 same-length-3 : tie.Need-same-length-3 Inv-loop μ-loop
 same-length-3 c = c .before .before .before .before .before .loop .inv .1 .1 .size
@@ -148,12 +130,6 @@ finish-requires-2 c κs =
     let start = turn .before .before .before .before in
     omega (arith, turn .loop .inv .0, turn .loop .inv .1 .0, start .pre)
 
-same-length-5 : tie.Need-same-length-5 Inv-loop μ-loop
-same-length-5 c = search needs
-
-same-length-6 : tie.Need-same-length-6 Inv-loop μ-loop
-same-length-6 c = search needs
-
 returns-3 : tie.Need-returns-3 Inv-loop μ-loop
 returns-3 c =
     let at-finish2 = c .before .before in
@@ -174,23 +150,23 @@ walk-spec =
     Inv-loop
     μ-loop
     loop-holds
-    next-entry-requires
-    enum-known-step
-    part-requires
+    (λ c κs. search needs)
+    (λ c. search needs)
+    (λ c κs. search needs)
     enter-datagram-requires
     settle-requires
     loop-less
     loop-again
     enum-told
     finish-requires
-    same-length
-    same-length-2
+    (λ c. search needs)
+    (λ c. search needs)
     returns
-    enum-known-step-2
+    (λ c. search needs)
     same-length-3
     same-length-4
     returns-2
     finish-requires-2
-    same-length-5
-    same-length-6
+    (λ c. search needs)
+    (λ c. search needs)
     returns-3)

@@ -1,8 +1,8 @@
 -- `lmcp::half` meets its contract: the constant's entries are those powers, by one computed test.
-use mathlib.Core.Path.{_≡_, refl, ap, _∙_}
+use mathlib.Core.Path.{refl, ap, _∙_}
 use mathlib.Core.Bool.{Bool}
 use mathlib.Core.List.{List, [], _∷_}
-use Prim.Native.Nat.{ℕ, _-_, _*_, _^_, _<_, min}
+use Prim.Native.Nat.{ℕ, _-_, _*_, _^_}
 use native.Mathlib.Omega.{arith}
 use lib.Dec.{eqb}
 use lib.ListN.{getD}
@@ -18,19 +18,10 @@ halves = 1 ∷ 128 ∷ 32768 ∷ 8388608 ∷ 2147483648 ∷ 549755813888 ∷ 140
 abbrev right : ℕ → Bool
 right w = eqb (getD halves w 0) (2 ^ (8 * w - 1))
 
-least-requires : tie.Need-least-requires
-least-requires c κs = search needs
-
-mul-result : tie.Need-mul-result
-mul-result c = search needs
-
-array-read-result : tie.Need-array-read-result
-array-read-result c = search needs
-
 returns : tie.Need-returns
 returns c =
     let w = c .least .result in
     eqb-true (getD halves w 0) (2 ^ (8 * w - 1)) (under right 9 refl w (let e = c .least .ensures in omega arith)) ∙ ap (λ (n : ℕ). 2 ^ (8 * n - 1)) (c .least .ensures)
 
 pub half-spec : {M : Type 1} → statement M
-half-spec = tie.close (tie.spec least-requires mul-result array-read-result returns)
+half-spec = tie.close (tie.spec (λ c κs. search needs) (λ c. search needs) (λ c. search needs) returns)

@@ -1,14 +1,13 @@
 -- `lmcp::size_of` meets its contract: of a number below 0 the size is less one less it.
-use mathlib.Core.Path.{_≡_, refl, sym, ap, _∙_, subst}
-use mathlib.Core.Bool.{Bool, true, false}
-use Prim.Native.Nat.{ℕ, _+_, _-_, _*_, _≤_, _<_}
+use mathlib.Core.Path.{_≡_, sym, ap, _∙_, subst}
+use mathlib.Core.Bool.{true, false}
 use native.Mathlib.Omega.{arith}
 use lib.IntN.{ℤ, pos, negsuc, _-ℤ_, natAbs}
-use lib.Signed.{mag, ltZ, nonNeg}
+use lib.Signed.{ltZ, nonNeg}
 use lib.Dec.{T}
 use mir.Syntax.{w64}
 use mir.Val.{toZ, ofZ, SFits, Fits}
-use Rattle.wire.proofs.Signs.{Below, below, Above, above}
+use Rattle.wire.proofs.Signs.{below, above}
 use Rattle.lmcp.proofs.Sizes.{through, negative-size, positive-size}
 use Rattle.lmcp.proofs.size_of.Statement.{statement}
 use Rattle.lmcp.proofs.size_of.Tie as tie

@@ -7,11 +7,8 @@ use borrow.Author.Needs.{needs}
 use Rattle.lmcp_bytes.proofs.calculates.Statement.{statement}
 use Rattle.lmcp_bytes.proofs.calculates.Tie as tie
 
-number-requires : tie.Need-number-requires
-number-requires c κs = search needs
-
 returns : tie.Need-returns
 returns c = ap (λ (n : ℕ). not (eqb n 0)) (c .number .ensures .value)
 
 pub calculates-spec : {M : Type 1} → statement M
-calculates-spec = tie.close (tie.spec number-requires returns)
+calculates-spec = tie.close (tie.spec (λ c κs. search needs) returns)

@@ -23,9 +23,6 @@ slice-aggregate-run-3 c = zeros _
 slice-aggregate-run-4 : tie.Need-slice-aggregate-run-4
 slice-aggregate-run-4 c = zeros _
 
-run-requires : tie.Need-run-requires
-run-requires c κs = search needs
-
 returns : tie.Need-returns
 returns c = tt
 
@@ -37,5 +34,5 @@ main-spec =
     slice-aggregate-run-2
     slice-aggregate-run-3
     slice-aggregate-run-4
-    run-requires
+    (λ c κs. search needs)
     returns)

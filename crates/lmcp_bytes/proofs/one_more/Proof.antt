@@ -17,15 +17,6 @@ use native.Mathlib.Omega.{arith}
 use Rattle.lmcp_bytes.proofs.one_more.Statement.{statement}
 use Rattle.lmcp_bytes.proofs.one_more.Tie as tie
 
-pour-decimal-requires : tie.Need-pour-decimal-requires
-pour-decimal-requires c κs = search needs
-
-pour-longer-requires : tie.Need-pour-longer-requires
-pour-longer-requires c κs = search needs
-
-same-length : tie.Need-same-length
-same-length c = search needs
-
 returns : tie.Need-returns
 returns c =
     let p = c .before .before in
@@ -33,30 +24,10 @@ returns c =
     let d = t .before .before .before in
     let a = d .before .before .before .before .before .args in
     subst
-    (λ (b : Bool). byLength b (a .calculate) (a .body .now) (a .n) (a .list .now) (a .bytes .now) (a .out .now) (a .at) (a .list .now) (a .bytes .now) (p .pour-longer .last .0) (p .pour-longer .result))
+    (λ (b : Bool). byLength b (a .calculate) (a .body .now) (a .n) (record { list = a .list .now; bytes = a .bytes .now; out = a .out .now }) (a .at)
+    (record { list = a .list .now; bytes = a .bytes .now; out = p .pour-longer .last .0 }) (p .pour-longer .result))
     (sym (lt-ltb (length (a .list .now)) (length (a .body .now) / 8) (t .if1 .taken)))
     (record { same-list = refl; same-bytes = refl; said = pours-then (d .pour-decimal .ensures) (p .pour-longer .ensures) })
-
-take-list-requires : tie.Need-take-list-requires
-take-list-requires c κs = search needs
-
-front-requires : tie.Need-front-requires
-front-requires c κs = search needs
-
-write-message-requires : tie.Need-write-message-requires
-write-message-requires c κs = search needs
-
-pour-made-requires : tie.Need-pour-made-requires
-pour-made-requires c κs = search needs
-
-same-length-2 : tie.Need-same-length-2
-same-length-2 c = search needs
-
-same-length-3 : tie.Need-same-length-3
-same-length-3 c = search needs
-
-same-length-4 : tie.Need-same-length-4
-same-length-4 c = search needs
 
 returns-2 : tie.Need-returns-2
 returns-2 c =
@@ -73,7 +44,8 @@ returns-2 c =
     ∙ ap (λ (k : ℕ). take k (sets (a .list .now) 0 vs)) (sym (length-numbers (length (a .body .now) / 8) (a .body .now)))
     ∙ taken-front (a .list .now) vs (omega (arith, length-numbers (length (a .body .now) / 8) (a .body .now), t .if1 .left)) in
     subst
-    (λ (b : Bool). byLength b (a .calculate) (a .body .now) (a .n) (a .list .now) (a .bytes .now) (a .out .now) (a .at) (l .take-list .last .1 .0) (w .write-message .last .1 .1 .0) (p .pour-made .last .0) (p .pour-made .result))
+    (λ (b : Bool). byLength b (a .calculate) (a .body .now) (a .n) (record { list = a .list .now; bytes = a .bytes .now; out = a .out .now }) (a .at)
+    (record { list = l .take-list .last .1 .0; bytes = w .write-message .last .1 .1 .0; out = p .pour-made .last .0 }) (p .pour-made .result))
     (sym (le-ltb (length (a .list .now)) (length (a .body .now) / 8) (t .if1 .left)))
     (record {
       taken = l .take-list .ensures .1;
@@ -88,15 +60,15 @@ pub one-more-spec : {M : Type 1} → statement M
 one-more-spec =
     tie.close
     (tie.spec
-    pour-decimal-requires
-    pour-longer-requires
-    same-length
+    (λ c κs. search needs)
+    (λ c κs. search needs)
+    (λ c. search needs)
     returns
-    take-list-requires
-    front-requires
-    write-message-requires
-    pour-made-requires
-    same-length-2
-    same-length-3
-    same-length-4
+    (λ c κs. search needs)
+    (λ c κs. search needs)
+    (λ c κs. search needs)
+    (λ c κs. search needs)
+    (λ c. search needs)
+    (λ c. search needs)
+    (λ c. search needs)
     returns-2)

@@ -1,9 +1,9 @@
 -- The numbers of a body. The loop's invariant: the i numbers passed are stored. Assumes nothing.
-use mathlib.Core.Path.{_≡_, refl, sym, ap, _∙_}
+use mathlib.Core.Path.{_≡_, refl, ap, _∙_}
 use mathlib.Core.List.{List}
-use Prim.Native.Nat.{ℕ, _+_, _-_, _*_, _/_, _≤_}
+use Prim.Native.Nat.{ℕ, _+_, _-_, _/_, _≤_}
 use lib.IntN.{ℤ}
-use lib.ListN.{length, drop, set, length-set}
+use lib.ListN.{length, set}
 use lib.Seq.{sets, length-sets}
 use native.Mathlib.Omega.{arith}
 use mir.Syntax.{w64}
@@ -25,27 +25,6 @@ abbrev μ-loop : tie.MeasureT-loop
 loop-holds : tie.Need-loop-holds Inv-loop μ-loop
 loop-holds c = (omega arith, refl, refl)
 
-mul-number : tie.Need-mul-number Inv-loop μ-loop
-mul-number c = search needs
-
-number-requires : tie.Need-number-requires Inv-loop μ-loop
-number-requires c κs = search needs
-
-signed-of-requires : tie.Need-signed-of-requires Inv-loop μ-loop
-signed-of-requires c κs = search needs
-
-mul-z : tie.Need-mul-z Inv-loop μ-loop
-mul-z c = search needs
-
-slice-set-from-z : tie.Need-slice-set-from-z Inv-loop μ-loop
-slice-set-from-z c = search needs
-
-add-i : tie.Need-add-i Inv-loop μ-loop
-add-i c = search needs
-
-loop-less : tie.Need-loop-less Inv-loop μ-loop
-loop-less c = search needs
-
 loop-again : tie.Need-loop-again Inv-loop μ-loop
 loop-again c =
     let s = c in
@@ -56,9 +35,6 @@ loop-again c =
     let e = toZ-ofZ w64 (s .signed-of .result) (record { sfits = s .signed-of .ok }) ∙ s .signed-of .ensures ∙ ap (signed 64) (k .number .ensures .value) in
     let q = ap (λ (x : List ℤ). set x (l .loop .i) z) (l .loop .inv .2) ∙ taken-one (l .before .before .args .list .now) (l .loop .i) b z e in
     (omega arith, ap length q ∙ length-sets (l .before .before .args .list .now) 0 (numbersOf (l .loop .i + 1) b), q)
-
-same-length : tie.Need-same-length Inv-loop μ-loop
-same-length c = search needs
 
 returns : tie.Need-returns Inv-loop μ-loop
 returns c =
@@ -74,13 +50,13 @@ take-list-spec =
     Inv-loop
     μ-loop
     loop-holds
-    mul-number
-    number-requires
-    signed-of-requires
-    mul-z
-    slice-set-from-z
-    add-i
-    loop-less
+    (λ c. search needs)
+    (λ c κs. search needs)
+    (λ c κs. search needs)
+    (λ c. search needs)
+    (λ c. search needs)
+    (λ c. search needs)
+    (λ c. search needs)
     loop-again
-    same-length
+    (λ c. search needs)
     returns)

@@ -20,9 +20,6 @@ slice-aggregate-run-2 c = numbers _
 slice-aggregate-run-3 : tie.Need-slice-aggregate-run-3
 slice-aggregate-run-3 c = zeros _
 
-run-requires : tie.Need-run-requires
-run-requires c κs = search needs
-
 returns : tie.Need-returns
 returns c = tt
 
@@ -33,5 +30,5 @@ main-spec =
     slice-aggregate-run
     slice-aggregate-run-2
     slice-aggregate-run-3
-    run-requires
+    (λ c κs. search needs)
     returns)

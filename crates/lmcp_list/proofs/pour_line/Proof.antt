@@ -4,21 +4,6 @@ use borrow.Author.Needs.{needs}
 use Rattle.lmcp_list.proofs.pour_line.Statement.{statement}
 use Rattle.lmcp_list.proofs.pour_line.Tie as tie
 
-pour-decimal-requires : tie.Need-pour-decimal-requires
-pour-decimal-requires c κs = search needs
-
-pour-found-requires : tie.Need-pour-found-requires
-pour-found-requires c κs = search needs
-
-slice-aggregate-pour : tie.Need-slice-aggregate-pour
-slice-aggregate-pour c = search needs
-
-pour-requires : tie.Need-pour-requires
-pour-requires c κs = search needs
-
-same-length : tie.Need-same-length
-same-length c = search needs
-
 returns : tie.Need-returns
 returns c =
     let p = c .before .before in
@@ -29,9 +14,9 @@ pub pour-line-spec : {M : Type 1} → statement M
 pour-line-spec =
     tie.close
     (tie.spec
-    pour-decimal-requires
-    pour-found-requires
-    slice-aggregate-pour
-    pour-requires
-    same-length
+    (λ c κs. search needs)
+    (λ c κs. search needs)
+    (λ c. search needs)
+    (λ c κs. search needs)
+    (λ c. search needs)
     returns)

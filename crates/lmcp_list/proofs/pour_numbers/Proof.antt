@@ -1,7 +1,7 @@
 -- Numbers, each after a space. The loop's invariant: the i numbers passed went out. Assumes nothing.
-use mathlib.Core.Path.{_≡_, refl, sym, ap, _∙_}
-use mathlib.Core.List.{List, [], _∷_, _++_}
-use Prim.Native.Nat.{ℕ, _+_, _-_, _≤_, min}
+use mathlib.Core.Path.{_≡_, refl, ap, _∙_}
+use mathlib.Core.List.{[], _∷_, _++_}
+use Prim.Native.Nat.{_-_, _≤_}
 use lib.IntN.{ℤ, pos}
 use lib.ListN.{length, take, getD}
 use mir.Syntax.{w64}
@@ -22,34 +22,10 @@ Inv-loop out₀ at list n most next₀ i₀ t9 out next i = (i ≤ most) × (len
 abbrev μ-loop : tie.MeasureT-loop
 μ-loop out₀ at list n most next₀ i₀ t9 out next i = most - i
 
-least-requires : tie.Need-least-requires Inv-loop μ-loop
-least-requires c κs = search needs
-
 loop-holds : tie.Need-loop-holds Inv-loop μ-loop
 loop-holds c =
     let a = c .before .before .args in
     (omega arith, refl, λ l h. sends-none (a .out .now) (a .at) h)
-
-slice-aggregate-pour : tie.Need-slice-aggregate-pour Inv-loop μ-loop
-slice-aggregate-pour c = search needs
-
-pour-requires : tie.Need-pour-requires Inv-loop μ-loop
-pour-requires c κs = search needs
-
-mul-pour-signed : tie.Need-mul-pour-signed Inv-loop μ-loop
-mul-pour-signed c = search needs
-
-shared-slice-copy-out-pour-signed : tie.Need-shared-slice-copy-out-pour-signed Inv-loop μ-loop
-shared-slice-copy-out-pour-signed c = search needs
-
-pour-signed-requires : tie.Need-pour-signed-requires Inv-loop μ-loop
-pour-signed-requires c κs = search needs
-
-add-i : tie.Need-add-i Inv-loop μ-loop
-add-i c = search needs
-
-loop-less : tie.Need-loop-less Inv-loop μ-loop
-loop-less c = search needs
 
 loop-again : tie.Need-loop-again Inv-loop μ-loop
 loop-again c =
@@ -64,9 +40,6 @@ loop-again c =
           ∙ spaced-turn s (l .loop .i) (omega (arith, l .before .least .ensures))),
     )
 
-same-length : tie.Need-same-length Inv-loop μ-loop
-same-length c = search needs
-
 returns : tie.Need-returns Inv-loop μ-loop
 returns c =
     let l = c .before in
@@ -79,15 +52,15 @@ pour-numbers-spec =
     (tie.spec
     Inv-loop
     μ-loop
-    least-requires
+    (λ c κs. search needs)
     loop-holds
-    slice-aggregate-pour
-    pour-requires
-    mul-pour-signed
-    shared-slice-copy-out-pour-signed
-    pour-signed-requires
-    add-i
-    loop-less
+    (λ c. search needs)
+    (λ c κs. search needs)
+    (λ c. search needs)
+    (λ c. search needs)
+    (λ c κs. search needs)
+    (λ c. search needs)
+    (λ c. search needs)
     loop-again
-    same-length
+    (λ c. search needs)
     returns)

@@ -5,11 +5,8 @@ use borrow.Author.Needs.{needs}
 use Rattle.lmcp_reader.proofs.plain_of.Statement.{statement}
 use Rattle.lmcp_reader.proofs.plain_of.Tie as tie
 
-cast-result : tie.Need-cast-result
-cast-result c = search needs
-
 returns : tie.Need-returns
 returns c = toZ-pos w64 (c .args .v) (c .pre)
 
 pub plain-of-spec : {M : Type 1} → statement M
-plain-of-spec = tie.close (tie.spec cast-result returns)
+plain-of-spec = tie.close (tie.spec (λ c. search needs) returns)

@@ -1,61 +1,63 @@
--- `lmcp_reader::put_list` meets its contract: the version, and the root's numbers in the part behind it.
-use mathlib.Core.Path.{_≡_, sym, ap, _∙_, subst}
-use mathlib.Core.List.{List}
-use Prim.Native.Nat.{ℕ, _≤_}
+-- `lmcp_reader::put_list` meets its contract: no room, or the version and the root's numbers behind it.
+use mathlib.Core.Path.{sym, ap, _∙_, subst}
+use mathlib.Core.List.{List, [], _∷_}
+use native.Mathlib.Omega.{arith}
 use lib.IntN.{ℤ, pos}
-use lib.ListN.{length, set, length-set}
-use lib.Seq.{sets}
+use lib.ListN.{set}
 use borrow.Author.Needs.{needs}
-use Rattle.lmcp.specs.Ends.{Few1}
-use Rattle.lmcp.proofs.Goes.{laid-again}
+use borrow.Author.Tests.{not-true, not-false}
+use Rattle.lmcp.specs.declared.Found.the-variants.{Refused}
+use Rattle.lmcp.specs.Run.{prepend, whole}
+use Rattle.lmcp.specs.Message.{ReadTo}
+use Rattle.lmcp_check.specs.InsideSteps.{readRoot}
 use Rattle.lmcp_reader.proofs.Cases.{through}
-use Rattle.lmcp_reader.proofs.Answers.{behind}
+use Rattle.lmcp_reader.proofs.Roots.{root-ahead, list-short, list-good}
 use Rattle.lmcp_reader.proofs.put_list.Statement.{statement}
 use Rattle.lmcp_reader.proofs.put_list.Tie as tie
 
-plain-of-requires : tie.Need-plain-of-requires
-plain-of-requires c κs = search needs
-
-put-requires : tie.Need-put-requires
-put-requires c κs = search needs
-
-sub-root-at : tie.Need-sub-root-at
-sub-root-at c = search needs
-
-part-root-at-start : tie.Need-part-root-at-start
-part-root-at-start c = search needs
-
-part-root-at-end : tie.Need-part-root-at-end
-part-root-at-end c = search needs
-
-root-at-requires : tie.Need-root-at-requires
-root-at-requires c κs = search needs
-
-same-length : tie.Need-same-length
-same-length c = search needs
+has-room-requires : tie.Need-has-room-requires
+has-room-requires c κs =
+    let start = c .before .before .before .before in
+    let a = start .args in
+    (record { short = start .pre .1 .0; inside = omega arith; packed = c .before .before .table .ensures }, root-ahead (a .version) (a .s .now) (start .pre .1 .1))
 
 returns : tie.Need-returns
-returns c zs r e =
-    let w = c .before in
-    let p = w .before .before .before in
-    let s = p .before .before .before .before in
-    let a = s .args in
-    let v = p .before .plain-of in
-    let one = p .put .last .0 in
-    let out = w .root-at .last .1 .1 .0 in
-    let first : one ≡ set (a .list .now) 0 (pos (a .version)) = p .put .ensures ∙ ap (λ (z : ℤ). set (a .list .now) 0 z) (through (record { sfits = v .ok }) (v .ensures)) in
-    let l : 1 ≤ length one = subst (λ (n : ℕ). 1 ≤ n) (sym (ap length first ∙ simp length-set)) (s .pre .1) in
-    behind one zs out l (laid-again Few1 (a .s .now) _ 0 zs r (w .root-at .result) out e (w .root-at .ensures)) ∙ ap (λ (o : List ℤ). sets o 1 zs) first
+returns c =
+    let h = c .before .before .has-room in
+    let start = c .before .before .before .before .before .before .before in
+    let a = start .args in
+    subst (ReadTo (prepend (pos (a .version) ∷ []) (whole (readRoot (a .version) (a .s .now)))) (a .list .now) (Refused 13)) (sym (h .ensures .0))
+    (list-short (a .version) (a .s .now) (start .pre .1 .1) (a .list .now) (h .result) (h .ensures .1) (not-true _ (c .if1 .taken)))
+
+put-object-requires : tie.Need-put-object-requires
+put-object-requires c κs =
+    let t = c .before .before .before .before .before .before .before .before .before .before .before in
+    let start = t .before .before in
+    let a = start .args in
+    (record { short = start .pre .1 .0; inside = omega arith; packed = t .table .ensures }, root-ahead (a .version) (a .s .now) (start .pre .1 .1))
+
+returns-2 : tie.Need-returns-2
+returns-2 c =
+    let w = c .before .put-object in
+    let put = c .before .before .before .before .before in
+    let v = put .before .plain-of in
+    let e = c .before .before .before .before .before .before .before .before in
+    let h = e .before .before .has-room in
+    let start = e .before .before .before .before .before .before .before in
+    let a = start .args in
+    let first = put .put .ensures ∙ ap (λ (z : ℤ). set (h .last .1 .1 .1 .0) 0 z) (through (record { sfits = v .ok }) (v .ensures)) ∙ ap (λ (l : List ℤ). set l 0 (pos (a .version))) (h .ensures .0) in
+    list-good (a .version) (a .s .now) (start .pre .1 .1) (a .list .now) (h .result) (h .ensures .1) (not-false _ (e .if1 .left)) (put .put .last .0) first (w .result .p) (w .result .q) _ (w .ensures)
 
 pub put-list-spec : {M : Type 1} → statement M
 put-list-spec =
     tie.close
     (tie.spec
-    plain-of-requires
-    put-requires
-    sub-root-at
-    part-root-at-start
-    part-root-at-end
-    root-at-requires
-    same-length
-    returns)
+    (λ c κs. search needs)
+    has-room-requires
+    (λ c. search needs)
+    returns
+    (λ c κs. search needs)
+    (λ c κs. search needs)
+    put-object-requires
+    (λ c. search needs)
+    returns-2)

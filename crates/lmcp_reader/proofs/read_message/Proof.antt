@@ -1,17 +1,20 @@
--- `lmcp_reader::read_message` meets its contract: the frame, and then the root.
+-- `lmcp_reader::read_message` meets its contract: what is wrong with the message, or the numbers of its root.
 use mathlib.Core.Path.{_≡_, sym, ap, _∙_}
 use mathlib.Core.Bool.{Bool, true, false}
 use mathlib.Core.List.{List}
 use Prim.Native.Nat.{ℕ, _-_, _^_, _≤_, _<_}
 use native.Mathlib.Omega.{arith}
 use lib.Dec.{eqb}
-use lib.ListN.{length, take, drop}
+use lib.ListN.{length, take, drop, length-take, length-drop}
 use borrow.Author.Needs.{needs}
 use Rattle.wire.specs.Choice.{pick}
 use Rattle.wire.specs.Bytes.{be}
+use Rattle.lmcp.specs.Limits.{maxMessage}
 use Rattle.lmcp.specs.Message.{rootOf}
-use Rattle.lmcp.specs.Lists.{versionOf}
-use Rattle.lmcp_reader.proofs.Answers.{frame-long, answer-framed, answer-root}
+use Rattle.lmcp.specs.Lists.{versionOf, readList}
+use Rattle.lmcp_check.specs.Refusal.{refusalOf}
+use Rattle.lmcp_check.proofs.Roots.{frame-within}
+use Rattle.lmcp_reader.proofs.Roots.{answer-refused, good, good-ahead, answer-good}
 use Rattle.lmcp_reader.proofs.read_message.Statement.{statement}
 use Rattle.lmcp_reader.proofs.read_message.Tie as tie
 
@@ -30,68 +33,57 @@ version-small b {v} e = by (eqb (be 2 (drop 13 b)) 2) e
     by true q = omega arith
     by false q = omega arith
 
-abbrev start : tie.Else1 → tie.Start
-start c = c .before .before .before
+abbrev M : tie.Else1 → List ℕ
+M c = c .before .before .before .args .message .now
 
-long : (c : tie.Else1) → 12 ≤ length (start c .args .message .now)
-long c = frame-long (start c .args .message .now) (sym (c .before .frame-of .ensures) ∙ c .if1 .left)
+-- nothing is wrong
+fine : (c : tie.Else1) → 0 ≡ refusalOf (readList (M c))
+fine c = sym (c .if1 .left) ∙ c .before .check-message .ensures
 
-frame-of-requires : tie.Need-frame-of-requires
-frame-of-requires c κs = search needs
+within : (c : tie.Else1) → (12 ≤ length (M c)) × (length (M c) ≤ maxMessage)
+within c = frame-within (M c) (good (M c) (fine c) .framed)
 
 returns : tie.Need-returns
 returns c =
-    let at-frame-of = c .before in
-    let start = at-frame-of .before .before in
-    let a = start .args in
-    answer-framed (a .message .now) (a .list .now) (at-frame-of .frame-of .result) (at-frame-of .frame-of .ensures) (c .if1 .taken)
+    let k = c .before in
+    let a = k .before .before .args in
+    answer-refused (a .message .now) (a .list .now) (k .check-message .result) (k .check-message .ensures) (c .if1 .taken)
 
 sub-end : tie.Need-sub-end
-sub-end c = omega (arith, long c)
+sub-end c = omega (arith, within c .0)
 
 sub-s : tie.Need-sub-s
-sub-s c = omega (arith, long c)
+sub-s c = omega (arith, within c .0)
 
 part-s-start : tie.Need-part-s-start
-part-s-start c = let k : 8 ≤ length (start c .args .message .now) - 4 = omega (arith, long c) in k
+part-s-start c = let k : 8 ≤ length (M c) - 4 = omega (arith, within c .0) in k
 
-part-s-end : tie.Need-part-s-end
-part-s-end c = search needs
-
-version-of-requires : tie.Need-version-of-requires
-version-of-requires c κs = search needs
-
-read-root-requires : tie.Need-read-root-requires
-read-root-requires c κs =
-    let at-version-of = c .before in
-    let place = at-version-of .before .before in
-    version-small (root (start (place) .args .message .now)) (at-version-of .version-of .ensures)
-
-same-length : tie.Need-same-length
-same-length c = search needs
+put-list-requires : tie.Need-put-list-requires
+put-list-requires c κs =
+    let v = c .before .version-of in
+    let e = c .before .before .before in
+    let n : length (root (M e)) ≤ length (M e) = rw (length-take, length-drop) (omega arith) in
+    (version-small (root (M e)) (v .ensures), (omega (arith, n, within e .1), good-ahead (M e) (fine e) (root (M e)) (root-is (M e)) (v .result) (v .ensures)))
 
 returns-2 : tie.Need-returns-2
 returns-2 c =
-    let d = c .before in
-    let v = d .before .before in
+    let p = c .before in
+    let v = p .before .before in
     let e = v .before .before in
-    let a = start e .args in
-    let m = a .message .now in
-    let f = e .before .frame-of in
-    answer-root m (a .list .now) (f .result) (f .ensures) (e .if1 .left) (root m) (root-is m) (v .version-of .result) (v .version-of .ensures)
-    (d .read-root .result) (d .read-root .last .1 .1 .0) (d .read-root .ensures)
+    let a = e .before .before .before .args in
+    answer-good (M e) (fine e) (root (M e)) (root-is (M e)) (v .version-of .result) (v .version-of .ensures) (a .list .now) (p .put-list .result) (p .put-list .last .1 .1 .0) (p .put-list .ensures)
 
 pub read-message-spec : {M : Type 1} → statement M
 read-message-spec =
     tie.close
     (tie.spec
-    frame-of-requires
+    (λ c κs. search needs)
     returns
     sub-end
     sub-s
     part-s-start
-    part-s-end
-    version-of-requires
-    read-root-requires
-    same-length
+    (λ c. search needs)
+    (λ c κs. search needs)
+    put-list-requires
+    (λ c. search needs)
     returns-2)

@@ -1,7 +1,6 @@
 -- `lmcp_writer::fits_in` meets its contract.
-use mathlib.Core.Path.{_≡_, refl, sym, ap, _∙_, subst}
-use lib.IntN.{ℤ, pos, negsuc, _-ℤ_, natAbs}
-use lib.Signed.{mag, ltZ, nonNeg}
+use mathlib.Core.Path.{ap, _∙_}
+use lib.Signed.{mag}
 use Rattle.lmcp.specs.Value.{below}
 use Rattle.lmcp.proofs.Sizes.{through}
 use Rattle.lmcp_writer.proofs.Cases.{fits-signed, fits-plain}

@@ -1,18 +1,18 @@
 -- `lmcp_writer::put_head` meets its contract, case by case.
-use mathlib.Core.Path.{_≡_, refl, sym, ap, _∙_, subst}
-use mathlib.Core.Bool.{Bool, true, false}
-use mathlib.Core.List.{List, [], _∷_}
-use Prim.Native.Nat.{ℕ, _+_, _-_, _*_, _≤_, _<_}
+use mathlib.Core.Path.{_≡_, refl, sym, ap, _∙_}
+use mathlib.Core.Bool.{true, false}
+use mathlib.Core.List.{[], _∷_}
+use Prim.Native.Nat.{ℕ, _+_}
 use native.Mathlib.Omega.{arith}
-use lib.IntN.{ℤ, pos, negsuc, _-ℤ_, natAbs}
+use lib.IntN.{ℤ, pos}
 use lib.Signed.{mag}
-use lib.ListN.{length, getD, drop}
+use lib.ListN.{getD, drop}
 use Rattle.wire.specs.Bytes.{bytes}
 use Rattle.wire.proofs.Overlays.{overlay-sets}
 use Rattle.lmcp.specs.Table.{pitsurv}
 use Rattle.lmcp.specs.Value.{below}
 use Rattle.lmcp.specs.Write.{header, typedBy}
-use Rattle.lmcp.proofs.Goes.{made, marked}
+use Rattle.lmcp.proofs.Goes.{marked}
 use Rattle.lmcp.proofs.Heads.{header-length}
 use Rattle.lmcp.proofs.Sizes.{through}
 use Rattle.lmcp_writer.proofs.Cases.{laid-number, at-end, here, head-end, head-null, head-deep, head-typed, head-untyped}

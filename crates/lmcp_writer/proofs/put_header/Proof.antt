@@ -1,5 +1,4 @@
 -- `lmcp_writer::put_header` meets its contract: four numbers one after the other.
-use mathlib.Core.Path.{_≡_, refl, sym, ap, _∙_, subst}
 use Rattle.wire.specs.Bytes.{be}
 use Rattle.lmcp.specs.Table.{pitsurv}
 use Rattle.lmcp_writer.proofs.Cases.{laid-header}

@@ -1,8 +1,6 @@
 -- `lmcp_writer::put_message` meets its contract: "LMCP", the root's length, the root and the checksum, one after the other.
-use mathlib.Core.Path.{_≡_, refl}
-use Prim.Native.Nat.{_-_, _≤_}
-use native.Mathlib.Omega.{arith}
-use lib.ListN.{length}
+use mathlib.Core.Path.{refl}
+use Prim.Native.Nat.{_-_}
 use borrow.Author.Needs.{needs}
 use Rattle.lmcp_writer.proofs.Answers.{all-laid}
 use Rattle.lmcp_writer.proofs.put_message.Statement.{statement}

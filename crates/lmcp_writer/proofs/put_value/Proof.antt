@@ -1,16 +1,15 @@
 -- `lmcp_writer::put_value` meets its contract.
-use mathlib.Core.Path.{_≡_, refl, sym, ap, _∙_, subst}
-use mathlib.Core.Bool.{Bool, true, false}
-use mathlib.Core.List.{List, [], _∷_}
-use Prim.Native.Nat.{ℕ, _+_, _-_, _*_, _≤_, _<_}
+use mathlib.Core.Path.{_≡_, sym, ap, _∙_}
+use mathlib.Core.Bool.{true, false}
+use Prim.Native.Nat.{ℕ, _+_, _*_}
 use native.Mathlib.Omega.{arith}
-use lib.IntN.{ℤ, pos, negsuc, _-ℤ_, natAbs}
-use lib.ListN.{length, getD, drop}
+use lib.IntN.{ℤ, pos}
+use lib.ListN.{getD, drop}
 use Rattle.wire.specs.Bytes.{bytes}
 use Rattle.wire.proofs.Numbers.{length-bytes}
 use Rattle.wire.specs.Signed.{unsigned}
 use Rattle.lmcp.specs.Value.{fits}
-use Rattle.lmcp.proofs.Goes.{made, marked}
+use Rattle.lmcp.proofs.Goes.{made}
 use Rattle.lmcp.proofs.Sizes.{through}
 use Rattle.lmcp_writer.proofs.Cases.{low-bytes, laid-number, at-end, here, value-end, value-good, value-bad}
 use borrow.Author.Needs.{needs}

@@ -1,8 +1,8 @@
 -- `lmcp_writer::typed_by` meets its contract.
-use mathlib.Core.Path.{_≡_, refl, sym, ap, _∙_, subst}
-use mathlib.Core.Bool.{Bool, true, false}
-use lib.IntN.{ℤ, pos, negsuc, _-ℤ_, natAbs}
-use lib.Signed.{mag, ltZ, nonNeg}
+use mathlib.Core.Path.{_≡_, ap, _∙_, subst}
+use mathlib.Core.Bool.{true, false}
+use lib.IntN.{ℤ, pos}
+use lib.Signed.{mag, ltZ}
 use Rattle.lmcp.specs.Table.{pitsurv}
 use Rattle.lmcp.proofs.Sizes.{through}
 use Rattle.lmcp_writer.proofs.Cases.{negative-typed, positive-typed}

@@ -1,10 +1,7 @@
 -- `lmcp_writer::write_message` meets its contract: the version, and then the rest of the list by its table.
-use mathlib.Core.Path.{_≡_, sym, ap, _∙_}
-use mathlib.Core.List.{List, [], _∷_}
-use Prim.Native.Nat.{_<_}
-use native.Mathlib.Omega.{arith}
+use mathlib.Core.Path.{sym, ap, _∙_}
 use lib.IntN.{ℤ, pos}
-use lib.ListN.{length, getD, drop}
+use lib.ListN.{getD}
 use borrow.Author.Needs.{needs}
 use lib.Signed.{mag}
 use Rattle.lmcp.specs.Lists.{isVersion}

@@ -11,12 +11,6 @@ returns c =
     let a = c .before .before .before .args in
     append-long (a .out .now) (a .at) (entryOf (a .sender) (a .tick) (a .datagram .now)) (c .if1 .taken)
 
-entry-length-requires : tie.Need-entry-length-requires
-entry-length-requires c κs = search needs
-
-room-requires : tie.Need-room-requires
-room-requires c κs = search needs
-
 returns-2 : tie.Need-returns-2
 returns-2 c =
     let a = c .before .before .before .before .before .before .args in
@@ -26,12 +20,6 @@ put-entry-requires : tie.Need-put-entry-requires
 put-entry-requires c κs =
     let a = c .before .before .before .before .before .before .before .args in
     fits-at (a .out .now) (a .at) (entryOf (a .sender) (a .tick) (a .datagram .now)) (omega arith)
-
-add-t7 : tie.Need-add-t7
-add-t7 c = search needs
-
-same-length : tie.Need-same-length
-same-length c = search needs
 
 returns-3 : tie.Need-returns-3
 returns-3 c =
@@ -44,10 +32,10 @@ append-spec =
     tie.close
     (tie.spec
     returns
-    entry-length-requires
-    room-requires
+    (λ c κs. search needs)
+    (λ c κs. search needs)
     returns-2
     put-entry-requires
-    add-t7
-    same-length
+    (λ c. search needs)
+    (λ c. search needs)
     returns-3)

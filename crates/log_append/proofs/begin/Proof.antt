@@ -1,8 +1,6 @@
 -- `log_append::begin` meets its contract. Assumes nothing.
-use mathlib.Core.Path.{sym, ap, _∙_}
-use mathlib.Core.List.{List}
+use mathlib.Core.Path.{ap, _∙_}
 use native.Mathlib.Omega.{arith}
-use Prim.Native.Nat.{ℕ}
 use lib.ListN.{length}
 use Rattle.log_append.proofs.Writing.{seven-most, begin-over, begin-short, begin-good, begin-length}
 use borrow.Author.Needs.{needs}
@@ -14,9 +12,6 @@ returns c =
     let a = c .before .before .args in
     begin-over (a .out .now) (a .limit) (c .if1 .taken)
 
-seven-length-requires : tie.Need-seven-length-requires
-seven-length-requires c κs = search needs
-
 add-n : tie.Need-add-n
 add-n c = omega (arith, seven-most (c .before .before .before .args .limit))
 
@@ -24,12 +19,6 @@ returns-2 : tie.Need-returns-2
 returns-2 c =
     let a = c .before .before .before .before .args in
     begin-short (a .out .now) (a .limit) (c .before .before .if1 .left) (omega (arith, c .if2 .taken, c .before .seven-length .ensures))
-
-slice-write-out : tie.Need-slice-write-out
-slice-write-out c = search needs
-
-put-seven-requires : tie.Need-put-seven-requires
-put-seven-requires c κs = search needs
 
 same-length : tie.Need-same-length
 same-length c =
@@ -50,10 +39,10 @@ begin-spec =
     tie.close
     (tie.spec
     returns
-    seven-length-requires
+    (λ c κs. search needs)
     add-n
     returns-2
-    slice-write-out
-    put-seven-requires
+    (λ c. search needs)
+    (λ c κs. search needs)
     same-length
     returns-3)

@@ -1,5 +1,5 @@
 -- `log_append::put_entry` meets its contract: the three numbers and the bytes, each after the one before. Assumes nothing.
-use mathlib.Core.Path.{ap, _∙_}
+use mathlib.Core.Path.{ap}
 use native.Mathlib.Omega.{arith}
 use Prim.Native.Nat.{ℕ, _+_}
 use Rattle.log_append.proofs.Writing.{entry-size, entry-overlay}
@@ -7,44 +7,20 @@ use borrow.Author.Needs.{needs}
 use Rattle.log_append.proofs.put_entry.Statement.{statement}
 use Rattle.log_append.proofs.put_entry.Tie as tie
 
-seven-length-requires : tie.Need-seven-length-requires
-seven-length-requires c κs = search needs
-
 add-a : tie.Need-add-a
 add-a c =
     let a = c .before .before .before .args in
     omega (arith, entry-size (a .sender) (a .tick) (a .datagram .now))
-
-seven-length-requires-2 : tie.Need-seven-length-requires-2
-seven-length-requires-2 c κs = search needs
 
 add-b : tie.Need-add-b
 add-b c =
     let a = c .before .before .before .before .args in
     omega (arith, entry-size (a .sender) (a .tick) (a .datagram .now))
 
-seven-length-requires-3 : tie.Need-seven-length-requires-3
-seven-length-requires-3 c κs = search needs
-
 add-c : tie.Need-add-c
 add-c c =
     let a = c .before .before .before .before .before .args in
     omega (arith, entry-size (a .sender) (a .tick) (a .datagram .now))
-
-put-seven-requires : tie.Need-put-seven-requires
-put-seven-requires c κs = search needs
-
-put-seven-requires-2 : tie.Need-put-seven-requires-2
-put-seven-requires-2 c κs = search needs
-
-put-seven-requires-3 : tie.Need-put-seven-requires-3
-put-seven-requires-3 c κs = search needs
-
-put-bytes-requires : tie.Need-put-bytes-requires
-put-bytes-requires c κs = search needs
-
-same-length : tie.Need-same-length
-same-length c = search needs
 
 returns : tie.Need-returns
 returns c =
@@ -63,15 +39,15 @@ pub put-entry-spec : {M : Type 1} → statement M
 put-entry-spec =
     tie.close
     (tie.spec
-    seven-length-requires
+    (λ c κs. search needs)
     add-a
-    seven-length-requires-2
+    (λ c κs. search needs)
     add-b
-    seven-length-requires-3
+    (λ c κs. search needs)
     add-c
-    put-seven-requires
-    put-seven-requires-2
-    put-seven-requires-3
-    put-bytes-requires
-    same-length
+    (λ c κs. search needs)
+    (λ c κs. search needs)
+    (λ c κs. search needs)
+    (λ c κs. search needs)
+    (λ c. search needs)
     returns)

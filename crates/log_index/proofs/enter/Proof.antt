@@ -1,7 +1,6 @@
 -- A row goes in where there are words for it. Assumes nothing.
-use mathlib.Core.Path.{_≡_, refl, ap, sym, _∙_}
+use mathlib.Core.Path.{refl, ap, _∙_}
 use Prim.Native.Nat.{ℕ}
-use native.Mathlib.Omega.{arith}
 use borrow.Author.Tests.{lt-ltb, le-ltb}
 use Rattle.log_index.specs.Rows.{rowOf}
 use Rattle.log_index.specs.Words.{inserted, entered}
@@ -10,15 +9,6 @@ use Rattle.log_index.proofs.enter.Statement.{statement}
 use Rattle.log_index.proofs.enter.Tie as tie
 
 -- A row goes in where there are words for it. Assumes nothing.
-
-rank-requires : tie.Need-rank-requires
-rank-requires c κs = search needs
-
-insert-requires : tie.Need-insert-requires
-insert-requires c κs = search needs
-
-same-length : tie.Need-same-length
-same-length c = search needs
 
 returns : tie.Need-returns
 unfolding entered
@@ -37,4 +27,4 @@ returns-2 c =
     rw (le-ltb _ _ (c .if1 .left)) refl
 
 pub enter-spec : {M : Type 1} → statement M
-enter-spec = tie.close (tie.spec rank-requires insert-requires same-length returns returns-2)
+enter-spec = tie.close (tie.spec (λ c κs. search needs) (λ c κs. search needs) (λ c. search needs) returns returns-2)

@@ -1,27 +1,9 @@
 -- The place of the first row that is not before the key. Assumes nothing.
-use mathlib.Core.Path.{_≡_, sym, _∙_}
+use mathlib.Core.Path.{sym, _∙_}
 use Rattle.log_index.proofs.Finds.{found-some, found-none, found-inside}
 use borrow.Author.Needs.{needs}
 use Rattle.log_index.proofs.find.Statement.{statement}
 use Rattle.log_index.proofs.find.Tie as tie
-
-least-requires : tie.Need-least-requires
-least-requires c κs = search needs
-
-rank-requires : tie.Need-rank-requires
-rank-requires c κs = search needs
-
-is-of-requires : tie.Need-is-of-requires
-is-of-requires c κs = search needs
-
-mul-t10 : tie.Need-mul-t10
-mul-t10 c = search needs
-
-add-t11 : tie.Need-add-t11
-add-t11 c = search needs
-
-mul-t12 : tie.Need-mul-t12
-mul-t12 c = search needs
 
 shared-slice-read-t14 : tie.Need-shared-slice-read-t14
 shared-slice-read-t14 c =
@@ -56,12 +38,12 @@ pub find-spec : {M : Type 1} → statement M
 find-spec =
     tie.close
     (tie.spec
-    least-requires
-    rank-requires
-    is-of-requires
-    mul-t10
-    add-t11
-    mul-t12
+    (λ c κs. search needs)
+    (λ c κs. search needs)
+    (λ c κs. search needs)
+    (λ c. search needs)
+    (λ c. search needs)
+    (λ c. search needs)
     shared-slice-read-t14
     returns
     returns-2)

@@ -11,44 +11,11 @@ use Rattle.log_index.proofs.insert.Tie as tie
 
 -- The words move up, and the row goes in front of them. Assumes nothing.
 
-add-to : tie.Need-add-to
-add-to c = search needs
-
-mul-to : tie.Need-mul-to
-mul-to c = search needs
-
-mul-move-up : tie.Need-mul-move-up
-mul-move-up c = search needs
-
-mul-move-up-2 : tie.Need-mul-move-up-2
-mul-move-up-2 c = search needs
-
-mul-move-up-3 : tie.Need-mul-move-up-3
-mul-move-up-3 c = search needs
-
-add-move-up : tie.Need-add-move-up
-add-move-up c = search needs
-
-move-up-requires : tie.Need-move-up-requires
-move-up-requires c κs = search needs
-
-add-index : tie.Need-add-index
-add-index c = search needs
-
-mul-index : tie.Need-mul-index
-mul-index c = search needs
-
 slice-write-index : tie.Need-slice-write-index
 slice-write-index c =
     let at-move-up = c .before .before in
     let start = at-move-up .before .before .before in
     let p = start .pre in let l = ap length (at-move-up .move-up .ensures) ∙ moved-length _ _ _ _ in omega (arith, p .0, p .1, l)
-
-add-index-2 : tie.Need-add-index-2
-add-index-2 c = search needs
-
-mul-index-2 : tie.Need-mul-index-2
-mul-index-2 c = search needs
 
 slice-write-index-2 : tie.Need-slice-write-index-2
 slice-write-index-2 c =
@@ -56,17 +23,11 @@ slice-write-index-2 c =
     let start = at-move-up .before .before .before in
     simp length-set (let p = start .pre in let l = ap length (at-move-up .move-up .ensures) ∙ moved-length _ _ _ _ in omega (arith, p .0, p .1, l))
 
-mul-index-3 : tie.Need-mul-index-3
-mul-index-3 c = search needs
-
 slice-write-index-3 : tie.Need-slice-write-index-3
 slice-write-index-3 c =
     let at-move-up = c .before .before in
     let start = at-move-up .before .before .before in
     simp length-set (let p = start .pre in let l = ap length (at-move-up .move-up .ensures) ∙ moved-length _ _ _ _ in omega (arith, p .0, p .1, l))
-
-same-length : tie.Need-same-length
-same-length c = search needs
 
 returns : tie.Need-returns
 returns c =
@@ -81,20 +42,20 @@ pub insert-spec : {M : Type 1} → statement M
 insert-spec =
     tie.close
     (tie.spec
-    add-to
-    mul-to
-    mul-move-up
-    mul-move-up-2
-    mul-move-up-3
-    add-move-up
-    move-up-requires
-    add-index
-    mul-index
+    (λ c. search needs)
+    (λ c. search needs)
+    (λ c. search needs)
+    (λ c. search needs)
+    (λ c. search needs)
+    (λ c. search needs)
+    (λ c κs. search needs)
+    (λ c. search needs)
+    (λ c. search needs)
     slice-write-index
-    add-index-2
-    mul-index-2
+    (λ c. search needs)
+    (λ c. search needs)
     slice-write-index-2
-    mul-index-3
+    (λ c. search needs)
     slice-write-index-3
-    same-length
+    (λ c. search needs)
     returns)

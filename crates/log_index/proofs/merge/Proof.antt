@@ -16,9 +16,6 @@ returns-2 c =
     let a = c .before .before .before .before .args in
     merge-full (a .index .now) (a .n) (a .batch .now) (a .m) (c .before .if1 .left) (omega (arith, c .if2 .taken))
 
-sub-if3 : tie.Need-sub-if3
-sub-if3 c = search needs
-
 returns-3 : tie.Need-returns-3
 returns-3 c =
     let at-if2 = c .before in
@@ -34,9 +31,6 @@ merge-all-requires c κs =
     let at-if1 = at-if2 .before in
     (omega (arith, at-if1 .if1 .left), omega (arith, at-if3 .if3 .left, at-if2 .if2 .left))
 
-same-length : tie.Need-same-length
-same-length c = search needs
-
 returns-4 : tie.Need-returns-4
 returns-4 c =
     let at-merge-all = c .before .before in
@@ -50,4 +44,4 @@ returns-4 c =
 pub merge-spec : {M : Type 1} → statement M
 merge-spec =
     tie.close
-    (tie.spec returns returns-2 sub-if3 returns-3 merge-all-requires same-length returns-4)
+    (tie.spec returns returns-2 (λ c. search needs) returns-3 merge-all-requires (λ c. search needs) returns-4)

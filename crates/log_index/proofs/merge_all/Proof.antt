@@ -1,6 +1,6 @@
 -- The loop: what is merged and what is to be merged are all. Assumes nothing.
-use mathlib.Core.Path.{_≡_, refl, sym, ap, _∙_}
-use Prim.Native.Nat.{ℕ, _+_, _*_, _-_, _≤_}
+use mathlib.Core.Path.{_≡_, refl, _∙_}
+use Prim.Native.Nat.{_≤_}
 use native.Mathlib.Omega.{arith}
 use lib.ListN.{length}
 use Rattle.log_index.specs.Words.{mergedBy}
@@ -20,9 +20,6 @@ abbrev μ-loop : tie.MeasureT-loop
 loop-holds : tie.Need-loop-holds Inv-loop μ-loop
 loop-holds c = (omega arith, (omega arith, (refl, refl)))
 
-sub-j : tie.Need-sub-j Inv-loop μ-loop
-sub-j c = search needs
-
 merge-one-requires : tie.Need-merge-one-requires Inv-loop μ-loop
 merge-one-requires c κs =
     let at-loop-test = c .before in
@@ -31,9 +28,6 @@ merge-one-requires c κs =
     let l = turn .loop in
     let p = start .pre in
     (omega (arith, p .0, l .inv .0, at-loop-test .loop-test .taken), omega (arith, p .1, l .inv .0, l .inv .1 .0, l .inv .1 .1 .0, at-loop-test .loop-test .taken))
-
-loop-less : tie.Need-loop-less Inv-loop μ-loop
-loop-less c = search needs
 
 loop-again : tie.Need-loop-again Inv-loop μ-loop
 loop-again c =
@@ -60,9 +54,9 @@ merge-all-spec =
     Inv-loop
     μ-loop
     loop-holds
-    sub-j
+    (λ c. search needs)
     merge-one-requires
-    loop-less
+    (λ c. search needs)
     loop-again
     same-length
     returns)

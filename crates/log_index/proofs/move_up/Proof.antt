@@ -3,7 +3,7 @@ use mathlib.Core.Path.{_≡_, refl, sym, ap, _∙_}
 use Prim.Native.Nat.{ℕ, _+_, _-_, _≤_}
 use native.Mathlib.Omega.{arith}
 use lib.ListN.{length, getD, set}
-use Rattle.log_index.specs.Words.{movedUp}
+use Rattle.log_index.specs.Inside.{movedUp}
 use Rattle.log_index.proofs.Moves.{moved-none, moved-next, moved-length}
 use borrow.Author.Needs.{needs}
 use Rattle.log_index.proofs.move_up.Statement.{statement}
@@ -24,20 +24,8 @@ loop-holds c =
     let a = c .args in
     (omega arith, (omega arith, (refl, sym (moved-none (a .index .now) (a .to) (a .by)))))
 
-sub-i : tie.Need-sub-i Inv-loop μ-loop
-sub-i c = search needs
-
-mul-index : tie.Need-mul-index Inv-loop μ-loop
-mul-index c = search needs
-
-slice-read-index : tie.Need-slice-read-index Inv-loop μ-loop
-slice-read-index c = search needs
-
 add-index : tie.Need-add-index Inv-loop μ-loop
 add-index c = omega (arith, c .before .before .before .pre .1 .1)
-
-mul-index-2 : tie.Need-mul-index-2 Inv-loop μ-loop
-mul-index-2 c = search needs
 
 slice-write-index : tie.Need-slice-write-index Inv-loop μ-loop
 slice-write-index c =
@@ -46,9 +34,6 @@ slice-write-index c =
     let start = turn .before in
     let l = turn .loop in
     omega (arith, start .pre .1 .1, l .inv .1 .0, l .inv .1 .1 .0, at-loop-test .loop-test .taken)
-
-loop-less : tie.Need-loop-less Inv-loop μ-loop
-loop-less c = search needs
 
 loop-again : tie.Need-loop-again Inv-loop μ-loop
 loop-again c =
@@ -61,9 +46,6 @@ loop-again c =
     let e = l .inv .1 .1 .1 in
     let s = (λ j. set (e j) (l .i - 1 + a .by) (getD (e j) (l .i - 1) 0)) ∙ moved-next (a .index .now) (l .i) (a .to) (a .by) (omega (arith, at-loop-test .loop-test .taken)) (l .inv .1 .0) (q .1 .0) (q .1 .1) in
     (omega (arith, at-loop-test .loop-test .taken), (omega (arith, l .inv .1 .0), (ap length s ∙ moved-length (a .index .now) (l .i - 1) (a .to) (a .by), s)))
-
-same-length : tie.Need-same-length Inv-loop μ-loop
-same-length c = search needs
 
 returns : tie.Need-returns Inv-loop μ-loop
 returns c =
@@ -79,13 +61,13 @@ move-up-spec =
     Inv-loop
     μ-loop
     loop-holds
-    sub-i
-    mul-index
-    slice-read-index
+    (λ c. search needs)
+    (λ c. search needs)
+    (λ c. search needs)
     add-index
-    mul-index-2
+    (λ c. search needs)
     slice-write-index
-    loop-less
+    (λ c. search needs)
     loop-again
-    same-length
+    (λ c. search needs)
     returns)

@@ -1,11 +1,11 @@
 -- The loop: between low and high the row has the place that it has among all. Assumes nothing.
 use mathlib.Core.Path.{_≡_, refl, sym, _∙_}
-use Prim.Native.Nat.{ℕ, _-_, _*_, _≤_}
+use Prim.Native.Nat.{ℕ, _-_, _≤_}
 use native.Mathlib.Omega.{arith}
-use lib.ListN.{length}
 use Rattle.log_index.specs.Rows.{rowOf, earlier}
-use Rattle.log_index.specs.Words.{rowAt, halve, rankIn}
-use Rattle.log_index.proofs.Halves.{starts, goes-behind, goes-before, ends}
+use Rattle.wire.specs.Halving.{halve}
+use Rattle.log_index.specs.Words.{rowAt, rankIn}
+use Rattle.wire.proofs.Halves.{starts, goes-behind, goes-before, ends}
 use borrow.Author.Needs.{needs}
 use Rattle.log_index.proofs.rank.Statement.{statement}
 use Rattle.log_index.proofs.rank.Tie as tie
@@ -26,31 +26,16 @@ abbrev μ-loop : tie.MeasureT-loop
 loop-holds : tie.Need-loop-holds Inv-loop μ-loop
 unfolding rankIn
 loop-holds c =
-    (omega arith, (omega arith, starts _ (c .before .args .n)))
-
-sub-mid : tie.Need-sub-mid Inv-loop μ-loop
-sub-mid c = search needs
-
-add-mid : tie.Need-add-mid Inv-loop μ-loop
-add-mid c = search needs
+    (omega arith, (omega arith, starts _ (c .before .args .n) _ refl))
 
 is-before-requires : tie.Need-is-before-requires Inv-loop μ-loop
 is-before-requires c κs = omega (arith, c .before .before .before .pre)
-
-add-low : tie.Need-add-low Inv-loop μ-loop
-add-low c = search needs
-
-loop-less : tie.Need-loop-less Inv-loop μ-loop
-loop-less c = search needs
 
 loop-again : tie.Need-loop-again Inv-loop μ-loop
 loop-again c =
     let l = c .before .before .before .loop in
     let e = sym (c .before .is-before .ensures) ∙ c .if1 .taken in
     (omega arith, (omega arith, goes-behind _ (l .low) (l .high) (omega arith) e ∙ l .inv .1 .1))
-
-loop-less-2 : tie.Need-loop-less-2 Inv-loop μ-loop
-loop-less-2 c = search needs
 
 loop-again-2 : tie.Need-loop-again-2 Inv-loop μ-loop
 loop-again-2 c =
@@ -70,12 +55,12 @@ rank-spec =
     Inv-loop
     μ-loop
     loop-holds
-    sub-mid
-    add-mid
+    (λ c. search needs)
+    (λ c. search needs)
     is-before-requires
-    add-low
-    loop-less
+    (λ c. search needs)
+    (λ c. search needs)
     loop-again
-    loop-less-2
+    (λ c. search needs)
     loop-again-2
     returns)

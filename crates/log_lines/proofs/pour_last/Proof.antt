@@ -10,45 +10,12 @@ use Rattle.log_lines.proofs.pour_last.Tie as tie
 enum-told : tie.Need-enum-told
 enum-told c = search needs
 
-slice-aggregate-pour-counted-line : tie.Need-slice-aggregate-pour-counted-line
-slice-aggregate-pour-counted-line c = search needs
-
-pour-counted-line-requires : tie.Need-pour-counted-line-requires
-pour-counted-line-requires c κs = search needs
-
-enum-known-step : tie.Need-enum-known-step
-enum-known-step c = search needs
-
-slice-aggregate-pour-counted : tie.Need-slice-aggregate-pour-counted
-slice-aggregate-pour-counted c = search needs
-
-cast-pour-counted : tie.Need-cast-pour-counted
-cast-pour-counted c = search needs
-
-pour-counted-requires : tie.Need-pour-counted-requires
-pour-counted-requires c κs = search needs
-
-slice-aggregate-pour-counted-line-2 : tie.Need-slice-aggregate-pour-counted-line-2
-slice-aggregate-pour-counted-line-2 c = search needs
-
-pour-counted-line-requires-2 : tie.Need-pour-counted-line-requires-2
-pour-counted-line-requires-2 c κs = search needs
-
-enum-told-2 : tie.Need-enum-told-2
-enum-told-2 c = search needs
-
-same-length : tie.Need-same-length
-same-length c = search needs
-
 returns : tie.Need-returns
 returns c =
     let t = c .before .before in
     let told = t .before .before .before in
     let a = told .before .before .before .args in
     pours-is (t .pour-counted-line .ensures) (sym (ap (λ (s : Step). lastLine s (a .n)) (told .enum-told .given .1)))
-
-same-length-2 : tie.Need-same-length-2
-same-length-2 c = search needs
 
 returns-2 : tie.Need-returns-2
 returns-2 c =
@@ -68,17 +35,17 @@ pour-last-spec =
     tie.close
     (tie.spec
     enum-told
-    slice-aggregate-pour-counted-line
-    pour-counted-line-requires
-    enum-known-step
-    slice-aggregate-pour-counted
-    cast-pour-counted
-    pour-counted-requires
-    slice-aggregate-pour-counted-line-2
-    pour-counted-line-requires-2
-    enum-told-2
-    same-length
+    (λ c. search needs)
+    (λ c κs. search needs)
+    (λ c. search needs)
+    (λ c. search needs)
+    (λ c. search needs)
+    (λ c κs. search needs)
+    (λ c. search needs)
+    (λ c κs. search needs)
+    (λ c. search needs)
+    (λ c. search needs)
     returns
-    same-length-2
+    (λ c. search needs)
     returns-2
     returns-3)

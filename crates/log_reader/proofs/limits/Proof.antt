@@ -2,7 +2,6 @@
 -- The reader is Copy: what it owns is had twice, one copy is kept whole for the exit, and of the other what the log owns goes to the callee, beside the lifetime's token, which comes back.
 -- Assumes nothing.
 use mathlib.Core.Path.{_≡_, refl}
-use Prim.Native.Nat.{ℕ}
 use mathlib.Core.List.{List, [], _∷_}
 use lib.Dec.{T as Holds}
 use lib.ListN.{length}

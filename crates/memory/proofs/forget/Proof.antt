@@ -1,5 +1,5 @@
 -- `memory::forget` meets its contract. Assumes nothing.
-use mathlib.Core.Path.{_≡_, sym, _∙_, ap}
+use mathlib.Core.Path.{_∙_, ap}
 use borrow.Author.Needs.{needs}
 use lib.ListN.{length}
 use Rattle.steps.specs.Limits.{sendersMost}
@@ -9,14 +9,8 @@ use Rattle.memory.proofs.Views.{stays, left, forgotten-memory}
 use Rattle.memory.proofs.forget.Statement.{statement}
 use Rattle.memory.proofs.forget.Tie as tie
 
-same-length : tie.Need-same-length
-same-length c = search needs
-
 returns : tie.Need-returns
 returns c = stays (c .before .before .args .memory .now) _ (c .if1 .taken)
-
-free-all-requires : tie.Need-free-all-requires
-free-all-requires c κs = search needs
 
 same-length-2 : tie.Need-same-length
 same-length-2 c = search needs
@@ -31,4 +25,4 @@ returns-2 c =
     left (a .memory .now) _ _ e (ap memoryIn u ∙ forgotten-memory (a .memory .now) (a .sender) e) (ap length u ∙ freed-length (a .memory .now) (a .sender) sendersMost)
 
 pub forget-spec : {M : Type 1} → statement M
-forget-spec = tie.close (tie.spec returns free-all-requires same-length returns-2)
+forget-spec = tie.close (tie.spec returns (λ c κs. search needs) (λ c. search needs) returns-2)

@@ -1,11 +1,11 @@
 -- `memory::free_all` meets its contract. The loop's invariant: the i places passed are freed where they are the sender's. Assumes nothing.
 use mathlib.Core.Path.{_≡_, _∙_, ap}
-use Prim.Native.Nat.{ℕ, _+_, _-_, _≤_, _<_}
+use Prim.Native.Nat.{_-_, _≤_}
 use native.Mathlib.Omega.{arith}
 use borrow.Author.Needs.{needs}
 use lib.ListN.{length}
-use Rattle.steps.specs.Limits.{sendersMost, keysEach}
-use Rattle.memory.specs.Parts.{freedIn}
+use Rattle.steps.specs.Limits.{sendersMost}
+use Rattle.memory.specs.InsideParts.{freedIn}
 use Rattle.memory.proofs.Loops.{freed-none, freed-more, freed-length}
 use Rattle.memory.proofs.free_all.Statement.{statement}
 use Rattle.memory.proofs.free_all.Tie as tie
@@ -18,15 +18,6 @@ abbrev μ-loop : tie.MeasureT-loop
 
 loop-holds : tie.Need-loop-holds Inv-loop μ-loop
 loop-holds c = (omega arith, freed-none (c .before .args .memory .now) (c .before .args .sender))
-
-free-at-requires : tie.Need-free-at-requires Inv-loop μ-loop
-free-at-requires c κs = search needs
-
-add-i : tie.Need-add-i Inv-loop μ-loop
-add-i c = search needs
-
-loop-less : tie.Need-loop-less Inv-loop μ-loop
-loop-less c = search needs
 
 loop-again : tie.Need-loop-again Inv-loop μ-loop
 loop-again c =
@@ -54,9 +45,9 @@ free-all-spec =
     Inv-loop
     μ-loop
     loop-holds
-    free-at-requires
-    add-i
-    loop-less
+    (λ c κs. search needs)
+    (λ c. search needs)
+    (λ c. search needs)
     loop-again
     same-length
     returns)

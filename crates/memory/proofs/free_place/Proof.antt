@@ -1,12 +1,12 @@
 -- `memory::free_place` meets its contract. The loop's invariant: none of the i places passed is free. Assumes nothing.
 use mathlib.Core.Path.{_≡_, sym, _∙_}
 use mathlib.Core.Bool.{false}
-use Prim.Native.Nat.{ℕ, _+_, _-_, _≤_, _<_}
+use Prim.Native.Nat.{ℕ, _-_, _≤_, _<_}
 use native.Mathlib.Omega.{arith}
 use borrow.Author.Needs.{needs}
 use borrow.Author.Tests.{eq-eqb, ne-eqb}
 use borrow.Author.Count.{below-more}
-use Rattle.steps.specs.Limits.{sendersMost, keysEach}
+use Rattle.steps.specs.Limits.{sendersMost}
 use Rattle.steps.specs.Memory.{vacant}
 use Rattle.memory.specs.Words.{placeIn}
 use Rattle.memory.proofs.Loops.{found-at, found-none}
@@ -22,23 +22,11 @@ abbrev μ-loop : tie.MeasureT-loop
 loop-holds : tie.Need-loop-holds Inv-loop μ-loop
 loop-holds c = (omega arith, λ j h. absurd (let z : ⊥ = omega arith in z))
 
-add-word : tie.Need-add-word Inv-loop μ-loop
-add-word c = search needs
-
-word-requires : tie.Need-word-requires Inv-loop μ-loop
-word-requires c κs = search needs
-
 returns : tie.Need-returns Inv-loop μ-loop
 returns c =
     let start = c .before .before .before in
     let l = start .loop in
     found-at vacant (start .before .before .args .memory .now) (l .i) (omega arith) (l .inv .1) (eq-eqb _ _ (sym (c .before .word .ensures) ∙ c .if1 .taken))
-
-add-i : tie.Need-add-i Inv-loop μ-loop
-add-i c = search needs
-
-loop-less : tie.Need-loop-less Inv-loop μ-loop
-loop-less c = search needs
 
 loop-again : tie.Need-loop-again Inv-loop μ-loop
 loop-again c =
@@ -58,10 +46,10 @@ free-place-spec =
     Inv-loop
     μ-loop
     loop-holds
-    add-word
-    word-requires
+    (λ c. search needs)
+    (λ c κs. search needs)
     returns
-    add-i
-    loop-less
+    (λ c. search needs)
+    (λ c. search needs)
     loop-again
     returns-2)

@@ -1,14 +1,14 @@
 -- `memory::has_key` meets its contract. The loop's invariant: none of the j sequences passed is the one. Assumes nothing.
 use mathlib.Core.Path.{_≡_, refl, sym, _∙_, ap}
-use mathlib.Core.Bool.{Bool, false}
-use Prim.Native.Nat.{ℕ, _+_, _-_, _≤_, _<_}
+use mathlib.Core.Bool.{false}
+use Prim.Native.Nat.{ℕ, _-_, _≤_}
 use Prim.Native.Nat.{min}
 use native.Mathlib.Omega.{arith}
 use borrow.Author.Needs.{needs}
-use lib.ListN.{length, getD, take}
-use Rattle.steps.specs.Limits.{sendersMost, keysEach}
+use lib.ListN.{take}
+use Rattle.steps.specs.Limits.{keysEach}
 use Rattle.steps.specs.Memory.{has}
-use Rattle.memory.specs.Words.{usedAt, sequencesIn}
+use Rattle.memory.specs.Words.{sequencesIn}
 use Rattle.memory.proofs.Loops.{key-hit, key-more, key-missed}
 use Rattle.memory.proofs.has_key.Statement.{statement}
 use Rattle.memory.proofs.has_key.Tie as tie
@@ -19,29 +19,8 @@ Inv-loop memory i sequence n a j₀ j = (j ≤ n) × (n ≤ keysEach) × (has (t
 abbrev μ-loop : tie.MeasureT-loop
 μ-loop memory i sequence n a j₀ j = n - j
 
-add-word : tie.Need-add-word Inv-loop μ-loop
-add-word c = search needs
-
-word-requires : tie.Need-word-requires Inv-loop μ-loop
-word-requires c κs = search needs
-
-least-requires : tie.Need-least-requires Inv-loop μ-loop
-least-requires c κs = search needs
-
-mul-a : tie.Need-mul-a Inv-loop μ-loop
-mul-a c = search needs
-
-add-a : tie.Need-add-a Inv-loop μ-loop
-add-a c = search needs
-
 loop-holds : tie.Need-loop-holds Inv-loop μ-loop
 loop-holds c = (omega arith, omega (arith, c .least .ensures), refl)
-
-add-word-2 : tie.Need-add-word-2 Inv-loop μ-loop
-add-word-2 c = search needs
-
-word-requires-2 : tie.Need-word-requires-2 Inv-loop μ-loop
-word-requires-2 c κs = search needs
 
 returns : tie.Need-returns Inv-loop μ-loop
 returns c =
@@ -50,12 +29,6 @@ returns c =
     let a = counted .before .before .before .args in
     let n = counted .least .ensures ∙ ap (λ (k : ℕ). min k keysEach) (counted .before .word .ensures) in
     sym (key-hit (a .memory .now) (a .i) (a .sequence) _ n (start .loop .j) (omega arith) (sym (c .before .word2 .ensures) ∙ c .if1 .taken))
-
-add-j : tie.Need-add-j Inv-loop μ-loop
-add-j c = search needs
-
-loop-less : tie.Need-loop-less Inv-loop μ-loop
-loop-less c = search needs
 
 loop-again : tie.Need-loop-again Inv-loop μ-loop
 loop-again c =
@@ -81,16 +54,16 @@ has-key-spec =
     (tie.spec
     Inv-loop
     μ-loop
-    add-word
-    word-requires
-    least-requires
-    mul-a
-    add-a
+    (λ c. search needs)
+    (λ c κs. search needs)
+    (λ c κs. search needs)
+    (λ c. search needs)
+    (λ c. search needs)
     loop-holds
-    add-word-2
-    word-requires-2
+    (λ c. search needs)
+    (λ c κs. search needs)
     returns
-    add-j
-    loop-less
+    (λ c. search needs)
+    (λ c. search needs)
     loop-again
     returns-2)

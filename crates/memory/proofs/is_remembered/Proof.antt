@@ -1,29 +1,25 @@
 -- `memory::is_remembered` meets its contract. Assumes nothing.
-use Rattle.memory.proofs.Views.{known-there, known-nowhere}
+use mathlib.Core.Path.{sym}
+use borrow.Author.Tests.{not-true}
 use borrow.Author.Needs.{needs}
+use Rattle.memory.proofs.Views.{known-there, known-nowhere}
 use Rattle.memory.proofs.is_remembered.Statement.{statement}
 use Rattle.memory.proofs.is_remembered.Tie as tie
 
-own-place-requires : tie.Need-own-place-requires
-own-place-requires c κs = search needs
-
-row-has-requires : tie.Need-row-has-requires
-row-has-requires c κs = search needs
-
 returns : tie.Need-returns
 returns c =
-    let b = c .before .before .before in
-    let a = b .before .before .args in
-    known-there (a .memory .now) (a .sender) (a .sequence) _ _ (b .own-place .ensures) (c .before .before .if1 .taken) (c .row-has .ensures)
-
-has-key-requires : tie.Need-has-key-requires
-has-key-requires c κs = search needs
+    let there = c .before .before .before in
+    let own = there .before in
+    let a = own .before .before .args in
+    known-there (a .memory .now) (a .sender) (a .sequence) _ _ (own .own-place .ensures) (there .if1 .taken)
+    (sym (c .before .may-have .ensures (not-true _ (c .if3 .taken))))
 
 returns-2 : tie.Need-returns-2
 returns-2 c =
-    let b = c .before .before .before in
-    let a = b .before .before .args in
-    known-there (a .memory .now) (a .sender) (a .sequence) _ _ (b .own-place .ensures) (c .before .before .if1 .taken) (c .has-key .ensures)
+    let there = c .before .before in
+    let own = there .before in
+    let a = own .before .before .args in
+    known-there (a .memory .now) (a .sender) (a .sequence) _ _ (own .own-place .ensures) (there .if1 .taken) (c .has-key .ensures)
 
 returns-3 : tie.Need-returns-3
 returns-3 c =
@@ -33,4 +29,4 @@ returns-3 c =
 pub is-remembered-spec : {M : Type 1} → statement M
 is-remembered-spec =
     tie.close
-    (tie.spec own-place-requires row-has-requires returns has-key-requires returns-2 returns-3)
+    (tie.spec (λ c κs. search needs) (λ c κs. search needs) returns (λ c κs. search needs) returns-2 returns-3)

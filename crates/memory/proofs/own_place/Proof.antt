@@ -1,11 +1,11 @@
 -- `memory::own_place` meets its contract. The loop's invariant: none of the i places passed is the sender's. Assumes nothing.
 use mathlib.Core.Path.{_≡_, sym, _∙_}
 use mathlib.Core.Bool.{false}
-use Prim.Native.Nat.{ℕ, _+_, _-_, _≤_, _<_}
+use Prim.Native.Nat.{ℕ, _-_, _≤_, _<_}
 use native.Mathlib.Omega.{arith}
 use borrow.Author.Needs.{needs}
 use borrow.Author.Count.{below-more}
-use Rattle.steps.specs.Limits.{sendersMost, keysEach}
+use Rattle.steps.specs.Limits.{sendersMost}
 use Rattle.steps.specs.Memory.{isOf}
 use Rattle.memory.specs.Words.{placeIn}
 use Rattle.memory.proofs.Loops.{found-at, found-none}
@@ -21,21 +21,12 @@ abbrev μ-loop : tie.MeasureT-loop
 loop-holds : tie.Need-loop-holds Inv-loop μ-loop
 loop-holds c = (omega arith, λ j h. absurd (let z : ⊥ = omega arith in z))
 
-is-of-requires : tie.Need-is-of-requires Inv-loop μ-loop
-is-of-requires c κs = search needs
-
 returns : tie.Need-returns Inv-loop μ-loop
 returns c =
     let start = c .before .before .before in
     let a = start .before .before .args in
     let l = start .loop in
     found-at (isOf (a .sender)) (a .memory .now) (l .i) (omega arith) (l .inv .1) (sym (c .before .is-of .ensures) ∙ c .if1 .taken)
-
-add-i : tie.Need-add-i Inv-loop μ-loop
-add-i c = search needs
-
-loop-less : tie.Need-loop-less Inv-loop μ-loop
-loop-less c = search needs
 
 loop-again : tie.Need-loop-again Inv-loop μ-loop
 loop-again c =
@@ -57,9 +48,9 @@ own-place-spec =
     Inv-loop
     μ-loop
     loop-holds
-    is-of-requires
+    (λ c κs. search needs)
     returns
-    add-i
-    loop-less
+    (λ c. search needs)
+    (λ c. search needs)
     loop-again
     returns-2)

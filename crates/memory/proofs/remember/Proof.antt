@@ -1,19 +1,15 @@
 -- `memory::remember` meets its contract. Assumes nothing.
-use mathlib.Core.Path.{_≡_, sym, _∙_, ap}
-use Prim.Native.Nat.{ℕ}
+use mathlib.Core.Path.{sym, _∙_, ap}
 use borrow.Author.Needs.{needs}
 use lib.ListN.{length}
-use Rattle.memory.specs.Words.{memoryWords, memoryIn}
-use Rattle.memory.specs.Parts.{settledIn, addedIn}
+use Rattle.memory.specs.Words.{memoryIn}
+use Rattle.memory.specs.InsideParts.{addedIn}
 use Rattle.memory.proofs.Views.{stays, left, for-inside, settled-length, remembered-memory, remembered-length}
 use Rattle.memory.proofs.remember.Statement.{statement}
 use Rattle.memory.proofs.remember.Tie as tie
 
 returns : tie.Need-returns
 returns c = stays (c .before .before .args .memory .now) _ (c .if1 .taken)
-
-place-for-requires : tie.Need-place-for-requires
-place-for-requires c κs = search needs
 
 count-of-requires : tie.Need-count-of-requires
 count-of-requires c κs =
@@ -33,9 +29,6 @@ add-requires c κs =
     let a = found .before .before .before .before .args in
     let inside = for-inside (a .memory .now) (a .sender) _ (found .place-for .ensures) in
     (inside, ap length (c .before .before .before .settle .ensures) ∙ settled-length (a .memory .now) (found .before .before .if1 .left) _ (a .sender) inside)
-
-same-length : tie.Need-same-length
-same-length c = search needs
 
 returns-2 : tie.Need-returns-2
 returns-2 c =
@@ -60,9 +53,9 @@ remember-spec =
     tie.close
     (tie.spec
     returns
-    place-for-requires
+    (λ c κs. search needs)
     count-of-requires
     settle-requires
     add-requires
-    same-length
+    (λ c. search needs)
     returns-2)

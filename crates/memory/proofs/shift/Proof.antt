@@ -5,7 +5,7 @@ use native.Mathlib.Omega.{arith}
 use lib.ListN.{length, length-set}
 use borrow.Author.Needs.{needs}
 use Rattle.steps.specs.Limits.{keysEach}
-use Rattle.memory.specs.Parts.{shiftedIn}
+use Rattle.memory.specs.InsideParts.{shiftedIn}
 use Rattle.memory.proofs.Loops.{shifted-none, shifted-more}
 use Rattle.memory.proofs.shift.Statement.{statement}
 use Rattle.memory.proofs.shift.Tie as tie
@@ -20,36 +20,6 @@ loop-holds : tie.Need-loop-holds Inv-loop μ-loop
 loop-holds c =
     let a = c .args in
     (omega arith, refl, shifted-none (a .memory .now) (a .a))
-
-sub-loop : tie.Need-sub-loop Inv-loop μ-loop
-sub-loop c = search needs
-
-add-memory : tie.Need-add-memory Inv-loop μ-loop
-add-memory c = search needs
-
-add-memory-2 : tie.Need-add-memory-2 Inv-loop μ-loop
-add-memory-2 c = search needs
-
-mul-memory : tie.Need-mul-memory Inv-loop μ-loop
-mul-memory c = search needs
-
-slice-read-memory : tie.Need-slice-read-memory Inv-loop μ-loop
-slice-read-memory c = search needs
-
-add-memory-3 : tie.Need-add-memory-3 Inv-loop μ-loop
-add-memory-3 c = search needs
-
-mul-memory-2 : tie.Need-mul-memory-2 Inv-loop μ-loop
-mul-memory-2 c = search needs
-
-slice-write-memory : tie.Need-slice-write-memory Inv-loop μ-loop
-slice-write-memory c = search needs
-
-add-i : tie.Need-add-i Inv-loop μ-loop
-add-i c = search needs
-
-loop-less : tie.Need-loop-less Inv-loop μ-loop
-loop-less c = search needs
 
 loop-again : tie.Need-loop-again Inv-loop μ-loop
 loop-again c =
@@ -72,16 +42,16 @@ shift-spec =
     Inv-loop
     μ-loop
     loop-holds
-    sub-loop
-    add-memory
-    add-memory-2
-    mul-memory
-    slice-read-memory
-    add-memory-3
-    mul-memory-2
-    slice-write-memory
-    add-i
-    loop-less
+    (λ c. search needs)
+    (λ c. search needs)
+    (λ c. search needs)
+    (λ c. search needs)
+    (λ c. search needs)
+    (λ c. search needs)
+    (λ c. search needs)
+    (λ c. search needs)
+    (λ c. search needs)
+    (λ c. search needs)
     loop-again
     same-length
     returns)

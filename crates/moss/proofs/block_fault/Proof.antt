@@ -6,23 +6,14 @@ use Rattle.moss.proofs.Faults.{fault-type, fault-broken, fault-filled}
 use Rattle.moss.proofs.block_fault.Statement.{statement}
 use Rattle.moss.proofs.block_fault.Tie as tie
 
-is-known-requires : tie.Need-is-known-requires
-is-known-requires c κs = search needs
-
 returns : tie.Need-returns
 returns c =
     let at-is-known = c .before in
     let a = at-is-known .before .before .args in
     sym (fault-type (a .kind) (a .blocks .now) (sym (at-is-known .is-known .ensures) ∙ not-true _ (c .if1 .taken)))
 
-walk-kind-requires : tie.Need-walk-kind-requires
-walk-kind-requires c κs = search needs
-
 enum-told : tie.Need-enum-told
 enum-told c = search needs
-
-enum-told-2 : tie.Need-enum-told-2
-enum-told-2 c = search needs
 
 returns-2 : tie.Need-returns-2
 returns-2 c =
@@ -45,4 +36,4 @@ returns-3 c =
 pub block-fault-spec : {M : Type 1} → statement M
 block-fault-spec =
     tie.close
-    (tie.spec is-known-requires returns walk-kind-requires enum-told enum-told-2 returns-2 returns-3)
+    (tie.spec (λ c κs. search needs) returns (λ c κs. search needs) enum-told (λ c. search needs) returns-2 returns-3)

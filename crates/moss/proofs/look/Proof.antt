@@ -6,7 +6,7 @@ use borrow.Author.Needs.{needs}
 use lib.ListN.{length}
 use Rattle.moss.specs.Limits.{headLength}
 use Rattle.moss.specs.Packet.{lengthIn}
-use Rattle.moss.specs.Walk.{looked}
+use Rattle.moss.specs.InsideWalk.{looked}
 use Rattle.moss.proofs.Packets.{packet-short, packet-wrong, packet-long, packet-type, packet-held}
 use Rattle.moss.proofs.look.Statement.{statement}
 use Rattle.moss.proofs.look.Tie as tie
@@ -20,9 +20,6 @@ true-length c = sym (c .before .number .ensures .value) ∙ c .if2 .left
 
 returns : tie.Need-returns
 returns c = let a = c .before .before .args in ap (looked (a .n)) (sym (packet-short (a .p .now) (c .if1 .taken)))
-
-number-requires : tie.Need-number-requires
-number-requires c κs = search needs
 
 returns-2 : tie.Need-returns-2
 returns-2 c =
@@ -38,12 +35,6 @@ returns-3 c =
     let a = s .before .before .before .before .args in
     ap (looked (a .n)) (sym (packet-long (a .p .now) (whole s) (true-length s) (c .if3 .taken)))
 
-shared-slice-read-kind : tie.Need-shared-slice-read-kind
-shared-slice-read-kind c = search needs
-
-is-known-requires : tie.Need-is-known-requires
-is-known-requires c κs = search needs
-
 returns-4 : tie.Need-returns-4
 returns-4 c =
     let at-is-known = c .before in
@@ -53,9 +44,6 @@ returns-4 c =
     let a = s .before .before .before .before .args in
     ap (looked (a .n))
     (sym (packet-type (a .p .now) (whole s) (true-length s) (f .if3 .left) (sym (at-is-known .is-known .ensures) ∙ not-true _ (c .if4 .taken))))
-
-look-inside-requires : tie.Need-look-inside-requires
-look-inside-requires c κs = search needs
 
 returns-5 : tie.Need-returns-5
 returns-5 c =
@@ -72,11 +60,11 @@ look-spec =
     tie.close
     (tie.spec
     returns
-    number-requires
+    (λ c κs. search needs)
     returns-2
     returns-3
-    shared-slice-read-kind
-    is-known-requires
+    (λ c. search needs)
+    (λ c κs. search needs)
     returns-4
-    look-inside-requires
+    (λ c κs. search needs)
     returns-5)

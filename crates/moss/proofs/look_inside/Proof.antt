@@ -8,12 +8,6 @@ use Rattle.moss.proofs.Looks.{look-broken, look-filled}
 use Rattle.moss.proofs.look_inside.Statement.{statement}
 use Rattle.moss.proofs.look_inside.Tie as tie
 
-walk-kind-requires : tie.Need-walk-kind-requires
-walk-kind-requires c κs = search needs
-
-enum-known-r : tie.Need-enum-known-r
-enum-known-r c = search needs
-
 enum-told : tie.Need-enum-told
 enum-told c = search needs
 
@@ -22,9 +16,6 @@ returns c =
     let k = c .before .before in
     let a = k .before .before .args in
     look-broken (a .n) (a .p .now) (carried (a .kind) (drop headLength (a .p .now))) (sym (k .walk-kind .ensures) ∙ c .enum-told .given .1)
-
-word-at-requires : tie.Need-word-at-requires
-word-at-requires c κs = search needs
 
 returns-2 : tie.Need-returns-2
 returns-2 c =
@@ -43,4 +34,4 @@ returns-2 c =
 pub look-inside-spec : {M : Type 1} → statement M
 look-inside-spec =
     tie.close
-    (tie.spec walk-kind-requires enum-known-r enum-told returns word-at-requires returns-2)
+    (tie.spec (λ c κs. search needs) (λ c. search needs) enum-told returns (λ c κs. search needs) returns-2)

@@ -7,20 +7,8 @@ use Rattle.moss.proofs.Parts.{message-part, message-none}
 use Rattle.moss.proofs.message.Statement.{statement}
 use Rattle.moss.proofs.message.Tie as tie
 
-message-place-requires : tie.Need-message-place-requires
-message-place-requires c κs = search needs
-
-enum-known-l : tie.Need-enum-known-l
-enum-known-l c = search needs
-
-part-requires : tie.Need-part-requires
-part-requires c κs = search needs
-
 enum-told : tie.Need-enum-told
 enum-told c = search needs
-
-part-requires-2 : tie.Need-part-requires-2
-part-requires-2 c κs = search needs
 
 returns : tie.Need-returns
 returns c =
@@ -44,10 +32,10 @@ pub message-spec : {M : Type 1} → statement M
 message-spec =
     tie.close
     (tie.spec
-    message-place-requires
-    enum-known-l
-    part-requires
+    (λ c κs. search needs)
+    (λ c. search needs)
+    (λ c κs. search needs)
     enum-told
-    part-requires-2
+    (λ c κs. search needs)
     returns
     returns-2)

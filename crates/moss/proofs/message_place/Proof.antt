@@ -7,18 +7,6 @@ use Rattle.moss.proofs.Looks.{looked-place, looked-refused}
 use Rattle.moss.proofs.message_place.Statement.{statement}
 use Rattle.moss.proofs.message_place.Tie as tie
 
-look-requires : tie.Need-look-requires
-look-requires c κs = search needs
-
-enum-known-l : tie.Need-enum-known-l
-enum-known-l c = search needs
-
-place-of-requires : tie.Need-place-of-requires
-place-of-requires c κs = search needs
-
-enum-known-l-2 : tie.Need-enum-known-l-2
-enum-known-l-2 c = search needs
-
 returns : tie.Need-returns
 returns c =
     let at-l = c .before .before in
@@ -40,4 +28,4 @@ returns-2 c =
 pub message-place-spec : {M : Type 1} → statement M
 message-place-spec =
     tie.close
-    (tie.spec look-requires enum-known-l place-of-requires enum-known-l-2 returns returns-2)
+    (tie.spec (λ c κs. search needs) (λ c. search needs) (λ c κs. search needs) (λ c. search needs) returns returns-2)

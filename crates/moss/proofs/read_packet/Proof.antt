@@ -7,15 +7,6 @@ use Rattle.moss.proofs.Looks.{looked-head, looked-refused}
 use Rattle.moss.proofs.read_packet.Statement.{statement}
 use Rattle.moss.proofs.read_packet.Tie as tie
 
-look-requires : tie.Need-look-requires
-look-requires c κs = search needs
-
-enum-known-l : tie.Need-enum-known-l
-enum-known-l c = search needs
-
-enum-known-l-2 : tie.Need-enum-known-l-2
-enum-known-l-2 c = search needs
-
 returns : tie.Need-returns
 returns c =
     let at-l = c .before in
@@ -33,4 +24,4 @@ returns-2 c =
     sym (ap headersOf (looked-refused 0 _ (packetOf (k .before .before .args .p .now)) (sym (l .given .1) ∙ k .look .ensures)))
 
 pub read-packet-spec : {M : Type 1} → statement M
-read-packet-spec = tie.close (tie.spec look-requires enum-known-l enum-known-l-2 returns returns-2)
+read-packet-spec = tie.close (tie.spec (λ c κs. search needs) (λ c. search needs) (λ c. search needs) returns returns-2)

@@ -9,15 +9,6 @@ use Rattle.moss.specs.Limits.{sessionLength}
 use Rattle.moss.proofs.session_at.Statement.{statement}
 use Rattle.moss.proofs.session_at.Tie as tie
 
-slice-aggregate-put-bytes : tie.Need-slice-aggregate-put-bytes
-slice-aggregate-put-bytes c = search needs
-
-part-requires : tie.Need-part-requires
-part-requires c κs = search needs
-
-put-bytes-requires : tie.Need-put-bytes-requires
-put-bytes-requires c κs = search needs
-
 returns : tie.Need-returns
 returns c =
     let k = c .before in
@@ -29,4 +20,4 @@ returns c =
 
 pub session-at-spec : {M : Type 1} → statement M
 session-at-spec =
-    tie.close (tie.spec slice-aggregate-put-bytes part-requires put-bytes-requires returns)
+    tie.close (tie.spec (λ c. search needs) (λ c κs. search needs) (λ c κs. search needs) returns)

@@ -5,7 +5,8 @@ use native.Mathlib.Omega.{arith}
 use lib.ListN.{length, drop}
 use borrow.Author.Needs.{needs}
 use Rattle.moss.specs.Blocks.{messagesIn}
-use Rattle.moss.specs.Walk.{start, walked}
+use Rattle.moss.specs.Walk.{start}
+use Rattle.moss.specs.InsideWalk.{walked}
 use Rattle.moss.specs.declared.Trail.{Trail}
 use Rattle.moss.proofs.Walks.{past-count, walk-next, walk-broken, walk-end}
 use Rattle.moss.proofs.walk.Statement.{statement}
@@ -20,12 +21,6 @@ abbrev μ-loop : tie.MeasureT-loop
 
 loop-holds : tie.Need-loop-holds Inv-loop μ-loop
 loop-holds c = (omega arith, refl)
-
-size-at-requires : tie.Need-size-at-requires Inv-loop μ-loop
-size-at-requires c κs = search needs
-
-sub-if1 : tie.Need-sub-if1 Inv-loop μ-loop
-sub-if1 c = search needs
 
 add-if1 : tie.Need-add-if1 Inv-loop μ-loop
 add-if1 c = omega (arith, c .size-at .ensures .1)
@@ -45,12 +40,6 @@ pass-requires c κs = (c .before .before .before .loop .inv .0, omega arith)
 
 add-at : tie.Need-add-at Inv-loop μ-loop
 add-at c = omega (arith, c .before .before .size-at .ensures .1)
-
-add-at-2 : tie.Need-add-at-2 Inv-loop μ-loop
-add-at-2 c = omega arith
-
-loop-less : tie.Need-loop-less Inv-loop μ-loop
-loop-less c = omega arith
 
 loop-again : tie.Need-loop-again Inv-loop μ-loop
 loop-again c =
@@ -84,13 +73,13 @@ walk-spec =
     Inv-loop
     μ-loop
     loop-holds
-    size-at-requires
-    sub-if1
+    (λ c κs. search needs)
+    (λ c. search needs)
     add-if1
     returns
     pass-requires
     add-at
-    add-at-2
-    loop-less
+    (λ c. omega arith)
+    (λ c. omega arith)
     loop-again
     returns-2)

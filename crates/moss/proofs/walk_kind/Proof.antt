@@ -4,13 +4,11 @@ use lib.ListN.{drop, length-drop}
 use borrow.Author.Tests.{eq-eqb, ne-eqb}
 use native.Mathlib.Omega.{arith}
 use borrow.Author.Needs.{needs}
-use Rattle.moss.specs.Walk.{start, walked}
+use Rattle.moss.specs.Walk.{start}
+use Rattle.moss.specs.InsideWalk.{walked}
 use Rattle.moss.proofs.Walks.{nothing-inside, nothing-at-end}
 use Rattle.moss.proofs.walk_kind.Statement.{statement}
 use Rattle.moss.proofs.walk_kind.Tie as tie
-
-walk-requires : tie.Need-walk-requires
-walk-requires c κs = search needs
 
 returns : tie.Need-returns
 returns c = rw (eq-eqb _ _ (c .before .if1 .taken)) (c .walk .ensures)
@@ -32,4 +30,4 @@ returns-3 c =
     (sym (ap (walked start (a .n) (a .from)) (nothing-at-end (a .b .now) (a .from) (c .if2 .left))))
 
 pub walk-kind-spec : {M : Type 1} → statement M
-walk-kind-spec = tie.close (tie.spec walk-requires returns returns-2 returns-3)
+walk-kind-spec = tie.close (tie.spec (λ c κs. search needs) returns returns-2 returns-3)

@@ -21,33 +21,12 @@ returns c =
     let e = laid-long (a .message .now) (a .at) (length (a .out .now)) (c .if1 .taken) in
     record { answer = sym e; output = ap (λ (g : Given ℕ). outputOf g (a .out .now) (a .at) (block (a .message .now))) (sym e) }
 
-room-requires : tie.Need-room-requires
-room-requires c κs = search needs
-
-add-if2 : tie.Need-add-if2
-add-if2 c = search needs
-
 returns-2 : tie.Need-returns-2
 returns-2 c =
     let f = c .before .before in
     let a = f .before .before .before .args in
     let e = laid-short (a .message .now) (a .at) (length (a .out .now)) (f .if1 .left) (omega arith) in
     record { answer = sym e; output = ap (λ (g : Given ℕ). outputOf g (a .out .now) (a .at) (block (a .message .now))) (sym e) }
-
-put-number-requires : tie.Need-put-number-requires
-put-number-requires c κs = search needs
-
-add-put-bytes : tie.Need-add-put-bytes
-add-put-bytes c = search needs
-
-put-bytes-requires : tie.Need-put-bytes-requires
-put-bytes-requires c κs = search needs
-
-add-t7 : tie.Need-add-t7
-add-t7 c = search needs
-
-same-length : tie.Need-same-length
-same-length c = search needs
 
 returns-3 : tie.Need-returns-3
 returns-3 c =
@@ -67,12 +46,12 @@ lay-block-spec =
     tie.close
     (tie.spec
     returns
-    room-requires
-    add-if2
+    (λ c κs. search needs)
+    (λ c. search needs)
     returns-2
-    put-number-requires
-    add-put-bytes
-    put-bytes-requires
-    add-t7
-    same-length
+    (λ c κs. search needs)
+    (λ c. search needs)
+    (λ c κs. search needs)
+    (λ c. search needs)
+    (λ c. search needs)
     returns-3)

@@ -12,14 +12,8 @@ use Rattle.moss_writer.proofs.plan.Tie as tie
 fits : (c : tie.Else1) → headLength + length (c .before .before .args .blocks .now) ≤ maxPacket
 fits c = omega arith
 
-sub-if1 : tie.Need-sub-if1
-sub-if1 c = search needs
-
 returns : tie.Need-returns
 returns c = let a = c .before .before .args in sym (written-long (a .kind) (a .blocks .now) (a .room) (omega arith))
-
-block-fault-requires : tie.Need-block-fault-requires
-block-fault-requires c κs = search needs
 
 returns-2 : tie.Need-returns-2
 returns-2 c =
@@ -27,9 +21,6 @@ returns-2 c =
     let f = asked .before in
     let a = f .before .before .args in
     sym (written-fault (a .kind) (a .blocks .now) (a .room) (fits f) _ (sym (asked .block-fault .ensures)) (c .if2 .taken))
-
-add-n : tie.Need-add-n
-add-n c = search needs
 
 returns-3 : tie.Need-returns-3
 returns-3 c =
@@ -52,4 +43,4 @@ returns-4 c =
 pub plan-spec : {M : Type 1} → statement M
 plan-spec =
     tie.close
-    (tie.spec sub-if1 returns block-fault-requires returns-2 add-n returns-3 returns-4)
+    (tie.spec (λ c. search needs) returns (λ c κs. search needs) returns-2 (λ c. search needs) returns-3 returns-4)

@@ -10,14 +10,8 @@ use Rattle.moss_writer.proofs.Plans.{written-makes}
 use Rattle.moss_writer.proofs.write_packet.Statement.{statement}
 use Rattle.moss_writer.proofs.write_packet.Tie as tie
 
-plan-requires : tie.Need-plan-requires
-plan-requires c κs = search needs
-
 enum-told : tie.Need-enum-told
 enum-told c = search needs
-
-enum-told-2 : tie.Need-enum-told-2
-enum-told-2 c = search needs
 
 returns : tie.Need-returns
 returns c =
@@ -36,9 +30,6 @@ put-packet-requires c κs =
     let a = k .before .before .before .args in
     omega (arith, written-makes (a .kind) (a .blocks .now) _ _ (sym (k .plan .ensures) ∙ ap writes (e .enum-told .given .1)) .fits)
 
-same-length : tie.Need-same-length
-same-length c = search needs
-
 returns-2 : tie.Need-returns-2
 returns-2 c =
     let p = c .before .before in
@@ -54,4 +45,4 @@ returns-2 c =
 pub write-packet-spec : {M : Type 1} → statement M
 write-packet-spec =
     tie.close
-    (tie.spec plan-requires enum-told enum-told-2 returns put-packet-requires same-length returns-2)
+    (tie.spec (λ c κs. search needs) enum-told (λ c. search needs) returns put-packet-requires (λ c. search needs) returns-2)

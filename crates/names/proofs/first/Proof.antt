@@ -4,29 +4,14 @@ use borrow.Author.Needs.{needs}
 use Rattle.names.proofs.first.Statement.{statement}
 use Rattle.names.proofs.first.Tie as tie
 
-within-requires : tie.Need-within-requires
-within-requires c κs = search needs
-
 returns : tie.Need-returns
 returns c = rw (sym (c .before .within .ensures) ∙ c .if1 .taken)
-
-within-requires-2 : tie.Need-within-requires-2
-within-requires-2 c κs = search needs
-
-after-requires : tie.Need-after-requires
-after-requires c κs = search needs
 
 returns-2 : tie.Need-returns-2
 returns-2 c =
     let asked2 = c .before .before in
     let asked1 = asked2 .before .before in
     rw (sym (asked1 .within .ensures) ∙ asked2 .before .if1 .left, sym (asked2 .within2 .ensures) ∙ c .before .if2 .taken) (c .after .ensures)
-
-within-requires-3 : tie.Need-within-requires-3
-within-requires-3 c κs = search needs
-
-after-requires-2 : tie.Need-after-requires-2
-after-requires-2 c κs = search needs
 
 returns-3 : tie.Need-returns-3
 returns-3 c =
@@ -36,12 +21,6 @@ returns-3 c =
     let a = sym (asked1 .within .ensures) ∙ asked2 .before .if1 .left in
     let b = sym (asked2 .within2 .ensures) ∙ asked3 .before .if2 .left in
     rw (a, b, sym (asked3 .within3 .ensures) ∙ c .before .if3 .taken) (c .after2 .ensures)
-
-within-requires-4 : tie.Need-within-requires-4
-within-requires-4 c κs = search needs
-
-after-requires-3 : tie.Need-after-requires-3
-after-requires-3 c κs = search needs
 
 returns-4 : tie.Need-returns-4
 returns-4 c =
@@ -69,15 +48,15 @@ pub first-spec : {M : Type 1} → statement M
 first-spec =
     tie.close
     (tie.spec
-    within-requires
+    (λ c κs. search needs)
     returns
-    within-requires-2
-    after-requires
+    (λ c κs. search needs)
+    (λ c κs. search needs)
     returns-2
-    within-requires-3
-    after-requires-2
+    (λ c κs. search needs)
+    (λ c κs. search needs)
     returns-3
-    within-requires-4
-    after-requires-3
+    (λ c κs. search needs)
+    (λ c κs. search needs)
     returns-4
     returns-5)

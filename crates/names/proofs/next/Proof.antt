@@ -5,17 +5,8 @@ use borrow.Author.Needs.{needs}
 use Rattle.names.proofs.next.Statement.{statement}
 use Rattle.names.proofs.next.Tie as tie
 
-first-requires : tie.Need-first-requires
-first-requires c κs = search needs
-
 returns : tie.Need-returns
 returns c = rw (eq-eqb _ _ (c .before .if1 .taken)) (c .first .ensures)
-
-within-requires : tie.Need-within-requires
-within-requires c κs = search needs
-
-sub-t5 : tie.Need-sub-t5
-sub-t5 c = search needs
 
 returns-2 : tie.Need-returns-2
 returns-2 c =
@@ -28,4 +19,4 @@ returns-3 c =
     rw (ne-eqb _ _ (asked .before .if1 .left), sym (asked .within .ensures) ∙ c .if2 .left)
 
 pub next-spec : {M : Type 1} → statement M
-next-spec = tie.close (tie.spec first-requires returns within-requires sub-t5 returns-2 returns-3)
+next-spec = tie.close (tie.spec (λ c κs. search needs) returns (λ c κs. search needs) (λ c. search needs) returns-2 returns-3)

@@ -16,33 +16,6 @@ returns-2 c =
     let if2 = c .if2 in
     names-opens (args .state .now) (args .names .now) _ (if2 .taken)
 
-slice-aggregate-put-words : tie.Need-slice-aggregate-put-words
-slice-aggregate-put-words c = search needs
-
-put-words-requires : tie.Need-put-words-requires
-put-words-requires c κs = search needs
-
-put-word-requires : tie.Need-put-word-requires
-put-word-requires c κs = search needs
-
-slot-size-requires : tie.Need-slot-size-requires
-slot-size-requires c κs = search needs
-
-put-word-requires-2 : tie.Need-put-word-requires-2
-put-word-requires-2 c κs = search needs
-
-slice-aggregate-put-bytes : tie.Need-slice-aggregate-put-bytes
-slice-aggregate-put-bytes c = search needs
-
-put-bytes-requires : tie.Need-put-bytes-requires
-put-bytes-requires c κs = search needs
-
-same-length : tie.Need-same-length
-same-length c = search needs
-
-same-length-2 : tie.Need-same-length-2
-same-length-2 c = search needs
-
 returns-3 : tie.Need-returns-3
 returns-3 c =
     let at-put-bytes = c .before .before in
@@ -57,4 +30,4 @@ returns-3 c =
     opens (args .state .now) (args .names .now) (at-if1 .if1 .left) (at-if2 .if2 .left) _ (at-slot-size .slot-size .result) _ _ _ _ (at-slot-size .slot-size .ensures) (at-put-words .put-words .ensures) (at-put-word .put-word .ensures) (at-put-word2 .put-word2 .ensures) (at-put-bytes .put-bytes .ensures)
 
 pub open-spec : {M : Type 1} → statement M
-open-spec = tie.close (tie.spec returns returns-2 slice-aggregate-put-words put-words-requires put-word-requires slot-size-requires put-word-requires-2 slice-aggregate-put-bytes put-bytes-requires same-length same-length-2 returns-3)
+open-spec = tie.close (tie.spec returns returns-2 (λ c. search needs) (λ c κs. search needs) (λ c κs. search needs) (λ c κs. search needs) (λ c κs. search needs) (λ c. search needs) (λ c κs. search needs) (λ c. search needs) (λ c. search needs) returns-3)

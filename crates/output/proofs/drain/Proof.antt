@@ -6,18 +6,12 @@ use borrow.Author.Needs.{needs}
 use Rattle.output.proofs.drain.Statement.{statement}
 use Rattle.output.proofs.drain.Tie as tie
 
-room-requires : tie.Need-room-requires
-room-requires c κs = search needs
-
 returns : tie.Need-returns
 returns c =
     let at-room = c .before in
     let start = at-room .before .before in
     let a = start .args in
     rw (le-leb (a .room) (length (a .out .now) - a .at) (rw (at-room .room .ensures) at (c .if1 .taken)))
-
-write-out-requires : tie.Need-write-out-requires
-write-out-requires c κs = search needs
 
 returns-2 : tie.Need-returns-2
 returns-2 c =
@@ -26,4 +20,4 @@ returns-2 c =
     rw (lt-leb (a .room) (length (a .out .now) - a .at) (rw (r .room .ensures) at (c .before .if1 .left)))
 
 pub drain-spec : {M : Type 1} → statement M
-drain-spec = tie.close (tie.spec room-requires returns write-out-requires returns-2)
+drain-spec = tie.close (tie.spec (λ c κs. search needs) returns (λ c κs. search needs) returns-2)

@@ -1,24 +1,11 @@
 -- The last line. Assumes nothing.
 use mathlib.Core.Path.{ap, _∙_}
-use mathlib.Core.List.{List}
 use Prim.Native.Nat.{ℕ}
 use Rattle.wire.specs.Overlay.{overlay}
 use Rattle.output.specs.Output.{lastLine}
 use borrow.Author.Needs.{needs}
 use Rattle.output.proofs.finish.Statement.{statement}
 use Rattle.output.proofs.finish.Tie as tie
-
-drain-requires : tie.Need-drain-requires
-drain-requires c κs = search needs
-
-put-last-requires : tie.Need-put-last-requires
-put-last-requires c κs = search needs
-
-write-out-requires : tie.Need-write-out-requires
-write-out-requires c κs = search needs
-
-same-length : tie.Need-same-length
-same-length c = search needs
 
 returns : tie.Need-returns
 returns c =
@@ -30,4 +17,4 @@ returns c =
 
 pub finish-spec : {M : Type 1} → statement M
 finish-spec =
-    tie.close (tie.spec drain-requires put-last-requires write-out-requires same-length returns)
+    tie.close (tie.spec (λ c κs. search needs) (λ c κs. search needs) (λ c κs. search needs) (λ c. search needs) returns)

@@ -1,6 +1,5 @@
 -- Bytes of any number: where they fit, room is made for them; otherwise the buffer was emptied and they go out past it. Assumes nothing.
-use mathlib.Core.Path.{_≡_, subst}
-use mathlib.Core.List.{List}
+use mathlib.Core.Path.{subst}
 use Prim.Native.Nat.{ℕ}
 use lib.ListN.{length}
 use Rattle.text.specs.Put.{Put}
@@ -10,15 +9,6 @@ use native.Mathlib.Omega.{arith}
 use Rattle.output.proofs.pour.Statement.{statement}
 use Rattle.output.proofs.pour.Tie as tie
 
-drain-requires : tie.Need-drain-requires
-drain-requires c κs = search needs
-
-put-text-requires : tie.Need-put-text-requires
-put-text-requires c κs = search needs
-
-same-length : tie.Need-same-length
-same-length c = search needs
-
 returns : tie.Need-returns
 returns c m h =
     let p = c .before .before in
@@ -27,12 +17,6 @@ returns c m h =
     let b = a .bytes .now in
     sends-line (length b) (omega arith) (p .before .before .if1 .taken) h
     (subst (λ (k : ℕ). Put (a .out .now) k b (p .put-text .last .0) (p .put-text .result)) (d .drain .ensures) (p .put-text .ensures))
-
-write-out-requires : tie.Need-write-out-requires
-write-out-requires c κs = search needs
-
-same-length-2 : tie.Need-same-length-2
-same-length-2 c = search needs
 
 returns-2 : tie.Need-returns-2
 returns-2 c m h =
@@ -44,10 +28,10 @@ pub pour-spec : {M : Type 1} → statement M
 pour-spec =
     tie.close
     (tie.spec
-    drain-requires
-    put-text-requires
-    same-length
+    (λ c κs. search needs)
+    (λ c κs. search needs)
+    (λ c. search needs)
     returns
-    write-out-requires
-    same-length-2
+    (λ c κs. search needs)
+    (λ c. search needs)
     returns-2)

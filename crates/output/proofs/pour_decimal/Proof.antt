@@ -6,15 +6,6 @@ use borrow.Author.Needs.{needs}
 use Rattle.output.proofs.pour_decimal.Statement.{statement}
 use Rattle.output.proofs.pour_decimal.Tie as tie
 
-drain-requires : tie.Need-drain-requires
-drain-requires c κs = search needs
-
-put-decimal-requires : tie.Need-put-decimal-requires
-put-decimal-requires c κs = search needs
-
-same-length : tie.Need-same-length
-same-length c = search needs
-
 returns : tie.Need-returns
 returns c =
     let p = c .before .before in
@@ -23,4 +14,4 @@ returns c =
     pours-put (omega (arith, length-word (s .args .n) (s .fits .n .fits))) (d .drain .ensures) (p .put-decimal .ensures)
 
 pub pour-decimal-spec : {M : Type 1} → statement M
-pour-decimal-spec = tie.close (tie.spec drain-requires put-decimal-requires same-length returns)
+pour-decimal-spec = tie.close (tie.spec (λ c κs. search needs) (λ c κs. search needs) (λ c. search needs) returns)

@@ -12,15 +12,6 @@ use borrow.Author.Needs.{needs}
 use Rattle.output.proofs.pour_signed.Statement.{statement}
 use Rattle.output.proofs.pour_signed.Tie as tie
 
-drain-requires : tie.Need-drain-requires
-drain-requires c κs = search needs
-
-put-signed-requires : tie.Need-put-signed-requires
-put-signed-requires c κs = search needs
-
-same-length : tie.Need-same-length
-same-length c = search needs
-
 returns : tie.Need-returns
 returns c =
     let p = c .before .before in
@@ -29,4 +20,4 @@ returns c =
     pours-put (omega (arith, length-signed (s .args .z) (sfits-within w64 (s .args .z) (s .fits .z)))) (d .drain .ensures) (put-is (p .put-signed .ensures) (ap signedDecimal (toZ-ofZ w64 (s .args .z) (s .fits .z))))
 
 pub pour-signed-spec : {M : Type 1} → statement M
-pour-signed-spec = tie.close (tie.spec drain-requires put-signed-requires same-length returns)
+pour-signed-spec = tie.close (tie.spec (λ c κs. search needs) (λ c κs. search needs) (λ c. search needs) returns)

@@ -6,15 +6,6 @@ use borrow.Author.Needs.{needs}
 use Rattle.parts.proofs.payload_part.Statement.{statement}
 use Rattle.parts.proofs.payload_part.Tie as tie
 
-read-datagram-requires : tie.Need-read-datagram-requires
-read-datagram-requires c κs = search needs
-
-payload-place-requires : tie.Need-payload-place-requires
-payload-place-requires c κs = search needs
-
-part-at-requires : tie.Need-part-at-requires
-part-at-requires c κs = search needs
-
 returns : tie.Need-returns
 unfolding payloadOf
 returns c =
@@ -25,4 +16,4 @@ returns c =
 
 pub payload-part-spec : {M : Type 1} → statement M
 payload-part-spec =
-    tie.close (tie.spec read-datagram-requires payload-place-requires part-at-requires returns)
+    tie.close (tie.spec (λ c κs. search needs) (λ c κs. search needs) (λ c κs. search needs) returns)

@@ -1,31 +1,18 @@
 -- By the mark's type and the type of its place. Assumes nothing.
-use mathlib.Core.Path.{_≡_, refl, sym, _∙_}
+use mathlib.Core.Path.{sym, _∙_}
 use native.Mathlib.Omega.{arith}
 use lib.ListN.{drop}
 use Rattle.pit_marks.proofs.Walks.{length-null, length-nowhere, length-somewhere, depth-least}
 use borrow.Author.Needs.{needs}
-use mathlib.Core.Path.{_≡_, refl, sym, _∙_}
-use Prim.Native.Nat.{ℕ, _+_, _≤_}
+use mathlib.Core.Path.{sym, _∙_}
 use native.Mathlib.Omega.{arith}
-use borrow.Author.Tests.{eq-eqb, ne-eqb}
-use Rattle.wire.specs.Choice.{pick}
-use Rattle.count_rules.specs.Marks.{markLength}
 use Rattle.pit_marks.proofs.element_length.Statement.{statement}
 use Rattle.pit_marks.proofs.element_length.Tie as tie
-
-number-at-requires : tie.Need-number-at-requires
-number-at-requires c κs = search needs
 
 returns : tie.Need-returns
 returns c =
     let a = c .before .before .args in
     length-null (a .two) (drop (a .place) (a .list .now)) (sym (c .before .number-at .ensures) ∙ c .if1 .taken)
-
-depths-requires : tie.Need-depths-requires
-depths-requires c κs = search needs
-
-number-at-requires-2 : tie.Need-number-at-requires-2
-number-at-requires-2 c κs = search needs
 
 add-result : tie.Need-add-result
 add-result c = record { fits = omega (arith, c .before .before .depths .ensures, depth-least (c .before .before .before .before .before .args .two)) }
@@ -51,10 +38,10 @@ pub element-length-spec : {M : Type 1} → statement M
 element-length-spec =
     tie.close
     (tie.spec
-    number-at-requires
+    (λ c κs. search needs)
     returns
-    depths-requires
-    number-at-requires-2
+    (λ c κs. search needs)
+    (λ c κs. search needs)
     add-result
     returns-2
     add-result-2

@@ -1,5 +1,5 @@
 -- An element, by whether it is null. Assumes nothing.
-use mathlib.Core.Path.{_≡_, sym, ap, _∙_}
+use mathlib.Core.Path.{sym, ap, _∙_}
 use mathlib.Core.Bool.{not}
 use Prim.Native.Nat.{ℕ}
 use lib.Dec.{eqb}
@@ -10,31 +10,10 @@ use borrow.Author.Needs.{needs}
 use Rattle.pit_marks.proofs.enter_element.Statement.{statement}
 use Rattle.pit_marks.proofs.enter_element.Tie as tie
 
-number-at-requires : tie.Need-number-at-requires
-number-at-requires c κs = search needs
-
 returns : tie.Need-returns
 returns c =
     let a = c .before .before .before .before .args in
     element-null (a .tile) (drop (a .place) (a .list .now)) (a .pits .now) (a .sure .now) (a .had) (sym (c .before .number-at .ensures) ∙ c .if1 .taken)
-
-number-at-requires-2 : tie.Need-number-at-requires-2
-number-at-requires-2 c κs = search needs
-
-key-of-requires : tie.Need-key-of-requires
-key-of-requires c κs = search needs
-
-number-at-requires-3 : tie.Need-number-at-requires-3
-number-at-requires-3 c κs = search needs
-
-enter-pit-requires : tie.Need-enter-pit-requires
-enter-pit-requires c κs = search needs
-
-same-length : tie.Need-same-length
-same-length c = search needs
-
-same-length-2 : tie.Need-same-length-2
-same-length-2 c = search needs
 
 returns-2 : tie.Need-returns-2
 returns-2 c =
@@ -50,12 +29,12 @@ pub enter-element-spec : {M : Type 1} → statement M
 enter-element-spec =
     tie.close
     (tie.spec
-    number-at-requires
+    (λ c κs. search needs)
     returns
-    number-at-requires-2
-    key-of-requires
-    number-at-requires-3
-    enter-pit-requires
-    same-length
-    same-length-2
+    (λ c κs. search needs)
+    (λ c κs. search needs)
+    (λ c κs. search needs)
+    (λ c κs. search needs)
+    (λ c. search needs)
+    (λ c. search needs)
     returns-2)

@@ -1,7 +1,7 @@
 -- Element by element. The loop's invariant: those from the place on, entered into what there is, are all of them entered. Assumes nothing.
 use mathlib.Core.Path.{_≡_, refl, sym, ap, _∙_}
 use mathlib.Core.List.{List, _++_}
-use Prim.Native.Nat.{ℕ, _-_, _≤_}
+use Prim.Native.Nat.{ℕ, _-_}
 use native.Mathlib.Omega.{arith}
 use lib.ListN.{length, drop}
 use Rattle.count_rules.specs.Marks.{Mark, markLength, markAt}
@@ -22,20 +22,8 @@ abbrev μ-loop : tie.MeasureT-loop
 loop-holds : tie.Need-loop-holds Inv-loop μ-loop
 loop-holds c = (refl, refl, refl)
 
-enter-element-requires : tie.Need-enter-element-requires Inv-loop μ-loop
-enter-element-requires c κs = search needs
-
-enum-known-taken : tie.Need-enum-known-taken Inv-loop μ-loop
-enum-known-taken c = search needs
-
 enum-told : tie.Need-enum-told Inv-loop μ-loop
 enum-told c = search needs
-
-same-length : tie.Need-same-length Inv-loop μ-loop
-same-length c = search needs
-
-same-length-2 : tie.Need-same-length-2 Inv-loop μ-loop
-same-length-2 c = search needs
 
 returns : tie.Need-returns Inv-loop μ-loop
 returns c =
@@ -45,13 +33,7 @@ returns c =
     let d = drop (l .loop .place) (a .list .now) in
     let q = marks-turn (a .two) (a .list .now) (l .loop .place) (markLength (a .two) d) (omega arith) refl in
     as-said (sym (l .loop .inv .2) ∙ ap (λ (ms : List Mark). enterMarks (a .tile) ms (l .loop .pits) (l .loop .sure) (l .loop .now)) q)
-    (then-refused (a .tile) (markAt d) _ (l .loop .pits) (l .loop .sure) (l .loop .now) _ _ _ (n .enter-element .ensures) _ (c .enum-told .given .1))
-
-element-length-requires : tie.Need-element-length-requires Inv-loop μ-loop
-element-length-requires c κs = search needs
-
-next-place-requires : tie.Need-next-place-requires Inv-loop μ-loop
-next-place-requires c κs = search needs
+    (then-refused (a .tile) (markAt d) _ (l .loop .pits) (l .loop .sure) (l .loop .now) _ _ _ (n .enter-element .ensures) _ _ (c .enum-told .given .1))
 
 loop-less : tie.Need-loop-less Inv-loop μ-loop
 loop-less c =
@@ -76,12 +58,6 @@ loop-again c =
     let p = ap (λ (k : ℕ). markAt d ++ marksFrom (a .two) (a .list .now) k) (c .next-place .ensures) ∙ sym q in
     (search needs, search needs, sym o ∙ (ap (λ (ms : List Mark). enterMarks (a .tile) ms (l .loop .pits) (l .loop .sure) (l .loop .now)) p ∙ l .loop .inv .2))
 
-same-length-3 : tie.Need-same-length-3 Inv-loop μ-loop
-same-length-3 c = search needs
-
-same-length-4 : tie.Need-same-length-4 Inv-loop μ-loop
-same-length-4 c = search needs
-
 returns-2 : tie.Need-returns-2 Inv-loop μ-loop
 returns-2 c =
     let l = c .before .loop in
@@ -96,16 +72,16 @@ enter-elements-spec =
     Inv-loop
     μ-loop
     loop-holds
-    enter-element-requires
-    enum-known-taken
+    (λ c κs. search needs)
+    (λ c. search needs)
     enum-told
-    same-length
-    same-length-2
+    (λ c. search needs)
+    (λ c. search needs)
     returns
-    element-length-requires
-    next-place-requires
+    (λ c κs. search needs)
+    (λ c κs. search needs)
     loop-less
     loop-again
-    same-length-3
-    same-length-4
+    (λ c. search needs)
+    (λ c. search needs)
     returns-2)

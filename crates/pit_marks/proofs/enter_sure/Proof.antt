@@ -1,30 +1,17 @@
 -- A sure pit, by what entering it answers. Assumes nothing.
-use mathlib.Core.Path.{sym}
 use Rattle.pit_marks.proofs.Cases.{sure-now, sure-full}
 use borrow.Author.Needs.{needs}
 use Rattle.pit_marks.proofs.enter_sure.Statement.{statement}
 use Rattle.pit_marks.proofs.enter_sure.Tie as tie
 
-enter-requires : tie.Need-enter-requires
-enter-requires c κs = search needs
-
-enum-known-entered : tie.Need-enum-known-entered
-enum-known-entered c = search needs
-
 enum-told : tie.Need-enum-told
 enum-told c = search needs
-
-same-length : tie.Need-same-length
-same-length c = search needs
 
 returns : tie.Need-returns
 returns c =
     let p = c .before .before .before .before .before in
     let a = p .before .before .before .args in
     sure-now (a .sure .now) (a .had) (a .x) (p .enter .result) _ (p .enter .ensures) _ (c .before .entered .given .1)
-
-same-length-2 : tie.Need-same-length-2
-same-length-2 c = search needs
 
 returns-2 : tie.Need-returns-2
 returns-2 c =
@@ -36,10 +23,10 @@ pub enter-sure-spec : {M : Type 1} → statement M
 enter-sure-spec =
     tie.close
     (tie.spec
-    enter-requires
-    enum-known-entered
+    (λ c κs. search needs)
+    (λ c. search needs)
     enum-told
-    same-length
+    (λ c. search needs)
     returns
-    same-length-2
+    (λ c. search needs)
     returns-2)

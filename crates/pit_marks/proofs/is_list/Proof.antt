@@ -7,11 +7,8 @@ use mathlib.Core.Path.{ap}
 use Rattle.pit_marks.proofs.is_list.Statement.{statement}
 use Rattle.pit_marks.proofs.is_list.Tie as tie
 
-number-at-requires : tie.Need-number-at-requires
-number-at-requires c κs = search needs
-
 returns : tie.Need-returns
 returns c = ap (λ (n : ℕ). eqb n 5) (c .number-at .ensures)
 
 pub is-list-spec : {M : Type 1} → statement M
-is-list-spec = tie.close (tie.spec number-at-requires returns)
+is-list-spec = tie.close (tie.spec (λ c κs. search needs) returns)

@@ -1,30 +1,15 @@
 -- A number of the list from a place on; past its end there are none. Assumes nothing.
-use mathlib.Core.Path.{_≡_, sym, ap, _∙_}
-use Prim.Native.Nat.{ℕ, _+_}
+use mathlib.Core.Path.{sym, ap, _∙_}
+use Prim.Native.Nat.{_+_}
 use native.Mathlib.Omega.{arith}
-use lib.IntN.{ℤ, pos}
+use lib.IntN.{pos}
 use lib.Signed.{mag}
-use lib.ListN.{getD, length, drop, length-drop, List·getD-eq-default}
+use lib.ListN.{getD, drop, length-drop, List·getD-eq-default}
 use lib.Seq.{getD-drop}
 use Rattle.lmcp.proofs.Sizes.{through}
 use borrow.Author.Needs.{needs}
 use Rattle.pit_marks.proofs.number_at.Statement.{statement}
 use Rattle.pit_marks.proofs.number_at.Tie as tie
-
-room-requires : tie.Need-room-requires
-room-requires c κs = search needs
-
-add-size-of : tie.Need-add-size-of
-add-size-of c = search needs
-
-mul-size-of : tie.Need-mul-size-of
-mul-size-of c = search needs
-
-shared-slice-copy-out-size-of : tie.Need-shared-slice-copy-out-size-of
-shared-slice-copy-out-size-of c = search needs
-
-size-of-requires : tie.Need-size-of-requires
-size-of-requires c κs = search needs
 
 returns : tie.Need-returns
 returns c =
@@ -41,10 +26,10 @@ pub number-at-spec : {M : Type 1} → statement M
 number-at-spec =
     tie.close
     (tie.spec
-    room-requires
-    add-size-of
-    mul-size-of
-    shared-slice-copy-out-size-of
-    size-of-requires
+    (λ c κs. search needs)
+    (λ c. search needs)
+    (λ c. search needs)
+    (λ c. search needs)
+    (λ c κs. search needs)
     returns
     returns-2)

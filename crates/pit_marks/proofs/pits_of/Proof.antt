@@ -1,25 +1,13 @@
 -- Between the place of a tile's first pit and that of the next tile's. Assumes nothing.
-use mathlib.Core.Path.{_≡_, sym, ap, _∙_}
-use Prim.Native.Nat.{ℕ, _-_, _*_, _%_}
+use mathlib.Core.Path.{_≡_, ap, _∙_}
+use Prim.Native.Nat.{_-_, _*_, _%_}
 use native.Mathlib.Omega.{arith}
 use Rattle.sorted_set.specs.Halving.{rankIn}
 use Rattle.count_rules.specs.Keys.{span, pitKey}
-use Rattle.pit_marks.specs.Lines.{endOf, pitsIn}
+use Rattle.pit_marks.specs.Lines.{pitsIn}
 use borrow.Author.Needs.{needs}
 use Rattle.pit_marks.proofs.pits_of.Statement.{statement}
 use Rattle.pit_marks.proofs.pits_of.Tie as tie
-
-mul-rank : tie.Need-mul-rank
-mul-rank c = search needs
-
-rank-requires : tie.Need-rank-requires
-rank-requires c κs = search needs
-
-end-of-requires : tie.Need-end-of-requires
-end-of-requires c κs = search needs
-
-room-requires : tie.Need-room-requires
-room-requires c κs = search needs
 
 returns : tie.Need-returns
 unfolding pitsIn
@@ -30,4 +18,4 @@ returns c =
     c .room .ensures ∙ (λ i. c .before .end-of .ensures i - r i)
 
 pub pits-of-spec : {M : Type 1} → statement M
-pits-of-spec = tie.close (tie.spec mul-rank rank-requires end-of-requires room-requires returns)
+pits-of-spec = tie.close (tie.spec (λ c. search needs) (λ c κs. search needs) (λ c κs. search needs) (λ c κs. search needs) returns)

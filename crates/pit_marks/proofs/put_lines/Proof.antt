@@ -1,9 +1,8 @@
 -- Tile by tile. The loop's invariant: the lines of the first i tiles are laid. Assumes nothing.
-use mathlib.Core.Path.{_≡_, refl, sym, ap, _∙_}
-use mathlib.Core.List.{List}
-use Prim.Native.Nat.{ℕ, _+_, _-_, _≤_, _<_}
+use mathlib.Core.Path.{_≡_, refl, ap, _∙_}
+use Prim.Native.Nat.{ℕ, _-_, _≤_, _<_}
 use native.Mathlib.Omega.{arith}
-use lib.ListN.{length, getD, length-set}
+use lib.ListN.{length, getD}
 use Rattle.pit_marks.specs.Lines.{pitsIn}
 use Rattle.pit_marks.proofs.Lays.{laid, laid-none, laid-more, laid-all}
 use borrow.Author.Needs.{needs}
@@ -24,30 +23,6 @@ loop-holds c =
     let p : ℕ → ℕ = λ j. pitsIn (a .pits .now) (a .had .pits) (getD (a .tiles .now) j 0) in
     let s : ℕ → ℕ = λ j. pitsIn (a .sure .now) (a .had .sure) (getD (a .tiles .now) j 0) in
     (refl, refl, refl, refl, omega arith, laid-none (a .tile .now) (a .had .tiles) t, laid-none (a .pit .now) (a .had .tiles) p, laid-none (a .certain .now) (a .had .tiles) s)
-
-word-requires : tie.Need-word-requires Inv-loop μ-loop
-word-requires c κs = search needs
-
-put-word-requires : tie.Need-put-word-requires Inv-loop μ-loop
-put-word-requires c κs = search needs
-
-pits-of-requires : tie.Need-pits-of-requires Inv-loop μ-loop
-pits-of-requires c κs = search needs
-
-put-word-requires-2 : tie.Need-put-word-requires-2 Inv-loop μ-loop
-put-word-requires-2 c κs = search needs
-
-pits-of-requires-2 : tie.Need-pits-of-requires-2 Inv-loop μ-loop
-pits-of-requires-2 c κs = search needs
-
-put-word-requires-3 : tie.Need-put-word-requires-3 Inv-loop μ-loop
-put-word-requires-3 c κs = search needs
-
-add-i : tie.Need-add-i Inv-loop μ-loop
-add-i c = search needs
-
-loop-less : tie.Need-loop-less Inv-loop μ-loop
-loop-less c = search needs
 
 loop-again : tie.Need-loop-again Inv-loop μ-loop
 loop-again c =
@@ -70,15 +45,6 @@ loop-again c =
       laid-more (a .certain .now) (a .had .tiles) s i _ (l .loop .certain) _ h (l .loop .inv .7) (c .before .before .before .pits-of2 .ensures ∙ ap (pitsIn (a .sure .now) (a .had .sure)) e) (c .before .before .put-word3 .ensures),
     )
 
-same-length : tie.Need-same-length Inv-loop μ-loop
-same-length c = search needs
-
-same-length-2 : tie.Need-same-length-2 Inv-loop μ-loop
-same-length-2 c = search needs
-
-same-length-3 : tie.Need-same-length-3 Inv-loop μ-loop
-same-length-3 c = search needs
-
 returns : tie.Need-returns Inv-loop μ-loop
 returns c =
     let l = c .before .loop in
@@ -100,16 +66,16 @@ put-lines-spec =
     Inv-loop
     μ-loop
     loop-holds
-    word-requires
-    put-word-requires
-    pits-of-requires
-    put-word-requires-2
-    pits-of-requires-2
-    put-word-requires-3
-    add-i
-    loop-less
+    (λ c κs. search needs)
+    (λ c κs. search needs)
+    (λ c κs. search needs)
+    (λ c κs. search needs)
+    (λ c κs. search needs)
+    (λ c κs. search needs)
+    (λ c. search needs)
+    (λ c. search needs)
     loop-again
-    same-length
-    same-length-2
-    same-length-3
+    (λ c. search needs)
+    (λ c. search needs)
+    (λ c. search needs)
     returns)

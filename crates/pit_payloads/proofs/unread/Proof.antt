@@ -1,6 +1,5 @@
 -- By the number. Assumes nothing.
 use borrow.Author.Tests.{eq-eqb, ne-eqb}
-use borrow.Author.Needs.{needs}
 use Rattle.pit_payloads.proofs.unread.Statement.{statement}
 use Rattle.pit_payloads.proofs.unread.Tie as tie
 

@@ -9,9 +9,6 @@ returns c =
     let if1 = c .if1 in
     simp (eq-eqb _ _ (if1 .taken))
 
-sub-result : tie.Need-sub-result
-sub-result c = search needs
-
 returns-2 : tie.Need-returns-2
 returns-2 c =
     let if1 = c .before .if1 in
@@ -25,4 +22,4 @@ returns-3 c =
     simp (ne-eqb _ _ (if1 .left), le-ltb _ _ (if2 .left))
 
 pub lower-rank-spec : {M : Type 1} → statement M
-lower-rank-spec = tie.close (tie.spec returns sub-result returns-2 returns-3)
+lower-rank-spec = tie.close (tie.spec returns (λ c. search needs) returns-2 returns-3)

@@ -1,6 +1,6 @@
 -- `ranks::lower_ranks` meets its contract. The loop's invariant: the ranks of the i places passed are lowered, and `at` is where place i
 -- begins, or the end. Assumes nothing.
-use mathlib.Core.Path.{_≡_, refl, sym, _∙_, ap}
+use mathlib.Core.Path.{_≡_, sym, _∙_, ap}
 use Prim.Native.Nat.{_+_, _-_, _≤_, min}
 use native.Mathlib.Omega.{arith}
 use lib.ListN.{length}
@@ -16,35 +16,11 @@ Inv-loop w₀ p n t at₀ i₀ w at i = (i ≤ n) × (at ≡ min (placeAt p i) (
 abbrev μ-loop : tie.MeasureT-loop
 μ-loop w₀ p n t at₀ i₀ w at i = n - i
 
-least-requires : tie.Need-least-requires Inv-loop μ-loop
-least-requires c κs = search needs
-
 loop-holds : tie.Need-loop-holds Inv-loop μ-loop
 loop-holds c =
     let least = c .least in
     let args = c .before .before .args in
     (omega arith, least .ensures ∙ (omega arith), lowered-none (args .w .now) (args .p) (args .t))
-
-word-of-requires : tie.Need-word-of-requires Inv-loop μ-loop
-word-of-requires c κs = search needs
-
-word-of-requires-2 : tie.Need-word-of-requires-2 Inv-loop μ-loop
-word-of-requires-2 c κs = search needs
-
-lower-rank-requires : tie.Need-lower-rank-requires Inv-loop μ-loop
-lower-rank-requires c κs = search needs
-
-put-word-of-requires : tie.Need-put-word-of-requires Inv-loop μ-loop
-put-word-of-requires c κs = search needs
-
-next-place-requires : tie.Need-next-place-requires Inv-loop μ-loop
-next-place-requires c κs = search needs
-
-add-i : tie.Need-add-i Inv-loop μ-loop
-add-i c = search needs
-
-loop-less : tie.Need-loop-less Inv-loop μ-loop
-loop-less c = search needs
 
 loop-again : tie.Need-loop-again Inv-loop μ-loop
 loop-again c =
@@ -75,4 +51,4 @@ returns c =
     rw e at (loop .inv .2)
 
 pub lower-ranks-spec : {M : Type 1} → statement M
-lower-ranks-spec = tie.close (tie.spec Inv-loop μ-loop least-requires loop-holds word-of-requires word-of-requires-2 lower-rank-requires put-word-of-requires next-place-requires add-i loop-less loop-again same-length returns)
+lower-ranks-spec = tie.close (tie.spec Inv-loop μ-loop (λ c κs. search needs) loop-holds (λ c κs. search needs) (λ c κs. search needs) (λ c κs. search needs) (λ c κs. search needs) (λ c κs. search needs) (λ c. search needs) (λ c. search needs) loop-again same-length returns)

@@ -1,6 +1,6 @@
 -- `ranks::lowest_ranked` meets its contract. The loop's invariant: `best` is the lowest of the i places passed, `low` its rank, and `at` where
 -- place i begins, or the end. Assumes nothing.
-use mathlib.Core.Path.{_≡_, refl, sym, _∙_, ap}
+use mathlib.Core.Path.{_≡_, refl, _∙_, ap}
 use Prim.Native.Nat.{_+_, _-_, _≤_, min}
 use native.Mathlib.Omega.{arith}
 use lib.ListN.{length, getD}
@@ -16,12 +16,6 @@ Inv-loop w p n best₀ at₀ low₀ i₀ best at low i = (i ≤ n) × (at ≡ mi
 abbrev μ-loop : tie.MeasureT-loop
 μ-loop w p n best₀ at₀ low₀ i₀ best at low i = n - i
 
-least-requires : tie.Need-least-requires Inv-loop μ-loop
-least-requires c κs = search needs
-
-word-of-requires : tie.Need-word-of-requires Inv-loop μ-loop
-word-of-requires c κs = search needs
-
 loop-holds : tie.Need-loop-holds Inv-loop μ-loop
 loop-holds c =
     let least = c .before .least in
@@ -30,24 +24,6 @@ loop-holds c =
     let start : least .result ≡ min (placeAt (args .p) 0) (length (args .w .now)) = least .ensures ∙ (omega arith) in
     let low = word-of .ensures ∙ ap (λ k. getD (args .w .now) (k + args .p .rank) 0) start ∙ past-get (args .w .now) (placeAt (args .p) 0) (args .p .rank) in
     (omega arith, start, lowest-none (args .w .now) (args .p), low)
-
-word-of-requires-2 : tie.Need-word-of-requires-2 Inv-loop μ-loop
-word-of-requires-2 c κs = search needs
-
-lower-of-requires : tie.Need-lower-of-requires Inv-loop μ-loop
-lower-of-requires c κs = search needs
-
-lesser-requires : tie.Need-lesser-requires Inv-loop μ-loop
-lesser-requires c κs = search needs
-
-next-place-requires : tie.Need-next-place-requires Inv-loop μ-loop
-next-place-requires c κs = search needs
-
-add-i : tie.Need-add-i Inv-loop μ-loop
-add-i c = search needs
-
-loop-less : tie.Need-loop-less Inv-loop μ-loop
-loop-less c = search needs
 
 loop-again : tie.Need-loop-again Inv-loop μ-loop
 loop-again c =
@@ -73,4 +49,4 @@ returns c =
     rw e at (loop .inv .2)
 
 pub lowest-ranked-spec : {M : Type 1} → statement M
-lowest-ranked-spec = tie.close (tie.spec Inv-loop μ-loop least-requires word-of-requires loop-holds word-of-requires-2 lower-of-requires lesser-requires next-place-requires add-i loop-less loop-again returns)
+lowest-ranked-spec = tie.close (tie.spec Inv-loop μ-loop (λ c κs. search needs) (λ c κs. search needs) loop-holds (λ c κs. search needs) (λ c κs. search needs) (λ c κs. search needs) (λ c κs. search needs) (λ c. search needs) (λ c. search needs) loop-again returns)

@@ -6,25 +6,10 @@ use borrow.Author.Needs.{needs}
 use Rattle.ranks.proofs.word_of.Statement.{statement}
 use Rattle.ranks.proofs.word_of.Tie as tie
 
-room-requires : tie.Need-room-requires
-room-requires c κs = search needs
-
-add-result : tie.Need-add-result
-add-result c = search needs
-
-mul-result : tie.Need-mul-result
-mul-result c = search needs
-
-shared-slice-read-result : tie.Need-shared-slice-read-result
-shared-slice-read-result c = search needs
-
-returns : tie.Need-returns
-returns c = search needs
-
 returns-2 : tie.Need-returns-2
 returns-2 c =
     let args = c .before .before .before .args in
     sym (List·getD-eq-default (args .w .now) 0 (omega arith))
 
 pub word-of-spec : {M : Type 1} → statement M
-word-of-spec = tie.close (tie.spec room-requires add-result mul-result shared-slice-read-result returns returns-2)
+word-of-spec = tie.close (tie.spec (λ c κs. search needs) (λ c. search needs) (λ c. search needs) (λ c. search needs) (λ c. search needs) returns-2)

@@ -4,18 +4,6 @@ use borrow.Author.Needs.{needs}
 use Rattle.receiver.proofs.begin.Statement.{statement}
 use Rattle.receiver.proofs.begin.Tie as tie
 
-take-seat-requires : tie.Need-take-seat-requires
-take-seat-requires c κs = search needs
-
-occupy-requires : tie.Need-occupy-requires
-occupy-requires c κs = search needs
-
-same-length : tie.Need-same-length
-same-length c = search needs
-
-same-length-2 : tie.Need-same-length-2
-same-length-2 c = search needs
-
 returns : tie.Need-returns
 returns c =
     let opened = c .before .before .before .before in
@@ -24,4 +12,4 @@ returns c =
     begun (args .state .now) (args .names .now) (args .sender) (args .h) (taken .take-seat .result) _ _ _ _ (taken .take-seat .ensures) (opened .occupy .ensures)
 
 pub begin-spec : {M : Type 1} → statement M
-begin-spec = tie.close (tie.spec take-seat-requires occupy-requires same-length same-length-2 returns)
+begin-spec = tie.close (tie.spec (λ c κs. search needs) (λ c κs. search needs) (λ c. search needs) (λ c. search needs) returns)

@@ -1,5 +1,5 @@
 -- `receiver::forget` meets its contract. Assumes nothing.
-use mathlib.Core.Path.{_≡_, refl, sym, _∙_, ap, subst}
+use mathlib.Core.Path.{refl, sym, _∙_}
 use borrow.Author.Tests.{not-true, not-false}
 use Rattle.receiver_state.proofs.Remembers.{in-order-is, drops}
 use Rattle.receiver.proofs.Others.{words-forgets, names-forgets, memory-forgets, known-after, forgets}
@@ -19,21 +19,6 @@ returns-2 c =
     let if2 = c .if2 in
     names-forgets (args .state .now) (args .names .now) (args .sender) (if2 .taken)
 
-sub-in-order : tie.Need-sub-in-order
-sub-in-order c = search needs
-
-part-in-order-start : tie.Need-part-in-order-start
-part-in-order-start c = search needs
-
-part-in-order-end : tie.Need-part-in-order-end
-part-in-order-end c = search needs
-
-in-order-requires : tie.Need-in-order-requires
-in-order-requires c κs = search needs
-
-same-length : tie.Need-same-length
-same-length c = search needs
-
 returns-3 : tie.Need-returns-3
 returns-3 c =
     let at-in-order = c .before in
@@ -50,24 +35,6 @@ release-all-requires c κs =
     let at-if2 = c .before .before .before .before .before .before in
     let at-if1 = at-if2 .before in
     record { words = at-if1 .if1 .left; bytes = at-if2 .if2 .left }
-
-sub-forget : tie.Need-sub-forget
-sub-forget c = search needs
-
-part-forget-start : tie.Need-part-forget-start
-part-forget-start c = search needs
-
-part-forget-end : tie.Need-part-forget-end
-part-forget-end c = search needs
-
-forget-requires : tie.Need-forget-requires
-forget-requires c κs = search needs
-
-same-length-2 : tie.Need-same-length-2
-same-length-2 c = search needs
-
-same-length-3 : tie.Need-same-length-3
-same-length-3 c = search needs
 
 returns-4 : tie.Need-returns-4
 returns-4 c =
@@ -87,4 +54,4 @@ returns-4 c =
     forgets (args .state .now) (args .names .now) (at-if1 .if1 .left) (at-if2 .if2 .left) (args .sender) _ _ _ ok free D
 
 pub forget-spec : {M : Type 1} → statement M
-forget-spec = tie.close (tie.spec returns returns-2 sub-in-order part-in-order-start part-in-order-end in-order-requires same-length returns-3 release-all-requires sub-forget part-forget-start part-forget-end forget-requires same-length-2 same-length-3 returns-4)
+forget-spec = tie.close (tie.spec returns returns-2 (λ c. search needs) (λ c. search needs) (λ c. search needs) (λ c κs. search needs) (λ c. search needs) returns-3 release-all-requires (λ c. search needs) (λ c. search needs) (λ c. search needs) (λ c κs. search needs) (λ c. search needs) (λ c. search needs) returns-4)

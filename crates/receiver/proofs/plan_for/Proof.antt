@@ -7,20 +7,8 @@ use borrow.Author.Needs.{needs}
 use Rattle.receiver.proofs.plan_for.Statement.{statement}
 use Rattle.receiver.proofs.plan_for.Tie as tie
 
-enum-known-verdict : tie.Need-enum-known-verdict
-enum-known-verdict c = search needs
-
 enum-told : tie.Need-enum-told
 enum-told c = search needs
-
-enum-known-verdict-2 : tie.Need-enum-known-verdict-2
-enum-known-verdict-2 c = search needs
-
-enum-known-verdict-3 : tie.Need-enum-known-verdict-3
-enum-known-verdict-3 c = search needs
-
-enum-known-verdict-4 : tie.Need-enum-known-verdict-4
-enum-known-verdict-4 c = search needs
 
 begin-requires : tie.Need-begin-requires
 begin-requires c κs =
@@ -52,12 +40,6 @@ returns-4 c =
     let args = arm .before .before .before .before .args in
     planned-join (args .state .now) (args .names .now) (args .sender) (args .verdict) _ _ (arm .verdict3 .given .1)
 
-same-length : tie.Need-same-length
-same-length c = search needs
-
-same-length-2 : tie.Need-same-length-2
-same-length-2 c = search needs
-
 returns-5 : tie.Need-returns-5
 returns-5 c =
     let begun = c .before .before .before .before in
@@ -66,4 +48,4 @@ returns-5 c =
     planned-begin (args .state .now) (args .names .now) (args .sender) (args .verdict) _ (begun .begin .result) _ _ (arm .verdict4 .given .1) (begun .begin .ensures)
 
 pub plan-for-spec : {M : Type 1} → statement M
-plan-for-spec = tie.close (tie.spec enum-known-verdict enum-told enum-known-verdict-2 enum-known-verdict-3 enum-known-verdict-4 begin-requires returns returns-2 returns-3 returns-4 same-length same-length-2 returns-5)
+plan-for-spec = tie.close (tie.spec (λ c. search needs) enum-told (λ c. search needs) (λ c. search needs) (λ c. search needs) begin-requires returns returns-2 returns-3 returns-4 (λ c. search needs) (λ c. search needs) returns-5)

@@ -1,5 +1,5 @@
 -- `receiver::put_fragment` meets its contract. Assumes nothing.
-use mathlib.Core.Path.{_≡_, refl, sym, _∙_, ap, subst}
+use mathlib.Core.Path.{sym, _∙_}
 use Prim.Native.Nat.{_+_, _*_}
 use native.Mathlib.Omega.{arith}
 use Rattle.wire.specs.Overlay.{overlay}
@@ -9,17 +9,11 @@ use borrow.Author.Needs.{needs}
 use Rattle.receiver.proofs.put_fragment.Statement.{statement}
 use Rattle.receiver.proofs.put_fragment.Tie as tie
 
-as-size-requires : tie.Need-as-size-requires
-as-size-requires c κs = search needs
-
 mul-at : tie.Need-mul-at
 mul-at c =
     let start = c .before .before .before .before in
     let args = start .args in
     omega (arith, place-small (args .s) (args .room) (start .pre .0) (start .pre .1))
-
-as-size-requires-2 : tie.Need-as-size-requires-2
-as-size-requires-2 c κs = search needs
 
 add-at : tie.Need-add-at
 add-at c =
@@ -27,39 +21,6 @@ add-at c =
     let as-size2 = c .as-size2 in
     let args = start .args in
     omega (arith, as-size2 .ensures .1, place-small (args .s) (args .room) (start .pre .0) (start .pre .1))
-
-mul-row : tie.Need-mul-row
-mul-row c = search needs
-
-mul-row-2 : tie.Need-mul-row-2
-mul-row-2 c = search needs
-
-add-row : tie.Need-add-row
-add-row c = search needs
-
-part-at-requires : tie.Need-part-at-requires
-part-at-requires c κs = search needs
-
-put-bytes-requires : tie.Need-put-bytes-requires
-put-bytes-requires c κs = search needs
-
-put-entry-requires : tie.Need-put-entry-requires
-put-entry-requires c κs = search needs
-
-add-put-entry : tie.Need-add-put-entry
-add-put-entry c = search needs
-
-cast-put-entry : tie.Need-cast-put-entry
-cast-put-entry c = search needs
-
-put-entry-requires-2 : tie.Need-put-entry-requires-2
-put-entry-requires-2 c κs = search needs
-
-same-length : tie.Need-same-length
-same-length c = search needs
-
-same-length-2 : tie.Need-same-length-2
-same-length-2 c = search needs
 
 returns : tie.Need-returns
 returns c =
@@ -77,4 +38,4 @@ returns c =
     (bytes, numbers)
 
 pub put-fragment-spec : {M : Type 1} → statement M
-put-fragment-spec = tie.close (tie.spec as-size-requires mul-at as-size-requires-2 add-at mul-row mul-row-2 add-row part-at-requires put-bytes-requires put-entry-requires add-put-entry cast-put-entry put-entry-requires-2 same-length same-length-2 returns)
+put-fragment-spec = tie.close (tie.spec (λ c κs. search needs) mul-at (λ c κs. search needs) add-at (λ c. search needs) (λ c. search needs) (λ c. search needs) (λ c κs. search needs) (λ c κs. search needs) (λ c κs. search needs) (λ c. search needs) (λ c. search needs) (λ c κs. search needs) (λ c. search needs) (λ c. search needs) returns)

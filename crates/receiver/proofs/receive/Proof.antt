@@ -4,12 +4,6 @@ use borrow.Author.Needs.{needs}
 use Rattle.receiver.proofs.receive.Statement.{statement}
 use Rattle.receiver.proofs.receive.Tie as tie
 
-word-requires : tie.Need-word-requires
-word-requires c κs = search needs
-
-decide-requires : tie.Need-decide-requires
-decide-requires c κs = search needs
-
 plan-for-requires : tie.Need-plan-for-requires
 plan-for-requires c κs =
     let decided = c .before .before in
@@ -34,18 +28,6 @@ settle-requires c κs =
     plan-able (args .state .now) (args .names .now) (args .store .now) (args .ledger .now) (args .sender) (args .d .now)
     (decided .decide .result) (planned .plan-for .result) (planned .plan-for .last .0) (planned .plan-for .last .1 .0) (decided .decide .ensures) (planned .plan-for .ensures)
 
-same-length : tie.Need-same-length
-same-length c = search needs
-
-same-length-2 : tie.Need-same-length-2
-same-length-2 c = search needs
-
-same-length-3 : tie.Need-same-length-3
-same-length-3 c = search needs
-
-same-length-4 : tie.Need-same-length-4
-same-length-4 c = search needs
-
 returns : tie.Need-returns
 returns c =
     let settled = c .before .before .before .before in
@@ -60,4 +42,4 @@ returns c =
     (search needs) (search needs)
 
 pub receive-spec : {M : Type 1} → statement M
-receive-spec = tie.close (tie.spec word-requires decide-requires plan-for-requires store-in-requires settle-requires same-length same-length-2 same-length-3 same-length-4 returns)
+receive-spec = tie.close (tie.spec (λ c κs. search needs) (λ c κs. search needs) plan-for-requires store-in-requires settle-requires (λ c. search needs) (λ c. search needs) (λ c. search needs) (λ c. search needs) returns)

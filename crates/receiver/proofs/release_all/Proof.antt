@@ -1,5 +1,5 @@
 -- `receiver::release_all` meets its contract. The loop's invariant: the sender's slots among the i passed are freed. Assumes nothing.
-use mathlib.Core.Path.{_≡_, refl, sym, _∙_, ap, subst}
+use mathlib.Core.Path.{_≡_, sym, _∙_}
 use Prim.Native.Nat.{_-_, _≤_}
 use native.Mathlib.Omega.{arith}
 use Rattle.steps.specs.Limits.{slotCount}
@@ -25,12 +25,6 @@ release-one-requires : tie.Need-release-one-requires Inv-loop μ-loop
 release-one-requires c κs =
     let loop = c .before .before .before .loop in
     (omega arith, loop .inv .1 .shape)
-
-add-i : tie.Need-add-i Inv-loop μ-loop
-add-i c = search needs
-
-loop-less : tie.Need-loop-less Inv-loop μ-loop
-loop-less c = search needs
 
 loop-again : tie.Need-loop-again Inv-loop μ-loop
 loop-again c =
@@ -59,4 +53,4 @@ returns c =
     rw e at (loop .inv .1)
 
 pub release-all-spec : {M : Type 1} → statement M
-release-all-spec = tie.close (tie.spec Inv-loop μ-loop loop-holds release-one-requires add-i loop-less loop-again same-length same-length-2 returns)
+release-all-spec = tie.close (tie.spec Inv-loop μ-loop loop-holds release-one-requires (λ c. search needs) (λ c. search needs) loop-again same-length same-length-2 returns)

@@ -1,24 +1,9 @@
 -- `receiver::release_one` meets its contract. Assumes nothing.
-use mathlib.Core.Path.{_≡_, refl, sym, _∙_, ap, subst}
+use mathlib.Core.Path.{sym, _∙_}
 use Rattle.receiver.proofs.Others.{free-stays, other-stays, its-goes}
 use borrow.Author.Needs.{needs}
 use Rattle.receiver.proofs.release_one.Statement.{statement}
 use Rattle.receiver.proofs.release_one.Tie as tie
-
-mul-b : tie.Need-mul-b
-mul-b c = search needs
-
-add-b : tie.Need-add-b
-add-b c = search needs
-
-add-word : tie.Need-add-word
-add-word c = search needs
-
-word-requires : tie.Need-word-requires
-word-requires c κs = search needs
-
-same-length : tie.Need-same-length
-same-length c = search needs
 
 returns : tie.Need-returns
 returns c =
@@ -28,15 +13,6 @@ returns c =
     let args = start .args in
     free-stays (args .state .now) (args .names .now) (args .i) (start .pre .0) (args .sender) (start .pre .1) (sym (at-word .word .ensures) ∙ if1 .taken)
 
-add-word-2 : tie.Need-add-word-2
-add-word-2 c = search needs
-
-word-requires-2 : tie.Need-word-requires-2
-word-requires-2 c κs = search needs
-
-same-length-2 : tie.Need-same-length-2
-same-length-2 c = search needs
-
 returns-2 : tie.Need-returns-2
 returns-2 c =
     let at-word2 = c .before in
@@ -44,15 +20,6 @@ returns-2 c =
     let if2 = c .if2 in
     let args = start .args in
     other-stays (args .state .now) (args .names .now) (args .i) (start .pre .0) (args .sender) (start .pre .1) (λ q. if2 .taken (at-word2 .word2 .ensures ∙ q))
-
-release-requires : tie.Need-release-requires
-release-requires c κs = search needs
-
-same-length-3 : tie.Need-same-length-3
-same-length-3 c = search needs
-
-same-length-4 : tie.Need-same-length-4
-same-length-4 c = search needs
 
 returns-3 : tie.Need-returns-3
 returns-3 c =
@@ -66,4 +33,4 @@ returns-3 c =
     its-goes (args .state .now) (args .names .now) (args .i) (start .pre .0) (args .sender) _ _ (λ q. at-if1 .if1 .left (at-word .word .ensures ∙ q)) (sym (at-word2 .word2 .ensures) ∙ at-if2 .if2 .left) (at-release .release .ensures)
 
 pub release-one-spec : {M : Type 1} → statement M
-release-one-spec = tie.close (tie.spec mul-b add-b add-word word-requires same-length returns add-word-2 word-requires-2 same-length-2 returns-2 release-requires same-length-3 same-length-4 returns-3)
+release-one-spec = tie.close (tie.spec (λ c. search needs) (λ c. search needs) (λ c. search needs) (λ c κs. search needs) (λ c. search needs) returns (λ c. search needs) (λ c κs. search needs) (λ c. search needs) returns-2 (λ c κs. search needs) (λ c. search needs) (λ c. search needs) returns-3)

@@ -1,5 +1,5 @@
 -- `receiver::small` meets its contract. Assumes nothing.
-use mathlib.Core.Path.{_≡_, refl, sym, _∙_, ap, subst}
+use mathlib.Core.Path.{sym}
 use Rattle.steps.specs.declared.Emptied.the-variants.{Nobody}
 use Rattle.steps.specs.declared.PayloadAt.the-variants.{InDatagram}
 use Rattle.steps.specs.declared.Answer.the-variants.{Delivered}
@@ -7,21 +7,6 @@ use Rattle.receiver_state.proofs.Moves.{name-filled}
 use borrow.Author.Needs.{needs}
 use Rattle.receiver.proofs.small.Statement.{statement}
 use Rattle.receiver.proofs.small.Tie as tie
-
-part-at-requires : tie.Need-part-at-requires
-part-at-requires c κs = search needs
-
-zero-filled-requires : tie.Need-zero-filled-requires
-zero-filled-requires c κs = search needs
-
-as-word-requires : tie.Need-as-word-requires
-as-word-requires c κs = search needs
-
-remember-key-requires : tie.Need-remember-key-requires
-remember-key-requires c κs = search needs
-
-same-length : tie.Need-same-length
-same-length c = search needs
 
 returns : tie.Need-returns
 returns c =
@@ -38,4 +23,4 @@ returns c =
     }
 
 pub small-spec : {M : Type 1} → statement M
-small-spec = tie.close (tie.spec part-at-requires zero-filled-requires as-word-requires remember-key-requires same-length returns)
+small-spec = tie.close (tie.spec (λ c κs. search needs) (λ c κs. search needs) (λ c κs. search needs) (λ c κs. search needs) (λ c. search needs) returns)

@@ -3,13 +3,10 @@ use borrow.Author.Needs.{needs}
 use Rattle.receiver.proofs.stay.Statement.{statement}
 use Rattle.receiver.proofs.stay.Tie as tie
 
-no-name-requires : tie.Need-no-name-requires
-no-name-requires c κs = search needs
-
 returns : tie.Need-returns
 returns c =
     let no-name = c .no-name in
     rw (no-name .ensures)
 
 pub stay-spec : {M : Type 1} → statement M
-stay-spec = tie.close (tie.spec no-name-requires returns)
+stay-spec = tie.close (tie.spec (λ c κs. search needs) returns)

@@ -6,39 +6,12 @@ use borrow.Author.Needs.{needs}
 use Rattle.receiver.proofs.store_in.Statement.{statement}
 use Rattle.receiver.proofs.store_in.Tie as tie
 
-enum-told : tie.Need-enum-told
-enum-told c = search needs
-
-enum-told-2 : tie.Need-enum-told-2
-enum-told-2 c = search needs
-
-enum-told-3 : tie.Need-enum-told-3
-enum-told-3 c = search needs
-
-enum-known-plan : tie.Need-enum-known-plan
-enum-known-plan c = search needs
-
 put-fragment-requires : tie.Need-put-fragment-requires
 put-fragment-requires c κs =
     let arm = c .before .before .before in
     let start = arm .before .before .before .before .before in
     let args = start .args in
     subst (λ (p : Plan). Storable (args .room) (args .d .now) p) (arm .plan .given .1) (start .pre)
-
-returns : tie.Need-returns
-returns c = search needs
-
-returns-2 : tie.Need-returns-2
-returns-2 c = search needs
-
-returns-3 : tie.Need-returns-3
-returns-3 c = search needs
-
-same-length : tie.Need-same-length
-same-length c = search needs
-
-same-length-2 : tie.Need-same-length-2
-same-length-2 c = search needs
 
 returns-4 : tie.Need-returns-4
 returns-4 c =
@@ -49,4 +22,4 @@ returns-4 c =
     (done .put-fragment .ensures .0 ∙ ap (storeAfter (args .room) (args .d .now) (args .store .now)) e, done .put-fragment .ensures .1 ∙ ap (ledgerAfter (args .d .now) (args .ledger .now)) e)
 
 pub store-in-spec : {M : Type 1} → statement M
-store-in-spec = tie.close (tie.spec enum-told enum-told-2 enum-told-3 enum-known-plan put-fragment-requires returns returns-2 returns-3 same-length same-length-2 returns-4)
+store-in-spec = tie.close (tie.spec (λ c. search needs) (λ c. search needs) (λ c. search needs) (λ c. search needs) put-fragment-requires (λ c. search needs) (λ c. search needs) (λ c. search needs) (λ c. search needs) (λ c. search needs) returns-4)

@@ -1,22 +1,13 @@
 -- `receiver::take_seat` meets its contract. Assumes nothing.
-use mathlib.Core.Path.{_≡_, refl, sym, _∙_, ap, subst}
+use mathlib.Core.Path.{sym, _∙_}
 use native.Mathlib.Omega.{arith}
 use Rattle.receiver.proofs.Ends.{oldest-within, seated-free, seated-full}
 use borrow.Author.Needs.{needs}
 use Rattle.receiver.proofs.take_seat.Statement.{statement}
 use Rattle.receiver.proofs.take_seat.Tie as tie
 
-lowest-free-requires : tie.Need-lowest-free-requires
-lowest-free-requires c κs = search needs
-
-enum-known-found : tie.Need-enum-known-found
-enum-known-found c = search needs
-
 enum-told : tie.Need-enum-told
 enum-told c = search needs
-
-oldest-requires : tie.Need-oldest-requires
-oldest-requires c κs = search needs
 
 mul-b : tie.Need-mul-b
 mul-b c =
@@ -37,9 +28,6 @@ add-word c =
     let args = start .args in
     omega (arith, oldest-within (args .state .now) (at-oldest .oldest .result) (at-oldest .oldest .ensures))
 
-word-requires : tie.Need-word-requires
-word-requires c κs = search needs
-
 add-word-2 : tie.Need-add-word-2
 add-word-2 c =
     let at-oldest = c .before .before .before in
@@ -47,21 +35,12 @@ add-word-2 c =
     let args = start .args in
     omega (arith, oldest-within (args .state .now) (at-oldest .oldest .result) (at-oldest .oldest .ensures))
 
-word-requires-2 : tie.Need-word-requires-2
-word-requires-2 c κs = search needs
-
 release-requires : tie.Need-release-requires
 release-requires c κs =
     let at-oldest = c .before .before .before .before .before .before in
     let start = at-oldest .before .before .before .before .before .before .before .before in
     let args = start .args in
     (oldest-within (args .state .now) (at-oldest .oldest .result) (at-oldest .oldest .ensures), start .pre)
-
-same-length : tie.Need-same-length
-same-length c = search needs
-
-same-length-2 : tie.Need-same-length-2
-same-length-2 c = search needs
 
 returns : tie.Need-returns
 returns c =
@@ -76,9 +55,6 @@ returns c =
     seated-full (args .state .now) (args .names .now) (at-oldest .oldest .result) (at-word .word .result) (at-word2 .word2 .result) _ _ (sym (at-enum-told .enum-told .given .1) ∙ at-lowest-free .lowest-free .ensures) (at-oldest .oldest .ensures) (at-word .word .ensures) (at-word2 .word2 .ensures)
     (at-release .release .ensures)
 
-same-length-3 : tie.Need-same-length-3
-same-length-3 c = search needs
-
 returns-2 : tie.Need-returns-2
 returns-2 c =
     let at-found = c .before in
@@ -88,4 +64,4 @@ returns-2 c =
     seated-free (args .state .now) (args .names .now) (start .pre) _ (sym (at-found .found .given .1) ∙ at-lowest-free .lowest-free .ensures)
 
 pub take-seat-spec : {M : Type 1} → statement M
-take-seat-spec = tie.close (tie.spec lowest-free-requires enum-known-found enum-told oldest-requires mul-b add-b add-word word-requires add-word-2 word-requires-2 release-requires same-length same-length-2 returns same-length-3 returns-2)
+take-seat-spec = tie.close (tie.spec (λ c κs. search needs) (λ c. search needs) enum-told (λ c κs. search needs) mul-b add-b add-word (λ c κs. search needs) add-word-2 (λ c κs. search needs) release-requires (λ c. search needs) (λ c. search needs) returns (λ c. search needs) returns-2)

@@ -1,6 +1,6 @@
 -- `receiver_state::is_ready` meets its contract. Assumes nothing.
 use mathlib.Core.Path.{sym, _∙_}
-use mathlib.Core.Bool.{true, false}
+use mathlib.Core.Bool.{false}
 use borrow.Author.Tests.{eq-eqb, ne-eqb, not-true, not-false}
 use Rattle.receiver_state.proofs.Bridge.{tests-are}
 use Rattle.receiver_state.proofs.Remembers.{in-order-is}
@@ -22,9 +22,6 @@ returns-2 c =
     let args = start .args in
     tests-are (args .state .now) (args .names .now) (args .store) (args .ledger) false (simp (eq-eqb _ _ (at-if1 .if1 .left), ne-eqb _ _ (if2 .taken)))
 
-shared-slice-read-if3 : tie.Need-shared-slice-read-if3
-shared-slice-read-if3 c = search needs
-
 returns-3 : tie.Need-returns-3
 returns-3 c =
     let at-if2 = c .before .before in
@@ -44,12 +41,6 @@ returns-4 c =
     let args = start .args in
     tests-are (args .state .now) (args .names .now) (args .store) (args .ledger) false (simp (eq-eqb _ _ (at-if1 .if1 .left), eq-eqb _ _ (at-if2 .if2 .left), eq-eqb _ _ (at-if3 .if3 .left), ne-eqb _ _ (if4 .taken)))
 
-shared-slice-read-room : tie.Need-shared-slice-read-room
-shared-slice-read-room c = search needs
-
-slot-size-requires : tie.Need-slot-size-requires
-slot-size-requires c κs = search needs
-
 returns-5 : tie.Need-returns-5
 returns-5 c =
     let at-slot-size = c .before in
@@ -61,9 +52,6 @@ returns-5 c =
     let if5 = c .if5 in
     let args = start .args in
     tests-are (args .state .now) (args .names .now) (args .store) (args .ledger) false (simp (eq-eqb _ _ (at-if1 .if1 .left), eq-eqb _ _ (at-if2 .if2 .left), eq-eqb _ _ (at-if3 .if3 .left), eq-eqb _ _ (at-if4 .if4 .left), ne-eqb _ _ (λ e. if5 .taken (e ∙ sym (at-slot-size .slot-size .ensures)))))
-
-all-sound-requires : tie.Need-all-sound-requires
-all-sound-requires c κs = search needs
 
 returns-6 : tie.Need-returns-6
 returns-6 c =
@@ -79,18 +67,6 @@ returns-6 c =
     let args = start .args in
     let t = sym (at-all-sound .all-sound .ensures) ∙ not-true _ (if6 .taken) in
     tests-are (args .state .now) (args .names .now) (args .store) (args .ledger) false (rw (eq-eqb _ _ (at-if1 .if1 .left), eq-eqb _ _ (at-if2 .if2 .left), eq-eqb _ _ (at-if3 .if3 .left), eq-eqb _ _ (at-if4 .if4 .left), eq-eqb _ _ (at-if5 .if5 .left ∙ at-slot-size .slot-size .ensures), t))
-
-sub-in-order : tie.Need-sub-in-order
-sub-in-order c = search needs
-
-part-in-order-start : tie.Need-part-in-order-start
-part-in-order-start c = search needs
-
-part-in-order-end : tie.Need-part-in-order-end
-part-in-order-end c = search needs
-
-in-order-requires : tie.Need-in-order-requires
-in-order-requires c κs = search needs
 
 returns-7 : tie.Need-returns-7
 returns-7 c =
@@ -110,4 +86,4 @@ returns-7 c =
     tests-are (args .state .now) (args .names .now) (args .store) (args .ledger) _ (rw (eq-eqb _ _ (at-if1 .if1 .left), eq-eqb _ _ (at-if2 .if2 .left), eq-eqb _ _ (at-if3 .if3 .left), eq-eqb _ _ (at-if4 .if4 .left), eq-eqb _ _ (at-if5 .if5 .left ∙ at-slot-size .slot-size .ensures), t) (sym m))
 
 pub is-ready-spec : {M : Type 1} → statement M
-is-ready-spec = tie.close (tie.spec returns returns-2 shared-slice-read-if3 returns-3 returns-4 shared-slice-read-room slot-size-requires returns-5 all-sound-requires returns-6 sub-in-order part-in-order-start part-in-order-end in-order-requires returns-7)
+is-ready-spec = tie.close (tie.spec returns returns-2 (λ c. search needs) returns-3 returns-4 (λ c. search needs) (λ c κs. search needs) returns-5 (λ c κs. search needs) returns-6 (λ c. search needs) (λ c. search needs) (λ c. search needs) (λ c κs. search needs) returns-7)

@@ -14,30 +14,6 @@ module _ (limits : Limits) {l l′ : Lent} {sender : ℕ} {d e : List ℕ} {r : 
   same-datagram : d ≡ e → ReceivesWithin limits l sender d r l′ → ReceivesWithin limits l sender e r l′
   same-datagram = subst (λ (b : List ℕ). ReceivesWithin limits l sender b r l′)
 
-part-requires : tie.Need-part-requires
-part-requires c κs = search needs
-
-receive-within-requires : tie.Need-receive-within-requires
-receive-within-requires c κs = search needs
-
-pour-line-requires : tie.Need-pour-line-requires
-pour-line-requires c κs = search needs
-
-same-length : tie.Need-same-length
-same-length c = search needs
-
-same-length-2 : tie.Need-same-length-2
-same-length-2 c = search needs
-
-same-length-3 : tie.Need-same-length-3
-same-length-3 c = search needs
-
-same-length-4 : tie.Need-same-length-4
-same-length-4 c = search needs
-
-same-length-5 : tie.Need-same-length-5
-same-length-5 c = search needs
-
 returns : tie.Need-returns
 returns c =
     let at-pour-line = c .before .before in
@@ -50,12 +26,12 @@ pub one-more-spec : {M : Type 1} → statement M
 one-more-spec =
     tie.close
     (tie.spec
-    part-requires
-    receive-within-requires
-    pour-line-requires
-    same-length
-    same-length-2
-    same-length-3
-    same-length-4
-    same-length-5
+    (λ c κs. search needs)
+    (λ c κs. search needs)
+    (λ c κs. search needs)
+    (λ c. search needs)
+    (λ c. search needs)
+    (λ c. search needs)
+    (λ c. search needs)
+    (λ c. search needs)
     returns)

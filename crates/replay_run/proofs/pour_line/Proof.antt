@@ -4,18 +4,6 @@ use borrow.Author.Needs.{needs}
 use Rattle.replay_run.proofs.pour_line.Statement.{statement}
 use Rattle.replay_run.proofs.pour_line.Tie as tie
 
-pour-decimal-requires : tie.Need-pour-decimal-requires
-pour-decimal-requires c κs = search needs
-
-pour-answer-requires : tie.Need-pour-answer-requires
-pour-answer-requires c κs = search needs
-
-pour-emptied-requires : tie.Need-pour-emptied-requires
-pour-emptied-requires c κs = search needs
-
-same-length : tie.Need-same-length
-same-length c = search needs
-
 returns : tie.Need-returns
 returns c =
     let p = c .before .before in
@@ -27,8 +15,8 @@ pub pour-line-spec : {M : Type 1} → statement M
 pour-line-spec =
     tie.close
     (tie.spec
-    pour-decimal-requires
-    pour-answer-requires
-    pour-emptied-requires
-    same-length
+    (λ c κs. search needs)
+    (λ c κs. search needs)
+    (λ c κs. search needs)
+    (λ c. search needs)
     returns)

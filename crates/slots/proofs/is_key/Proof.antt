@@ -4,22 +4,13 @@ use borrow.Author.Needs.{needs}
 use Rattle.slots.proofs.is_key.Statement.{statement}
 use Rattle.slots.proofs.is_key.Tie as tie
 
-at-requires : tie.Need-at-requires
-at-requires c κs = search needs
-
 returns : tie.Need-returns
 returns c = simp (← c .before .at .ensures, eq-eqb _ _ (c .if1 .taken))
-
-at-requires-2 : tie.Need-at-requires-2
-at-requires-2 c κs = search needs
 
 returns-2 : tie.Need-returns-2
 returns-2 c =
     let busy = c .before .before in
     simp (← busy .before .at .ensures, ← c .before .at2 .ensures, ne-eqb _ _ (busy .if1 .left), ne-eqb _ _ (c .if2 .taken))
-
-at-requires-3 : tie.Need-at-requires-3
-at-requires-3 c κs = search needs
 
 returns-3 : tie.Need-returns-3
 returns-3 c =
@@ -28,4 +19,4 @@ returns-3 c =
 
 pub is-key-spec : {M : Type 1} → statement M
 is-key-spec =
-    tie.close (tie.spec at-requires returns at-requires-2 returns-2 at-requires-3 returns-3)
+    tie.close (tie.spec (λ c κs. search needs) returns (λ c κs. search needs) returns-2 (λ c κs. search needs) returns-3)

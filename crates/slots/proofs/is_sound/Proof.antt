@@ -8,23 +8,11 @@ use Rattle.slots.specs.Words.{blockAt, countWord}
 use Rattle.slots.proofs.is_sound.Statement.{statement}
 use Rattle.slots.proofs.is_sound.Tie as tie
 
-at-requires : tie.Need-at-requires
-at-requires c κs = search needs
-
 returns : tie.Need-returns
 returns c = simp (← c .before .at .ensures, eq-eqb _ _ (c .if1 .taken))
 
-at-requires-2 : tie.Need-at-requires-2
-at-requires-2 c κs = search needs
-
 returns-2 : tie.Need-returns-2
 returns-2 c = simp (← c .before .before .before .at .ensures, ← c .before .at2 .ensures, ne-eqb _ _ (c .before .before .if1 .left), lt-leb _ _ (c .if2 .taken))
-
-at-requires-3 : tie.Need-at-requires-3
-at-requires-3 c κs = search needs
-
-cast-result : tie.Need-cast-result
-cast-result c = search needs
 
 returns-3 : tie.Need-returns-3
 returns-3 c =
@@ -37,4 +25,4 @@ returns-3 c =
 pub is-sound-spec : {M : Type 1} → statement M
 is-sound-spec =
     tie.close
-    (tie.spec at-requires returns at-requires-2 returns-2 at-requires-3 cast-result returns-3)
+    (tie.spec (λ c κs. search needs) returns (λ c κs. search needs) returns-2 (λ c κs. search needs) (λ c. search needs) returns-3)

@@ -7,12 +7,6 @@ use borrow.Author.Needs.{needs}
 use Rattle.slots.proofs.oldest.Statement.{statement}
 use Rattle.slots.proofs.oldest.Tie as tie
 
-turns-requires : tie.Need-turns-requires
-turns-requires c κs = search needs
-
-lowest-ranked-requires : tie.Need-lowest-ranked-requires
-lowest-ranked-requires c κs = search needs
-
 returns : tie.Need-returns
 returns c =
     let lowest-ranked = c .lowest-ranked in
@@ -21,4 +15,4 @@ returns c =
     lowest-ranked .ensures ∙ ap (λ (p : Ranked). lowestRanked (args .state .now) p slotCount) (turns .ensures)
 
 pub oldest-spec : {M : Type 1} → statement M
-oldest-spec = tie.close (tie.spec turns-requires lowest-ranked-requires returns)
+oldest-spec = tie.close (tie.spec (λ c κs. search needs) (λ c κs. search needs) returns)

@@ -1,17 +1,11 @@
 -- Assumes nothing.
 use mathlib.Core.Path.{sym, _∙_}
 use native.Mathlib.Omega.{arith}
-use Rattle.sorted_set.proofs.Halves.{rank-most}
+use Rattle.sorted_set.proofs.Sets.{rank-most}
 use Rattle.sorted_set.proofs.Enterings.{there-at, full-at, new-at}
 use borrow.Author.Needs.{needs}
 use Rattle.sorted_set.proofs.enter.Statement.{statement}
 use Rattle.sorted_set.proofs.enter.Tie as tie
-use Rattle.sorted_set.proofs.enter.Reads as reads
-use Rattle.sorted_set.proofs.enter.Lts as lts
-use Rattle.sorted_set.proofs.insert.Reads as insert-reads
-use Rattle.sorted_set.proofs.rank.Reads as rank-reads
-use Rattle.sorted_set.proofs.stands_at.Reads as stands-at-reads
-use Rattle.wire.proofs.least.Reads as least-reads
 
 -- src/lib.rt:60:9
 least-requires : tie.Need-least-requires

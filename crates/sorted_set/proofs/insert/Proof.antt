@@ -1,14 +1,14 @@
 -- `sorted_set::insert` meets its contract. The loop's invariant: the words from i up to the n-th are moved up by one. Assumes nothing.
-use mathlib.Core.Path.{_≡_, refl, sym, _∙_}
-use Prim.Native.Nat.{_-_, _≤_}
+use mathlib.Core.Path.{_≡_, refl, sym, ap, _∙_}
+use mathlib.Core.List.{List}
+use Prim.Native.Nat.{ℕ, _+_, _-_, _≤_}
 use native.Mathlib.Omega.{arith}
-use lib.ListN.{length, length-set}
+use lib.ListN.{length, take, drop}
+use Rattle.wire.specs.Overlay.{overlay}
 use borrow.Author.Needs.{needs}
-use Rattle.sorted_set.proofs.Moves.{moved, moved-none, moved-more, placed}
+use Rattle.sorted_set.proofs.Moves.{moved, moved-none, moved-block, placed}
 use Rattle.sorted_set.proofs.insert.Statement.{statement}
 use Rattle.sorted_set.proofs.insert.Tie as tie
-use Rattle.sorted_set.proofs.insert.Reads as reads
-use Rattle.sorted_set.proofs.insert.Lts as lts
 
 abbrev Inv-loop : tie.InvT-loop
 Inv-loop w₀ at n x i₀ w i = (at ≤ i) × (i ≤ n) × (length w ≡ length w₀) × (w ≡ moved w₀ i n)
@@ -16,63 +16,45 @@ Inv-loop w₀ at n x i₀ w i = (at ≤ i) × (i ≤ n) × (length w ≡ length 
 abbrev μ-loop : tie.MeasureT-loop
 μ-loop w₀ at n x i₀ w i = i
 
--- src/lib.rt:49:5
 loop-holds : tie.Need-loop-holds Inv-loop μ-loop
 loop-holds c =
-    let a = c .args in
+    let a = c .before .args in
     (omega arith, omega arith, refl, sym (moved-none (a .w .now) (a .n) (omega arith)))
 
--- src/lib.rt:50:18
-sub-w : tie.Need-sub-w Inv-loop μ-loop
-sub-w c = search needs
-
--- src/lib.rt:50:16
-mul-w : tie.Need-mul-w Inv-loop μ-loop
-mul-w c = search needs
-
--- src/lib.rt:50:16
-slice-read-w : tie.Need-slice-read-w Inv-loop μ-loop
-slice-read-w c = search needs
-
--- src/lib.rt:50:9
-mul-w-2 : tie.Need-mul-w-2 Inv-loop μ-loop
-mul-w-2 c = search needs
-
--- src/lib.rt:50:9
-slice-write-w : tie.Need-slice-write-w Inv-loop μ-loop
-slice-write-w c = search needs
-
--- src/lib.rt:51:9
 sub-i : tie.Need-sub-i Inv-loop μ-loop
-sub-i c = search needs
+sub-i c =
+    let e = c .least .ensures in
+    let l = c .before .before .loop in
+    search needs
 
--- src/lib.rt:49:5
+move-up-requires : tie.Need-move-up-requires Inv-loop μ-loop
+move-up-requires c κs =
+    let e = c .before .least .ensures in
+    let l = c .before .before .before .loop in
+    let v = l .inv .2 in
+    (omega arith, omega arith)
+
 loop-less : tie.Need-loop-less Inv-loop μ-loop
-loop-less c = search needs
+loop-less c =
+    let e = c .before .before .before .before .least .ensures in
+    omega arith
 
--- src/lib.rt:49:5
 loop-again : tie.Need-loop-again Inv-loop μ-loop
 loop-again c =
-    let a = c .before .before .before .args in
-    let l = c .before .before .loop in
-    (omega arith, omega arith, simp length-set (l .inv .2), rw (l .inv .3) (moved-more (a .w .now) (l .i) (a .n) (omega arith) (omega arith) (omega arith)))
+    let m = c .before .before in
+    let k = c .before .before .before .before .least .result in
+    let e = c .before .before .before .before .least .ensures in
+    let l = c .before .before .before .before .before .before .loop in
+    let a = c .before .before .before .before .before .before .before .before .args in
+    let j = l .i - k in
+    let z : j + k ≡ l .i = omega arith in
+    let s : l .w ≡ moved (a .w .now) (j + k) (a .n) = l .inv .3 ∙ ap (λ (i : ℕ). moved (a .w .now) i (a .n)) (sym z) in
+    let q = m .move-up .ensures ∙ (ap (λ (v : List ℕ). overlay v (j + 1) (take k (drop j v))) s ∙ moved-block (a .w .now) j k (a .n) (omega arith) (omega arith)) in
+    (omega arith, omega arith, c .before .w .given ∙ l .inv .2, q)
 
--- src/lib.rt:53:5
-mul-w-3 : tie.Need-mul-w-3 Inv-loop μ-loop
-mul-w-3 c = search needs
-
--- src/lib.rt:53:5
-slice-write-w-2 : tie.Need-slice-write-w-2 Inv-loop μ-loop
-slice-write-w-2 c = search needs
-
--- src/lib.rt:44:1
-same-length : tie.Need-same-length Inv-loop μ-loop
-same-length c = search needs
-
--- src/lib.rt:44:1
 returns : tie.Need-returns Inv-loop μ-loop
 returns c =
-    let a = c .before .before .args in
+    let a = c .before .before .before .args in
     let l = c .before .loop in
     let e : l .i ≡ a .at = omega arith in
     rw (l .inv .3, e) (placed (a .w .now) (a .at) (a .n) (a .x) (omega arith) (omega arith))
@@ -84,15 +66,13 @@ insert-spec =
     Inv-loop
     μ-loop
     loop-holds
-    sub-w
-    mul-w
-    slice-read-w
-    mul-w-2
-    slice-write-w
+    (λ c. search needs)
+    (λ c κs. search needs)
     sub-i
+    move-up-requires
     loop-less
     loop-again
-    mul-w-3
-    slice-write-w-2
-    same-length
+    (λ c. search needs)
+    (λ c. search needs)
+    (λ c. search needs)
     returns)

@@ -1,20 +1,23 @@
 -- `sorted_set::rank` meets its contract. The loop's invariant: between low and high x has the place that it has among all. Assumes nothing.
-use mathlib.Core.Path.{_≡_, refl, sym, _∙_}
-use Prim.Native.Nat.{_-_, _≤_}
+use mathlib.Core.Path.{_≡_, sym, _∙_}
+use mathlib.Core.List.{List}
+use Prim.Native.Nat.{ℕ, _-_, _≤_}
 use native.Mathlib.Omega.{arith}
 use lib.ListN.{length}
 use borrow.Author.Needs.{needs}
 use borrow.Author.Tests.{lt-ltb, le-ltb}
-use Rattle.sorted_set.specs.Halving.{rankIn, halve}
-use Rattle.sorted_set.proofs.Halves.{goes-behind, goes-before, ends, starts}
+use Rattle.wire.specs.Halving.{halve}
+use Rattle.wire.proofs.Halves.{goes-behind, goes-before, ends, starts}
+use Rattle.sorted_set.specs.Halving.{held, smaller, rankIn}
 use Rattle.sorted_set.proofs.rank.Statement.{statement}
 use Rattle.sorted_set.proofs.rank.Tie as tie
-use Rattle.sorted_set.proofs.rank.Reads as reads
-use Rattle.sorted_set.proofs.rank.Lts as lts
-use Rattle.wire.proofs.least.Reads as least-reads
+
+from-start : (w : List ℕ) (x n high : ℕ) → high ≡ held w n → halve (high - 0) (smaller w x) 0 high ≡ rankIn w n x
+unfolding rankIn
+from-start w x n = starts (smaller w x) (held w n)
 
 abbrev Inv-loop : tie.InvT-loop
-Inv-loop w n x low₀ high₀ low high = (low ≤ high) × (high ≤ length w) × (halve (high - low) w x low high ≡ rankIn w n x)
+Inv-loop w n x low₀ high₀ low high = (low ≤ high) × (high ≤ length w) × (halve (high - low) (smaller w x) low high ≡ rankIn w n x)
 
 abbrev μ-loop : tie.MeasureT-loop
 μ-loop w n x low₀ high₀ low high = high - low
@@ -27,7 +30,7 @@ least-requires c κs = search needs
 loop-holds : tie.Need-loop-holds Inv-loop μ-loop
 loop-holds c =
     let a = c .before .before .args in
-    (omega arith, omega arith, starts (a .w .now) (a .x) (a .n) (c .least .result) (c .least .ensures))
+    (omega arith, omega arith, from-start (a .w .now) (a .x) (a .n) (c .least .result) (c .least .ensures))
 
 -- src/lib.rt:22:26
 sub-mid : tie.Need-sub-mid Inv-loop μ-loop
@@ -58,7 +61,7 @@ loop-again : tie.Need-loop-again Inv-loop μ-loop
 loop-again c =
     let a = c .before .before .before .before .before .before .args in
     let l = c .before .before .before .loop in
-    (omega arith, omega arith, goes-behind (a .w .now) (a .x) (l .low) (l .high) (omega arith) (lt-ltb _ _ (c .if1 .taken)) ∙ l .inv .2)
+    (omega arith, omega arith, goes-behind (smaller (a .w .now) (a .x)) (l .low) (l .high) (omega arith) (lt-ltb _ _ (c .if1 .taken)) ∙ l .inv .2)
 
 -- src/lib.rt:21:5
 loop-less-2 : tie.Need-loop-less-2 Inv-loop μ-loop
@@ -69,14 +72,14 @@ loop-again-2 : tie.Need-loop-again-2 Inv-loop μ-loop
 loop-again-2 c =
     let a = c .before .before .before .before .before .before .args in
     let l = c .before .before .before .loop in
-    (omega arith, omega arith, goes-before (a .w .now) (a .x) (l .low) (l .high) (omega arith) (le-ltb _ _ (c .if1 .left)) ∙ l .inv .2)
+    (omega arith, omega arith, goes-before (smaller (a .w .now) (a .x)) (l .low) (l .high) (omega arith) (le-ltb _ _ (c .if1 .left)) ∙ l .inv .2)
 
 -- src/lib.rt:16:1
 returns : tie.Need-returns Inv-loop μ-loop
 returns c =
     let a = c .before .before .before .before .args in
     let l = c .before .loop in
-    sym (ends (a .w .now) (a .x) (l .low) (l .high) (omega arith)) ∙ l .inv .2
+    sym (ends (smaller (a .w .now) (a .x)) (l .low) (l .high) (omega arith)) ∙ l .inv .2
 
 pub rank-spec : {M : Type 1} → statement M
 rank-spec =

@@ -3,8 +3,6 @@ use borrow.Author.Tests.{lt-ltb, le-ltb}
 use borrow.Author.Needs.{needs}
 use Rattle.sorted_set.proofs.stands_at.Statement.{statement}
 use Rattle.sorted_set.proofs.stands_at.Tie as tie
-use Rattle.sorted_set.proofs.stands_at.Reads as reads
-use Rattle.sorted_set.proofs.stands_at.Lts as lts
 
 -- src/lib.rt:38:16
 mul-result : tie.Need-mul-result

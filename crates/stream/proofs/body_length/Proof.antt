@@ -9,30 +9,6 @@ use Rattle.stream.proofs.body_length.Tie as tie
 enum-told : tie.Need-enum-told
 enum-told c = search needs
 
-number-at-requires : tie.Need-number-at-requires
-number-at-requires c κs = search needs
-
-enum-told-2 : tie.Need-enum-told-2
-enum-told-2 c = search needs
-
-number-at-requires-2 : tie.Need-number-at-requires-2
-number-at-requires-2 c κs = search needs
-
-enum-told-3 : tie.Need-enum-told-3
-enum-told-3 c = search needs
-
-number-at-requires-3 : tie.Need-number-at-requires-3
-number-at-requires-3 c κs = search needs
-
-mul-result : tie.Need-mul-result
-mul-result c = search needs
-
-enum-told-4 : tie.Need-enum-told-4
-enum-told-4 c = search needs
-
-number-at-requires-4 : tie.Need-number-at-requires-4
-number-at-requires-4 c κs = search needs
-
 returns : tie.Need-returns
 unfolding bodyLength
 returns c = rw (c .before .enum-told .given .1) (c .number-at .ensures .0 ∙ omega arith)
@@ -54,14 +30,14 @@ body-length-spec =
     tie.close
     (tie.spec
     enum-told
-    number-at-requires
-    enum-told-2
-    number-at-requires-2
-    enum-told-3
-    number-at-requires-3
-    mul-result
-    enum-told-4
-    number-at-requires-4
+    (λ c κs. search needs)
+    (λ c. search needs)
+    (λ c κs. search needs)
+    (λ c. search needs)
+    (λ c κs. search needs)
+    (λ c. search needs)
+    (λ c. search needs)
+    (λ c κs. search needs)
     returns
     returns-2
     returns-3

@@ -1,7 +1,7 @@
 -- Reading on until enough is unread. The loop's invariant: bytes came after the end, up to e. Assumes nothing.
 use Prim.Native.Nat.{_-_, _≤_}
 use borrow.Author.Needs.{needs}
-use Rattle.stream.specs.Windows.{Grown}
+use Rattle.stream.specs.InsideWindows.{Grown}
 use Rattle.stream.proofs.Passing.{grown-none, grown-more, grown-is}
 use Rattle.stream.proofs.fill.Statement.{statement}
 use Rattle.stream.proofs.fill.Tie as tie
@@ -15,32 +15,17 @@ abbrev μ-loop : tie.MeasureT-loop
 loop-holds : tie.Need-loop-holds Inv-loop μ-loop
 loop-holds c = let s = c .before in (s .pre .0, grown-none (s .args .buf .now) (s .args .end) (s .pre .1))
 
-sub-loop : tie.Need-sub-loop Inv-loop μ-loop
-sub-loop c = search needs
-
-read-from-requires : tie.Need-read-from-requires Inv-loop μ-loop
-read-from-requires c κs = search needs
-
-same-length : tie.Need-same-length Inv-loop μ-loop
-same-length c = search needs
-
 returns : tie.Need-returns Inv-loop μ-loop
 returns c =
     let r = c .before .before .before in
     let l = r .before .before .before in
     grown-is (grown-more (l .loop .inv .1) (r .read-from .ensures)) (c .if1 .taken)
 
-loop-less : tie.Need-loop-less Inv-loop μ-loop
-loop-less c = search needs
-
 loop-again : tie.Need-loop-again Inv-loop μ-loop
 loop-again c =
     let r = c .before .before .before in
     let l = r .before .before .before in
     (l .loop .inv .0, grown-more (l .loop .inv .1) (r .read-from .ensures))
-
-same-length-2 : tie.Need-same-length-2 Inv-loop μ-loop
-same-length-2 c = search needs
 
 returns-2 : tie.Need-returns-2 Inv-loop μ-loop
 returns-2 c = c .before .loop .inv .1
@@ -52,11 +37,11 @@ fill-spec =
     Inv-loop
     μ-loop
     loop-holds
-    sub-loop
-    read-from-requires
-    same-length
+    (λ c. search needs)
+    (λ c κs. search needs)
+    (λ c. search needs)
     returns
-    loop-less
+    (λ c. search needs)
     loop-again
-    same-length-2
+    (λ c. search needs)
     returns-2)

@@ -1,5 +1,5 @@
 -- The head of a record stands before its body. Assumes nothing.
-use mathlib.Core.Path.{_≡_, ap, _∙_}
+use mathlib.Core.Path.{_≡_, _∙_}
 use mathlib.Core.List.{List}
 use Prim.Native.Nat.{ℕ, _+_, _-_, min}
 use native.Mathlib.Omega.{arith}
@@ -15,18 +15,6 @@ before : (b : List ℕ) (at h a k : ℕ) → a ≡ at - h → k ≡ min h at →
 before b at h a k p q =
     take-drop a k b ∙ (λ i. drop (p i) (take ((let e : a + k ≡ at = omega arith in e) i) b))
 
-head-of-requires : tie.Need-head-of-requires
-head-of-requires c κs = search needs
-
-room-requires : tie.Need-room-requires
-room-requires c κs = search needs
-
-least-requires : tie.Need-least-requires
-least-requires c κs = search needs
-
-part-requires : tie.Need-part-requires
-part-requires c κs = search needs
-
 returns : tie.Need-returns
 returns c =
     let l = c .before in
@@ -38,4 +26,4 @@ returns c =
     ∙ before (a .buf .now) (a .at) (headOf (a .kind)) (r .room .result) (l .least .result) (omega (arith, r .room .ensures, e)) (omega (arith, l .least .ensures, e))
 
 pub head-spec : {M : Type 1} → statement M
-head-spec = tie.close (tie.spec head-of-requires room-requires least-requires part-requires returns)
+head-spec = tie.close (tie.spec (λ c κs. search needs) (λ c κs. search needs) (λ c κs. search needs) (λ c κs. search needs) returns)

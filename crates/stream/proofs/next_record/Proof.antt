@@ -3,7 +3,7 @@ use mathlib.Core.Path.{_≡_, ap, _∙_}
 use mathlib.Core.List.{List}
 use Prim.Native.Nat.{ℕ, _+_, _-_, _≤_}
 use native.Mathlib.Omega.{arith}
-use Rattle.stream.specs.Records.{headOf, bodyLength}
+use Rattle.stream.specs.Records.{bodyLength}
 use lib.ListN.{take, drop}
 use lib.Seq.{slice}
 use Rattle.stream.proofs.Slices.{take-drop}
@@ -16,9 +16,6 @@ use Rattle.stream.proofs.next_record.Tie as tie
 taken : (b : List ℕ) (at end : ℕ) → at ≤ end → take (end - at) (drop at b) ≡ slice at end b
 taken b at end h = take-drop at (end - at) b ∙ ap (λ (k : ℕ). slice at k b) (let e : at + (end - at) ≡ end = omega arith in e)
 
-head-of-requires : tie.Need-head-of-requires
-head-of-requires c κs = search needs
-
 add-if1 : tie.Need-add-if1
 add-if1 c = record { fits = omega (arith, c .head-of .ensures, some-head (c .before .before .args .kind) .1) }
 
@@ -27,12 +24,6 @@ returns c =
     let h = c .before in
     let a = h .before .before .args in
     lacks-room (a .kind) (a .buf .now) (a .input) (rw (h .head-of .ensures) at (c .if1 .taken))
-
-within-requires : tie.Need-within-requires
-within-requires c κs = search needs
-
-ready-requires : tie.Need-ready-requires
-ready-requires c κs = search needs
 
 same-length : tie.Need-same-length
 same-length c = search needs
@@ -45,12 +36,6 @@ returns-2 c =
     let a = h .before .before .args in
     ends (a .kind) (w .within .ensures) (r .ready .ensures) (omega (arith, h .head-of .ensures, w .before .if1 .left)) (c .if2 .taken)
 
-sub-if3 : tie.Need-sub-if3
-sub-if3 c = search needs
-
-same-length-2 : tie.Need-same-length-2
-same-length-2 c = search needs
-
 returns-3 : tie.Need-returns-3
 returns-3 c =
     let at-if2 = c .before in
@@ -60,18 +45,6 @@ returns-3 c =
     let h = w .before .before in
     let a = h .before .before .args in
     lacks-a-head (a .kind) (w .within .ensures) (r .ready .ensures) (omega (arith, at-if2 .if2 .left, r .ready .ensures .order)) (rw (h .head-of .ensures) at (c .if3 .taken))
-
-sub-body-length : tie.Need-sub-body-length
-sub-body-length c = search needs
-
-part-body-length-start : tie.Need-part-body-length-start
-part-body-length-start c = search needs
-
-part-body-length-end : tie.Need-part-body-length-end
-part-body-length-end c = search needs
-
-body-length-requires : tie.Need-body-length-requires
-body-length-requires c κs = search needs
 
 take-body-requires : tie.Need-take-body-requires
 take-body-requires c κs =
@@ -88,9 +61,6 @@ take-body-requires c κs =
       is = b .body-length .ensures ∙ ap (bodyLength (a .kind)) (taken (r .ready .last .0) (r .ready .result .at) (r .ready .result .end) (r .ready .ensures .order));
     }
 
-same-length-3 : tie.Need-same-length-3
-same-length-3 c = search needs
-
 returns-4 : tie.Need-returns-4
 returns-4 c =
     let t = c .before .before in
@@ -103,20 +73,20 @@ pub next-record-spec : {M : Type 1} → statement M
 next-record-spec =
     tie.close
     (tie.spec
-    head-of-requires
+    (λ c κs. search needs)
     add-if1
     returns
-    within-requires
-    ready-requires
+    (λ c κs. search needs)
+    (λ c κs. search needs)
     same-length
     returns-2
-    sub-if3
-    same-length-2
+    (λ c. search needs)
+    (λ c. search needs)
     returns-3
-    sub-body-length
-    part-body-length-start
-    part-body-length-end
-    body-length-requires
+    (λ c. search needs)
+    (λ c. search needs)
+    (λ c. search needs)
+    (λ c κs. search needs)
     take-body-requires
-    same-length-3
+    (λ c. search needs)
     returns-4)

@@ -9,9 +9,6 @@ use borrow.Author.Needs.{needs}
 use Rattle.stream.proofs.number_at.Statement.{statement}
 use Rattle.stream.proofs.number_at.Tie as tie
 
-number-requires : tie.Need-number-requires
-number-requires c κs = search needs
-
 returns : tie.Need-returns
 returns c =
     let start = c .before .before in
@@ -24,4 +21,4 @@ returns c =
     )
 
 pub number-at-spec : {M : Type 1} → statement M
-number-at-spec = tie.close (tie.spec number-requires returns)
+number-at-spec = tie.close (tie.spec (λ c κs. search needs) returns)

@@ -3,14 +3,11 @@ use mathlib.Core.Path.{_≡_, subst}
 use Prim.Native.Nat.{ℕ}
 use native.Mathlib.Omega.{arith}
 use lib.ListN.{length}
-use Rattle.stream.specs.Windows.{Grown}
+use Rattle.stream.specs.InsideWindows.{Grown}
 use Rattle.stream.proofs.Held.{held-all, exceeds}
 use borrow.Author.Needs.{needs}
 use Rattle.stream.proofs.read_all.Statement.{statement}
 use Rattle.stream.proofs.read_all.Tie as tie
-
-fill-requires : tie.Need-fill-requires
-fill-requires c κs = search needs
 
 same-length : tie.Need-same-length
 same-length c = search needs
@@ -18,22 +15,10 @@ same-length c = search needs
 returns : tie.Need-returns
 returns c = held-all (c .before .before .before .fill .ensures)
 
-slice-aggregate-read-from : tie.Need-slice-aggregate-read-from
-slice-aggregate-read-from c = search needs
-
-read-from-requires : tie.Need-read-from-requires
-read-from-requires c κs = search needs
-
-same-length-2 : tie.Need-same-length-2
-same-length-2 c = search needs
-
 returns-2 : tie.Need-returns-2
 returns-2 c =
     let at-fill = c .before .before .before .before .before .before .before in
     held-all (at-fill .fill .ensures)
-
-same-length-3 : tie.Need-same-length-3
-same-length-3 c = search needs
 
 returns-3 : tie.Need-returns-3
 returns-3 c =
@@ -48,12 +33,12 @@ pub read-all-spec : {M : Type 1} → statement M
 read-all-spec =
     tie.close
     (tie.spec
-    fill-requires
+    (λ c κs. search needs)
     same-length
     returns
-    slice-aggregate-read-from
-    read-from-requires
-    same-length-2
+    (λ c. search needs)
+    (λ c κs. search needs)
+    (λ c. search needs)
     returns-2
-    same-length-3
+    (λ c. search needs)
     returns-3)

@@ -4,29 +4,11 @@ use borrow.Author.Needs.{needs}
 use Rattle.stream.proofs.ready.Statement.{statement}
 use Rattle.stream.proofs.ready.Tie as tie
 
-sub-if1 : tie.Need-sub-if1
-sub-if1 c = search needs
-
-fill-requires : tie.Need-fill-requires
-fill-requires c κs = search needs
-
-same-length : tie.Need-same-length
-same-length c = search needs
-
 returns : tie.Need-returns
 returns c =
     let f = c .before .before in
     let s = f .before .before .before .before in
     ready-fill (s .args .buf .now) (s .args .input) (s .args .want) (f .fill .last .0) (f .fill .result) (s .pre .0) (f .before .before .if1 .taken) (f .fill .ensures)
-
-to-front-requires : tie.Need-to-front-requires
-to-front-requires c κs = search needs
-
-fill-requires-2 : tie.Need-fill-requires-2
-fill-requires-2 c κs = search needs
-
-same-length-2 : tie.Need-same-length-2
-same-length-2 c = search needs
 
 returns-2 : tie.Need-returns-2
 returns-2 c =
@@ -39,11 +21,11 @@ pub ready-spec : {M : Type 1} → statement M
 ready-spec =
     tie.close
     (tie.spec
-    sub-if1
-    fill-requires
-    same-length
+    (λ c. search needs)
+    (λ c κs. search needs)
+    (λ c. search needs)
     returns
-    to-front-requires
-    fill-requires-2
-    same-length-2
+    (λ c κs. search needs)
+    (λ c κs. search needs)
+    (λ c. search needs)
     returns-2)

@@ -37,15 +37,6 @@ callees t = (
   put-decimal.Post,
 )
 
-put-decimal-letter-requires : (t : ℕ) → put-decimal-lts.Need-letter-requires (callees t) (put-decimal-at t) put-decimal.Post
-put-decimal-letter-requires t c κs = search needs
-
-put-decimal-put-one-requires : (t : ℕ) → put-decimal-lts.Need-put-one-requires (callees t) (put-decimal-at t) put-decimal.Post
-put-decimal-put-one-requires t c κs = search needs
-
-put-decimal-same-length : (t : ℕ) → put-decimal-lts.Need-same-length (callees t) (put-decimal-at t) put-decimal.Post
-put-decimal-same-length t c = search needs
-
 put-decimal-returns : (t : ℕ) → put-decimal-lts.Need-returns (callees t) (put-decimal-at t) put-decimal.Post
 put-decimal-returns t c =
     let at-put-one = c .before .before in
@@ -54,18 +45,6 @@ put-decimal-returns t c =
     let n = l .before .before .before .before .args .n in
     put-is (at-put-one .put-one .ensures)
     (ap (λ (b : ℕ). b ∷ []) (l .letter .ensures) ∙ sym (decimal-low n (l .before .before .if1 .taken)))
-
-put-decimal-put-decimal-requires : (t : ℕ) → put-decimal-lts.Need-put-decimal-requires (callees t) (put-decimal-at t) put-decimal.Post
-put-decimal-put-decimal-requires t c κs = search needs
-
-put-decimal-letter-requires-2 : (t : ℕ) → put-decimal-lts.Need-letter-requires-2 (callees t) (put-decimal-at t) put-decimal.Post
-put-decimal-letter-requires-2 t c κs = search needs
-
-put-decimal-put-one-requires-2 : (t : ℕ) → put-decimal-lts.Need-put-one-requires-2 (callees t) (put-decimal-at t) put-decimal.Post
-put-decimal-put-one-requires-2 t c κs = search needs
-
-put-decimal-same-length-2 : (t : ℕ) → put-decimal-lts.Need-same-length-2 (callees t) (put-decimal-at t) put-decimal.Post
-put-decimal-same-length-2 t c = search needs
 
 put-decimal-returns-2 : (t : ℕ) → put-decimal-lts.Need-returns-2 (callees t) (put-decimal-at t) put-decimal.Post
 put-decimal-returns-2 t c =
@@ -80,12 +59,12 @@ put-decimal-returns-2 t c =
 pub +put-decimal-spec : {M : Type 1} → statement M
 +put-decimal-spec = close μ-put-decimal λ t. put-decimal-lts.spec (callees t) (put-decimal-at t)
     put-decimal.Post
-    (put-decimal-letter-requires t)
-    (put-decimal-put-one-requires t)
-    (put-decimal-same-length t)
+    (λ c κs. search needs)
+    (λ c κs. search needs)
+    (λ c. search needs)
     (put-decimal-returns t)
-    (put-decimal-put-decimal-requires t)
-    (put-decimal-letter-requires-2 t)
-    (put-decimal-put-one-requires-2 t)
-    (put-decimal-same-length-2 t)
+    (λ c κs. search needs)
+    (λ c κs. search needs)
+    (λ c κs. search needs)
+    (λ c. search needs)
     (put-decimal-returns-2 t)

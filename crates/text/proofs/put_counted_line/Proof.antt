@@ -4,18 +4,6 @@ use Rattle.text.proofs.Puts.{put-then}
 use Rattle.text.proofs.put_counted_line.Statement.{statement}
 use Rattle.text.proofs.put_counted_line.Tie as tie
 
-put-counted-requires : tie.Need-put-counted-requires
-put-counted-requires c κs = search needs
-
-slice-aggregate-put-text : tie.Need-slice-aggregate-put-text
-slice-aggregate-put-text c = search needs
-
-put-text-requires : tie.Need-put-text-requires
-put-text-requires c κs = search needs
-
-same-length : tie.Need-same-length
-same-length c = search needs
-
 returns : tie.Need-returns
 returns c =
     let t = c .before .before in
@@ -24,4 +12,4 @@ returns c =
 pub put-counted-line-spec : {M : Type 1} → statement M
 put-counted-line-spec =
     tie.close
-    (tie.spec put-counted-requires slice-aggregate-put-text put-text-requires same-length returns)
+    (tie.spec (λ c κs. search needs) (λ c. search needs) (λ c κs. search needs) (λ c. search needs) returns)

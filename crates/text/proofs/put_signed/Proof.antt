@@ -23,18 +23,6 @@ same c = toZ-ofZ w64 (c .args .z) (c .fits .z)
 tested : (c : tie.Start) {b : Bool} → ltZ (toZ w64 (ofZ w64 (c .args .z))) (pos 0) ≡ b → ltZ (c .args .z) (pos 0) ≡ b
 tested c {b} = subst (λ (z : ℤ). ltZ z (pos 0) ≡ b) (same c)
 
-put-one-requires : tie.Need-put-one-requires
-put-one-requires c κs = search needs
-
-negated-requires : tie.Need-negated-requires
-negated-requires c κs = search needs
-
-put-decimal-requires : tie.Need-put-decimal-requires
-put-decimal-requires c κs = search needs
-
-same-length : tie.Need-same-length
-same-length c = search needs
-
 returns : tie.Need-returns
 returns c =
     let d = c .before .before in
@@ -43,15 +31,6 @@ returns c =
     let s = t .before .before in
     put-is (put-then (one .put-one .ensures) (d .put-decimal .ensures))
     (ap (λ (n : ℕ). 45 ∷ decimal n) (d .before .negated .ensures ∙ ap natAbs (same s)) ∙ sym (signed-below (s .args .z) (tested s (t .if1 .taken))))
-
-counted-requires : tie.Need-counted-requires
-counted-requires c κs = search needs
-
-put-decimal-requires-2 : tie.Need-put-decimal-requires-2
-put-decimal-requires-2 c κs = search needs
-
-same-length-2 : tie.Need-same-length-2
-same-length-2 c = search needs
 
 returns-2 : tie.Need-returns-2
 returns-2 c =
@@ -65,12 +44,12 @@ pub put-signed-spec : {M : Type 1} → statement M
 put-signed-spec =
     tie.close
     (tie.spec
-    put-one-requires
-    negated-requires
-    put-decimal-requires
-    same-length
+    (λ c κs. search needs)
+    (λ c κs. search needs)
+    (λ c κs. search needs)
+    (λ c. search needs)
     returns
-    counted-requires
-    put-decimal-requires-2
-    same-length-2
+    (λ c κs. search needs)
+    (λ c κs. search needs)
+    (λ c. search needs)
     returns-2)

@@ -1,8 +1,8 @@
 -- `varint::length_of` meets its contract: one byte, or one more than the rest takes. The measure is k. Assumes nothing.
-use mathlib.Core.Path.{_≡_, sym, ap, _∙_}
+use mathlib.Core.Path.{sym, ap}
 use native.Mathlib.Omega.{arith}
 use lib.ListN.{length}
-use Prim.Native.Nat.{_+_, _-_, _/_}
+use Prim.Native.Nat.{_-_, _/_}
 use Rattle.varint.specs.Seven.{groups}
 use Rattle.varint.proofs.Sevens.{groups-last, groups-more, groups-length}
 use borrow.Author.Needs.{needs}
@@ -43,9 +43,6 @@ length-of-sub-length-of : (t : ℕ) → length-of-lts.Need-sub-length-of (callee
 length-of-sub-length-of t c =
     search needs
 
-length-of-length-of-requires : (t : ℕ) → length-of-lts.Need-length-of-requires (callees t) (length-of-at t) length-of.Post
-length-of-length-of-requires t c κs = search needs
-
 length-of-add-result : (t : ℕ) → length-of-lts.Need-add-result (callees t) (length-of-at t) length-of.Post
 length-of-add-result t c =
     let a = c .before .before .before .args in
@@ -63,6 +60,6 @@ pub +length-of-spec : {M : Type 1} → statement M
     (length-of-returns t)
     (length-of-returns-2 t)
     (length-of-sub-length-of t)
-    (length-of-length-of-requires t)
+    (λ c κs. search needs)
     (length-of-add-result t)
     (length-of-returns-3 t)

@@ -1,8 +1,6 @@
 -- `varint::put_groups` meets its contract: the lowest group, then the rest. The measure is k. Assumes nothing.
-use mathlib.Core.Path.{_≡_, sym, ap, _∙_}
+use mathlib.Core.Path.{sym, ap, _∙_}
 use native.Mathlib.Omega.{arith}
-use Prim.Native.Nat.{_+_, _-_, _/_, _%_}
-use mathlib.Core.List.{List}
 use lib.ListN.{length, length-set}
 use Rattle.wire.specs.Overlay.{overlay}
 use Rattle.varint.specs.Seven.{groups}
@@ -37,12 +35,6 @@ put-groups-returns t c =
     let a = c .before .before .args in
     sym (overlay-out (a .out .now) (a .at) (groups (a .k) (a .v)) (c .if1 .taken))
 
-put-groups-cast-out : (t : ℕ) → put-groups-lts.Need-cast-out (callees t) (put-groups-at t) put-groups.Post
-put-groups-cast-out t c = search needs
-
-put-groups-slice-write-out : (t : ℕ) → put-groups-lts.Need-slice-write-out (callees t) (put-groups-at t) put-groups.Post
-put-groups-slice-write-out t c = search needs
-
 put-groups-same-length : (t : ℕ) → put-groups-lts.Need-same-length (callees t) (put-groups-at t) put-groups.Post
 put-groups-same-length t c =
     search needs
@@ -55,12 +47,6 @@ put-groups-returns-2 t c =
 put-groups-add-out : (t : ℕ) → put-groups-lts.Need-add-out (callees t) (put-groups-at t) put-groups.Post
 put-groups-add-out t c =
     search needs
-
-put-groups-cast-out-2 : (t : ℕ) → put-groups-lts.Need-cast-out-2 (callees t) (put-groups-at t) put-groups.Post
-put-groups-cast-out-2 t c = search needs
-
-put-groups-slice-write-out-2 : (t : ℕ) → put-groups-lts.Need-slice-write-out-2 (callees t) (put-groups-at t) put-groups.Post
-put-groups-slice-write-out-2 t c = search needs
 
 put-groups-add-put-groups : (t : ℕ) → put-groups-lts.Need-add-put-groups (callees t) (put-groups-at t) put-groups.Post
 put-groups-add-put-groups t c =
@@ -90,13 +76,13 @@ pub +put-groups-spec : {M : Type 1} → statement M
 +put-groups-spec =
     close μ-put-groups λ t. put-groups-lts.spec (callees t) (put-groups-at t) put-groups.Post
     (put-groups-returns t)
-    (put-groups-cast-out t)
-    (put-groups-slice-write-out t)
+    (λ c. search needs)
+    (λ c. search needs)
     (put-groups-same-length t)
     (put-groups-returns-2 t)
     (put-groups-add-out t)
-    (put-groups-cast-out-2 t)
-    (put-groups-slice-write-out-2 t)
+    (λ c. search needs)
+    (λ c. search needs)
     (put-groups-add-put-groups t)
     (put-groups-sub-put-groups t)
     (put-groups-put-groups-requires t)

@@ -32,12 +32,6 @@ read-groups-returns t c =
     let a = c .before .before .args in
     sym (at-end (a .s .now) (a .at) (a .k) (c .if1 .taken))
 
-read-groups-shared-slice-read-wide : (t : ℕ) → read-groups-lts.Need-shared-slice-read-wide (callees t) (read-groups-at t) read-groups.Post
-read-groups-shared-slice-read-wide t c = search needs
-
-read-groups-wide-requires : (t : ℕ) → read-groups-lts.Need-wide-requires (callees t) (read-groups-at t) read-groups.Post
-read-groups-wide-requires t c κs = search needs
-
 read-groups-returns-2 : (t : ℕ) → read-groups-lts.Need-returns-2 (callees t) (read-groups-at t) read-groups.Post
 read-groups-returns-2 t c =
     let w = c .before .before in
@@ -72,12 +66,6 @@ read-groups-sub-read-groups : (t : ℕ) → read-groups-lts.Need-sub-read-groups
 read-groups-sub-read-groups t c =
     search needs
 
-read-groups-read-groups-requires : (t : ℕ) → read-groups-lts.Need-read-groups-requires (callees t) (read-groups-at t) read-groups.Post
-read-groups-read-groups-requires t c κs = search needs
-
-read-groups-enum-known-high : (t : ℕ) → read-groups-lts.Need-enum-known-high (callees t) (read-groups-at t) read-groups.Post
-read-groups-enum-known-high t c = search needs
-
 read-groups-returns-5 : (t : ℕ) → read-groups-lts.Need-returns-5 (callees t) (read-groups-at t) read-groups.Post
 read-groups-returns-5 t c =
     let r = c .before .before .before .before in
@@ -97,9 +85,6 @@ read-groups-add-t21 t c =
     let s = r .before .before .before .before .before .before .before in
     omega (arith, r .before .before .before .wide .ensures .1, lowest-fits (s .args .s .now) (s .args .at) (s .args .k) (λ i. r .before .before .before .before .shared-slice-known2 .given i .fits) (s .pre .1) (r .before .before .if2 .left) _ (r .read-groups .ensures) _ _ (c .before .before .high .given .1))
 
-read-groups-enum-known-high-2 : (t : ℕ) → read-groups-lts.Need-enum-known-high-2 (callees t) (read-groups-at t) read-groups.Post
-read-groups-enum-known-high-2 t c = search needs
-
 read-groups-returns-6 : (t : ℕ) → read-groups-lts.Need-returns-6 (callees t) (read-groups-at t) read-groups.Post
 read-groups-returns-6 t c =
     let r = c .before .before .before .before in
@@ -118,8 +103,8 @@ pub +read-groups-spec : {M : Type 1} → statement M
 +read-groups-spec =
     close μ-read-groups λ t. read-groups-lts.spec (callees t) (read-groups-at t) read-groups.Post
     (read-groups-returns t)
-    (read-groups-shared-slice-read-wide t)
-    (read-groups-wide-requires t)
+    (λ c. search needs)
+    (λ c κs. search needs)
     (read-groups-returns-2 t)
     (read-groups-add-t14 t)
     (read-groups-returns-3 t)
@@ -127,11 +112,11 @@ pub +read-groups-spec : {M : Type 1} → statement M
     (read-groups-returns-4 t)
     (read-groups-add-read-groups t)
     (read-groups-sub-read-groups t)
-    (read-groups-read-groups-requires t)
-    (read-groups-enum-known-high t)
+    (λ c κs. search needs)
+    (λ c. search needs)
     (read-groups-returns-5 t)
     (read-groups-mul-t20 t)
     (read-groups-add-t21 t)
-    (read-groups-enum-known-high-2 t)
+    (λ c. search needs)
     (read-groups-returns-6 t)
     (read-groups-returns-7 t)

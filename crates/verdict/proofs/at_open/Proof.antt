@@ -10,21 +10,6 @@ use borrow.Author.Needs.{needs}
 use Rattle.verdict.proofs.at_open.Statement.{statement}
 use Rattle.verdict.proofs.at_open.Tie as tie
 
-mul-b : tie.Need-mul-b
-mul-b c = search needs
-
-add-b : tie.Need-add-b
-add-b c = search needs
-
-add-word : tie.Need-add-word
-add-word c = search needs
-
-word-requires : tie.Need-word-requires
-word-requires c κs = search needs
-
-as-word-requires : tie.Need-as-word-requires
-as-word-requires c κs = search needs
-
 returns : tie.Need-returns
 returns c =
     let at-as-word = c .before in
@@ -34,15 +19,6 @@ returns c =
     let args = start .args in
     ap (withHeader (args .h)) (sym (step3-other _ _ _ _ _ _ (other-size (args .state .now) (args .names .now) (args .s) (start .pre .0) (args .d .now) (args .h) (λ q. if1 .taken (at-word .word .ensures ∙ q ∙ sym (at-as-word .as-word .ensures))))))
 
-add-word-2 : tie.Need-add-word-2
-add-word-2 c = search needs
-
-word-requires-2 : tie.Need-word-requires-2
-word-requires-2 c κs = search needs
-
-as-word-requires-2 : tie.Need-as-word-requires-2
-as-word-requires-2 c κs = search needs
-
 returns-2 : tie.Need-returns-2
 returns-2 c =
     let at-as-word2 = c .before in
@@ -51,30 +27,6 @@ returns-2 c =
     let if2 = c .if2 in
     let args = start .args in
     ap (withHeader (args .h)) (sym (step3-other _ _ _ _ _ _ (other-count (args .state .now) (args .names .now) (args .s) (start .pre .0) (args .d .now) (args .h) (λ q. if2 .taken (at-word2 .word2 .ensures ∙ q ∙ sym (at-as-word2 .as-word2 .ensures))))))
-
-add-a : tie.Need-add-a
-add-a c = search needs
-
-add-e : tie.Need-add-e
-add-e c = search needs
-
-mul-held : tie.Need-mul-held
-mul-held c = search needs
-
-sub-held : tie.Need-sub-held
-sub-held c = search needs
-
-part-held-start : tie.Need-part-held-start
-part-held-start c = search needs
-
-part-held-end : tie.Need-part-held-end
-part-held-end c = search needs
-
-as-size-requires : tie.Need-as-size-requires
-as-size-requires c κs = search needs
-
-is-held-requires : tie.Need-is-held-requires
-is-held-requires c κs = search needs
 
 same-fragment-requires : tie.Need-same-fragment-requires
 same-fragment-requires c κs =
@@ -118,30 +70,6 @@ returns-4 c =
     let both = same-both (args .state .now) (args .names .now) (args .s) (start .pre .0) (args .d .now) (args .h) (sym (at-word .word .ensures) ∙ at-if1 .if1 .left ∙ at-as-word .as-word .ensures) (sym (at-word2 .word2 .ensures) ∙ at-if2 .if2 .left ∙ at-as-word2 .as-word2 .ensures) in
     let held = held-asked (args .state .now) (args .names .now) (args .s) (start .pre .0) _ (args .h .number) (blockAt (args .s) + heldWord) _ _ refl refl (at-as-size .as-size .ensures .0) (at-is-held .is-held .ensures) in
     ap (withHeader (args .h)) (sym (step3-differs _ _ _ _ _ _ both (held ∙ at-if3 .if3 .taken) (sym (at-same-fragment .same-fragment .ensures) ∙ if4 .left)))
-
-mul-from : tie.Need-mul-from
-mul-from c = search needs
-
-add-to : tie.Need-add-to
-add-to c = search needs
-
-mul-fits-all : tie.Need-mul-fits-all
-mul-fits-all c = search needs
-
-sub-fits-all : tie.Need-sub-fits-all
-sub-fits-all c = search needs
-
-part-fits-all-start : tie.Need-part-fits-all-start
-part-fits-all-start c = search needs
-
-part-fits-all-end : tie.Need-part-fits-all-end
-part-fits-all-end c = search needs
-
-cast-fits-all : tie.Need-cast-fits-all
-cast-fits-all c = search needs
-
-fits-all-requires : tie.Need-fits-all-requires
-fits-all-requires c κs = search needs
 
 returns-5 : tie.Need-returns-5
 returns-5 c =
@@ -188,6 +116,6 @@ returns-6 c =
     ap (withHeader (args .h)) (sym (step3-clash _ _ _ _ _ _ both (held ∙ at-if3 .if3 .left) (sym all ∙ sym (at-fits-all .fits-all .ensures) ∙ if5 .left)))
 
 pub at-open-spec : {M : Type 1} → statement M
-at-open-spec = tie.close (tie.spec mul-b add-b add-word word-requires as-word-requires returns add-word-2 word-requires-2 as-word-requires-2 returns-2
-    add-a add-e mul-held sub-held part-held-start part-held-end as-size-requires is-held-requires same-fragment-requires returns-3 returns-4
-    mul-from add-to mul-fits-all sub-fits-all part-fits-all-start part-fits-all-end cast-fits-all fits-all-requires returns-5 returns-6)
+at-open-spec = tie.close (tie.spec (λ c. search needs) (λ c. search needs) (λ c. search needs) (λ c κs. search needs) (λ c κs. search needs) returns (λ c. search needs) (λ c κs. search needs) (λ c κs. search needs) returns-2
+    (λ c. search needs) (λ c. search needs) (λ c. search needs) (λ c. search needs) (λ c. search needs) (λ c. search needs) (λ c κs. search needs) (λ c κs. search needs) same-fragment-requires returns-3 returns-4
+    (λ c. search needs) (λ c. search needs) (λ c. search needs) (λ c. search needs) (λ c. search needs) (λ c. search needs) (λ c. search needs) (λ c κs. search needs) returns-5 returns-6)

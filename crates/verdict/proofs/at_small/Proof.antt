@@ -8,9 +8,6 @@ use Rattle.verdict.proofs.at_small.Tie as tie
 enum-told : tie.Need-enum-told
 enum-told c = search needs
 
-enum-told-2 : tie.Need-enum-told-2
-enum-told-2 c = search needs
-
 returns : tie.Need-returns
 returns c =
     let args = c .before .before .args in
@@ -24,4 +21,4 @@ returns-2 c =
     sym (ap (smallVerdict (args .h)) (enum-told2 .given .1))
 
 pub at-small-spec : {M : Type 1} → statement M
-at-small-spec = tie.close (tie.spec enum-told enum-told-2 returns returns-2)
+at-small-spec = tie.close (tie.spec enum-told (λ c. search needs) returns returns-2)

@@ -1,5 +1,5 @@
 -- `verdict::by_key` meets its contract. Assumes nothing.
-use mathlib.Core.Path.{refl, sym, _∙_, ap}
+use mathlib.Core.Path.{sym, _∙_, ap}
 use Rattle.steps.specs.Limits.{slotCount}
 use Rattle.slots.specs.Words.{keyIn}
 use Rattle.receiver_state.specs.View.{view}
@@ -12,21 +12,6 @@ use borrow.Author.Needs.{needs}
 use Rattle.verdict.proofs.by_key.Statement.{statement}
 use Rattle.verdict.proofs.by_key.Tie as tie
 
-as-word-requires : tie.Need-as-word-requires
-as-word-requires c κs = search needs
-
-sub-is-remembered : tie.Need-sub-is-remembered
-sub-is-remembered c = search needs
-
-part-is-remembered-start : tie.Need-part-is-remembered-start
-part-is-remembered-start c = search needs
-
-part-is-remembered-end : tie.Need-part-is-remembered-end
-part-is-remembered-end c = search needs
-
-is-remembered-requires : tie.Need-is-remembered-requires
-is-remembered-requires c κs = search needs
-
 returns : tie.Need-returns
 returns c =
     let at-is-remembered = c .before in
@@ -36,12 +21,6 @@ returns c =
     let args = start .args in
     let known = sym (remembered-is (args .state .now) (start .pre .0 .shape .words) (args .sender) _ (args .h .sequence) (at-as-word .as-word .ensures) (start .pre .0 .known) _ (at-is-remembered .is-remembered .ensures)) in
     ap (withHeader (args .h)) (sym (decide-again (view (args .state .now) (args .names .now)) (args .store .now) (args .ledger .now) (args .sender) (args .d .now) (args .h) (known ∙ if1 .taken)))
-
-find-open-requires : tie.Need-find-open-requires
-find-open-requires c κs = search needs
-
-at-small-requires : tie.Need-at-small-requires
-at-small-requires c κs = search needs
 
 returns-2 : tie.Need-returns-2
 returns-2 c =
@@ -57,9 +36,6 @@ returns-2 c =
     let found = open-is (args .state .now) (args .names .now) (args .sender) _ (args .h .sequence) (at-as-word .as-word .ensures) _ (at-find-open .find-open .ensures) in
     at-small .ensures ∙ small-verdict (args .d .now) (args .h) (at-find-open .find-open .result)
     ∙ ap (withHeader (args .h)) (sym (decide-small (view (args .state .now) (args .names .now)) (args .store .now) (args .ledger .now) (args .sender) (args .d .now) (args .h) (known ∙ at-if1 .if1 .left) (at-if2 .if2 .taken) _ found))
-
-enum-known-found : tie.Need-enum-known-found
-enum-known-found c = search needs
 
 enum-told : tie.Need-enum-told
 enum-told c = search needs
@@ -105,4 +81,4 @@ returns-4 c =
     at-open .ensures ∙ ap (withHeader (args .h)) (sym (decide-open (view (args .state .now) (args .names .now)) (args .store .now) (args .ledger .now) (args .sender) (args .d .now) (args .h) _ (known ∙ at-if1 .if1 .left) (at-if2 .if2 .left) (at ∙ ap optionOf (at-found .found .given .1))))
 
 pub by-key-spec : {M : Type 1} → statement M
-by-key-spec = tie.close (tie.spec as-word-requires sub-is-remembered part-is-remembered-start part-is-remembered-end is-remembered-requires returns find-open-requires at-small-requires returns-2 enum-known-found enum-told returns-3 at-open-requires returns-4)
+by-key-spec = tie.close (tie.spec (λ c κs. search needs) (λ c. search needs) (λ c. search needs) (λ c. search needs) (λ c κs. search needs) returns (λ c κs. search needs) (λ c κs. search needs) returns-2 (λ c. search needs) enum-told returns-3 at-open-requires returns-4)

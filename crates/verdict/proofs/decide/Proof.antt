@@ -1,6 +1,5 @@
 -- `verdict::decide` meets its contract. Assumes nothing.
-use mathlib.Core.Path.{_≡_, sym, _∙_, ap}
-use lib.ListN.{length}
+use mathlib.Core.Path.{sym, _∙_, ap}
 use borrow.Author.Tests.{not-true, not-false}
 use Rattle.datagram.specs.Limits.{maxFragments}
 use Rattle.datagram.specs.Read.{readDatagram}
@@ -12,9 +11,6 @@ use borrow.Author.Needs.{needs}
 use Rattle.verdict.proofs.decide.Statement.{statement}
 use Rattle.verdict.proofs.decide.Tie as tie
 
-is-ready-requires : tie.Need-is-ready-requires
-is-ready-requires c κs = search needs
-
 returns : tie.Need-returns
 returns c =
     let at-is-ready = c .before in
@@ -23,20 +19,8 @@ returns c =
     let args = start .args in
     sym (unready (args .state .now) (args .names .now) (args .store .now) (args .ledger .now) (args .sender) (args .d .now) (sym (at-is-ready .is-ready .ensures) ∙ not-true _ (if1 .taken)))
 
-word-requires : tie.Need-word-requires
-word-requires c κs = search needs
-
-read-datagram-requires : tie.Need-read-datagram-requires
-read-datagram-requires c κs = search needs
-
-enum-known-read : tie.Need-enum-known-read
-enum-known-read c = search needs
-
 enum-told : tie.Need-enum-told
 enum-told c = search needs
-
-passed-on-requires : tie.Need-passed-on-requires
-passed-on-requires c κs = search needs
 
 returns-2 : tie.Need-returns-2
 returns-2 c =
@@ -82,4 +66,4 @@ returns-3 c =
     by-key .ensures ∙ sym (decided-good (args .state .now) (args .names .now) (args .store .now) (args .ledger .now) (args .sender) (args .d .now) ok _ reads)
 
 pub decide-spec : {M : Type 1} → statement M
-decide-spec = tie.close (tie.spec is-ready-requires returns word-requires read-datagram-requires enum-known-read enum-told passed-on-requires returns-2 by-key-requires returns-3)
+decide-spec = tie.close (tie.spec (λ c κs. search needs) returns (λ c κs. search needs) (λ c κs. search needs) (λ c. search needs) enum-told (λ c κs. search needs) returns-2 by-key-requires returns-3)

@@ -19,27 +19,6 @@ use borrow.Author.Needs.{needs}
 use Rattle.verdict.proofs.same_fragment.Statement.{statement}
 use Rattle.verdict.proofs.same_fragment.Tie as tie
 
-as-size-requires : tie.Need-as-size-requires
-as-size-requires c κs = search needs
-
-as-size-requires-2 : tie.Need-as-size-requires-2
-as-size-requires-2 c κs = search needs
-
-mul-row : tie.Need-mul-row
-mul-row c = search needs
-
-mul-row-2 : tie.Need-mul-row-2
-mul-row-2 c = search needs
-
-add-row : tie.Need-add-row
-add-row c = search needs
-
-part-at-requires : tie.Need-part-at-requires
-part-at-requires c κs = search needs
-
-entry-requires : tie.Need-entry-requires
-entry-requires c κs = search needs
-
 returns : tie.Need-returns
 returns c =
     let at-entry = c .before in
@@ -50,12 +29,6 @@ returns c =
     let args = start .args in
     let o = offset-is (args .ledger .now) (args .s) _ (args .h .number) (at-as-size .as-size .ensures .0) _ (at-entry .entry .ensures .0) in
     sym (same-offset (args .state .now) (args .names .now) (args .s) (start .pre .0) (getD (args .state .now) roomWord 0) (args .store .now) (args .ledger .now) (fragmentIn (args .d .now) (args .h)) (λ q. if1 .taken (o ∙ q ∙ sym (at-as-size2 .as-size2 .ensures .0))))
-
-add-entry : tie.Need-add-entry
-add-entry c = search needs
-
-entry-requires-2 : tie.Need-entry-requires-2
-entry-requires-2 c κs = search needs
 
 returns-2 : tie.Need-returns-2
 returns-2 c =
@@ -72,9 +45,6 @@ returns-2 c =
     let o = sym (offset-is (args .ledger .now) (args .s) _ (args .h .number) (at-as-size .as-size .ensures .0) _ (at-entry .entry .ensures .0)) ∙ at-if1 .if1 .left ∙ at-as-size2 .as-size2 .ensures .0 in
     sym (same-long (args .state .now) (args .names .now) (args .s) (start .pre .0) (getD (args .state .now) roomWord 0) (args .store .now) (args .ledger .now) (fragmentIn (args .d .now) (args .h)) o (λ q. if2 .taken (l ∙ q ∙ sym (ap length (at-part-at .part-at .ensures)))))
 
-word-requires : tie.Need-word-requires
-word-requires c κs = search needs
-
 mul-same-at : tie.Need-mul-same-at
 mul-same-at c =
     let start = c .before .before .before .before .before .before .before .before .before .before .before .before .before in
@@ -89,9 +59,6 @@ add-same-at c =
     let word = c .word in
     let args = start .args in
     omega (arith, word .ensures, at-as-size2 .as-size2 .ensures .1, place-small (args .s) (word .result) (start .pre .0) (rw (word .ensures) (start .pre .1 .room)))
-
-same-at-requires : tie.Need-same-at-requires
-same-at-requires c κs = search needs
 
 returns-3 : tie.Need-returns-3
 returns-3 c =
@@ -136,21 +103,6 @@ returns-4 c =
     ∙ not-false _ (at-if3 .if3 .left) in
     sym (same-name (args .state .now) (args .names .now) (args .s) (start .pre .0) (getD (args .state .now) roomWord 0) (args .store .now) (args .ledger .now) (fragmentIn (args .d .now) (args .h)) o l b ∙ rw (ne-eqb _ _ k))
 
-part-at-requires-2 : tie.Need-part-at-requires-2
-part-at-requires-2 c κs = search needs
-
-zero-filled-requires : tie.Need-zero-filled-requires
-zero-filled-requires c κs = search needs
-
-mul-same-at-2 : tie.Need-mul-same-at-2
-mul-same-at-2 c = search needs
-
-slice-aggregate-same-at : tie.Need-slice-aggregate-same-at
-slice-aggregate-same-at c = search needs
-
-same-at-requires-2 : tie.Need-same-at-requires-2
-same-at-requires-2 c κs = search needs
-
 returns-5 : tie.Need-returns-5
 returns-5 c =
     let at-zero-filled = c .before .before in
@@ -183,4 +135,4 @@ returns-5 c =
     ∙ sym (same-name (args .state .now) (args .names .now) (args .s) (start .pre .0) (getD (args .state .now) roomWord 0) (args .store .now) (args .ledger .now) (fragmentIn (args .d .now) (args .h)) o l b ∙ z)
 
 pub same-fragment-spec : {M : Type 1} → statement M
-same-fragment-spec = tie.close (tie.spec as-size-requires as-size-requires-2 mul-row mul-row-2 add-row part-at-requires entry-requires returns add-entry entry-requires-2 returns-2 word-requires mul-same-at add-same-at same-at-requires returns-3 returns-4 part-at-requires-2 zero-filled-requires mul-same-at-2 slice-aggregate-same-at same-at-requires-2 returns-5)
+same-fragment-spec = tie.close (tie.spec (λ c κs. search needs) (λ c κs. search needs) (λ c. search needs) (λ c. search needs) (λ c. search needs) (λ c κs. search needs) (λ c κs. search needs) returns (λ c. search needs) (λ c κs. search needs) returns-2 (λ c κs. search needs) mul-same-at add-same-at (λ c κs. search needs) returns-3 returns-4 (λ c κs. search needs) (λ c κs. search needs) (λ c. search needs) (λ c. search needs) (λ c κs. search needs) returns-5)

@@ -11,21 +11,6 @@ use Rattle.watch.proofs.ask.Tie as tie
 returns : tie.Need-returns
 returns c = let a = c .before .args in sym (asked-claims (a .t1) (a .sender) (a .number) (c .if1 .taken))
 
-find-requires : tie.Need-find-requires
-find-requires c κs = search needs
-
-mul-sequence-difference : tie.Need-mul-sequence-difference
-mul-sequence-difference c = search needs
-
-element-copy-out-sequence-difference : tie.Need-element-copy-out-sequence-difference
-element-copy-out-sequence-difference c = search needs
-
-sequence-difference-requires : tie.Need-sequence-difference-requires
-sequence-difference-requires c κs = search needs
-
-tell-requires : tie.Need-tell-requires
-tell-requires c κs = search needs
-
 returns-2 : tie.Need-returns-2
 returns-2 c =
     let at-sequence-difference = c .before in
@@ -58,11 +43,11 @@ ask-spec =
     tie.close
     (tie.spec
     returns
-    find-requires
-    mul-sequence-difference
-    element-copy-out-sequence-difference
-    sequence-difference-requires
-    tell-requires
+    (λ c κs. search needs)
+    (λ c. search needs)
+    (λ c. search needs)
+    (λ c κs. search needs)
+    (λ c κs. search needs)
     returns-2
     returns-3
     returns-4)

@@ -8,30 +8,12 @@ use Rattle.watch.proofs.move_to.Tie as tie
 returns : tie.Need-returns
 returns c = let a = c .before .args in sym (moved-claims (a .t1) (a .sender) (a .number) (c .if1 .taken))
 
-find-requires : tie.Need-find-requires
-find-requires c κs = search needs
-
 returns-2 : tie.Need-returns-2
 returns-2 c =
     let f = c .before in
     let s = f .before .before .before .before in
     let a = s .before .args in
     sym (moved-full (a .t1) (a .sender) (a .number) (f .find .result) (s .if1 .left) (f .find .ensures) (c .if2 .taken))
-
-mul-next : tie.Need-mul-next
-mul-next c = search needs
-
-element-write-next : tie.Need-element-write-next
-element-write-next c = search needs
-
-mul-next-2 : tie.Need-mul-next-2
-mul-next-2 c = search needs
-
-element-write-next-2 : tie.Need-element-write-next-2
-element-write-next-2 c = search needs
-
-add-next : tie.Need-add-next
-add-next c = search needs
 
 returns-3 : tie.Need-returns-3
 returns-3 c =
@@ -52,12 +34,12 @@ move-to-spec =
     tie.close
     (tie.spec
     returns
-    find-requires
+    (λ c κs. search needs)
     returns-2
-    mul-next
-    element-write-next
-    mul-next-2
-    element-write-next-2
-    add-next
+    (λ c. search needs)
+    (λ c. search needs)
+    (λ c. search needs)
+    (λ c. search needs)
+    (λ c. search needs)
     returns-3
     returns-4)

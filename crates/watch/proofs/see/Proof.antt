@@ -6,15 +6,6 @@ use Rattle.watch.proofs.Cases.{after-moves, after-stays}
 use Rattle.watch.proofs.see.Statement.{statement}
 use Rattle.watch.proofs.see.Tie as tie
 
-ask-requires : tie.Need-ask-requires
-ask-requires c κs = search needs
-
-does-move-requires : tie.Need-does-move-requires
-does-move-requires c κs = search needs
-
-move-to-requires : tie.Need-move-to-requires
-move-to-requires c κs = search needs
-
 returns : tie.Need-returns
 returns c =
     let at-if1 = c .before in
@@ -39,4 +30,4 @@ returns-2 c =
     }
 
 pub see-spec : {M : Type 1} → statement M
-see-spec = tie.close (tie.spec ask-requires does-move-requires move-to-requires returns returns-2)
+see-spec = tie.close (tie.spec (λ c κs. search needs) (λ c κs. search needs) (λ c κs. search needs) returns returns-2)

@@ -1,6 +1,6 @@
 -- The difference of two sequence numbers, read as a signed number. Assumes nothing.
 use mathlib.Core.Path.{_≡_, _∙_}
-use Prim.Native.Nat.{_-_, _<_, _^_}
+use Prim.Native.Nat.{_<_, _^_}
 use native.Mathlib.Omega.{arith}
 use borrow.Author.Needs.{needs}
 use mir.Syntax.{w32}
@@ -23,20 +23,8 @@ read c =
     toZ-signed w32 (u .result)
     ∙ wraps-back (start .args .new) (start .args .last) (u .result) (start .fits .new .fits) (start .fits .last .fits) (bits c) (u .ensures)
 
-wrapping-sub-u32-requires : tie.Need-wrapping-sub-u32-requires
-wrapping-sub-u32-requires c κs = search needs
-
-cast-result : tie.Need-cast-result
-cast-result c = search needs
-
 returns : tie.Need-returns
 returns c = read (c .before)
-
-sub-k : tie.Need-sub-k
-sub-k c = search needs
-
-cast-m : tie.Need-cast-m
-cast-m c = search needs
 
 sub-result : tie.Need-sub-result
 sub-result c = let u = c .before .wrapping-sub-u32 in from-end-fits w32 (u .result) (bits (c .before)) (c .if1 .left)
@@ -52,4 +40,4 @@ returns-2 c =
 pub sequence-difference-spec : {M : Type 1} → statement M
 sequence-difference-spec =
     tie.close
-    (tie.spec wrapping-sub-u32-requires cast-result returns sub-k cast-m sub-result returns-2)
+    (tie.spec (λ c κs. search needs) (λ c. search needs) returns (λ c. search needs) (λ c. search needs) sub-result returns-2)

@@ -19,9 +19,6 @@ use Rattle.watch.proofs.tell.Tie as tie
 same : (c : tie.Start) → toZ w32 (ofZ w32 (c .args .d)) ≡ c .args .d
 same c = toZ-ofZ w32 (c .args .d) (c .fits .d)
 
-negated-requires : tie.Need-negated-requires
-negated-requires c κs = search needs
-
 returns : tie.Need-returns
 returns c =
     let k = c .before in
@@ -50,9 +47,6 @@ returns-3 c =
     let s = c .before .before in
     sym (told-same (s .args .number) (s .args .d) (sym (ap natAbs (same s)) ∙ c .if3 .taken))
 
-sub-t7 : tie.Need-sub-t7
-sub-t7 c = search needs
-
 returns-4 : tie.Need-returns-4
 returns-4 c =
     let s = c .before .before in
@@ -60,4 +54,4 @@ returns-4 c =
     ∙ sym (told-forward (s .args .number) (s .args .d) (left (c .before)) (λ e. c .if3 .left (ap natAbs (same s) ∙ e)))
 
 pub tell-spec : {M : Type 1} → statement M
-tell-spec = tie.close (tie.spec negated-requires returns returns-2 cast-u returns-3 sub-t7 returns-4)
+tell-spec = tie.close (tie.spec (λ c κs. search needs) returns returns-2 cast-u returns-3 (λ c. search needs) returns-4)

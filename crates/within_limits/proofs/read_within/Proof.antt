@@ -4,15 +4,6 @@ use borrow.Author.Needs.{needs}
 use Rattle.within_limits.proofs.read_within.Statement.{statement}
 use Rattle.within_limits.proofs.read_within.Tie as tie
 
-least-requires : tie.Need-least-requires
-least-requires c κs = search needs
-
-fewest-requires : tie.Need-fewest-requires
-fewest-requires c κs = search needs
-
-read-datagram-requires : tie.Need-read-datagram-requires
-read-datagram-requires c κs = search needs
-
 returns : tie.Need-returns
 returns c =
     let f = c .before in
@@ -20,4 +11,4 @@ returns c =
 
 pub read-within-spec : {M : Type 1} → statement M
 read-within-spec =
-    tie.close (tie.spec least-requires fewest-requires read-datagram-requires returns)
+    tie.close (tie.spec (λ c κs. search needs) (λ c κs. search needs) (λ c κs. search needs) returns)

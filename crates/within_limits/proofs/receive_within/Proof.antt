@@ -29,32 +29,8 @@ refused-so : (l : Limits) (w n store ledger : List ℕ) (sender : ℕ) (d : List
 refused-so l w n store ledger sender d k r s e o =
     subst (λ (x : Outcome). ReceivesWithin l (lent w n store ledger) sender d x (lent w n store ledger)) (sym o) (by-limits l w n store ledger sender d k s e)
 
-word-requires : tie.Need-word-requires
-word-requires c κs = search needs
-
-read-within-requires : tie.Need-read-within-requires
-read-within-requires c κs = search needs
-
-enum-known-read : tie.Need-enum-known-read
-enum-known-read c = search needs
-
 enum-told : tie.Need-enum-told
 enum-told c = search needs
-
-receive-requires : tie.Need-receive-requires
-receive-requires c κs = search needs
-
-same-length : tie.Need-same-length
-same-length c = search needs
-
-same-length-2 : tie.Need-same-length-2
-same-length-2 c = search needs
-
-same-length-3 : tie.Need-same-length-3
-same-length-3 c = search needs
-
-same-length-4 : tie.Need-same-length-4
-same-length-4 c = search needs
 
 returns : tie.Need-returns
 returns c =
@@ -64,18 +40,6 @@ returns c =
     let e = room-read (a .limits) (a .state .now) (a .d .now) _ _ _ (r .before .word .ensures) (r .read-within .ensures) (o .enum-told .given .1) in
     by-receive (a .limits) _ _ _ _ (a .sender) (a .d .now) (received-good (a .limits) _ _ _ _ (a .sender) (a .d .now) _ e) (c .before .before .before .before .before .before .before .before .receive .ensures)
 
-is-ready-requires : tie.Need-is-ready-requires
-is-ready-requires c κs = search needs
-
-refused-requires : tie.Need-refused-requires
-refused-requires c κs = search needs
-
-same-length-5 : tie.Need-same-length-5
-same-length-5 c = search needs
-
-same-length-6 : tie.Need-same-length-6
-same-length-6 c = search needs
-
 returns-2 : tie.Need-returns-2
 returns-2 c =
     let i = c .before .before in
@@ -84,21 +48,6 @@ returns-2 c =
     let a = r .before .before .before .before .before .before .before .before .args in
     let e = room-read (a .limits) (a .state .now) (a .d .now) _ _ _ (r .before .word .ensures) (r .read-within .ensures) (k .read .given .1) in
     refused-so (a .limits) _ _ _ _ (a .sender) (a .d .now) _ _ (sym (i .is-ready .ensures) ∙ c .before .if1 .taken) e (c .refused .ensures)
-
-receive-requires-2 : tie.Need-receive-requires-2
-receive-requires-2 c κs = search needs
-
-same-length-7 : tie.Need-same-length-7
-same-length-7 c = search needs
-
-same-length-8 : tie.Need-same-length-8
-same-length-8 c = search needs
-
-same-length-9 : tie.Need-same-length-9
-same-length-9 c = search needs
-
-same-length-10 : tie.Need-same-length-10
-same-length-10 c = search needs
 
 returns-3 : tie.Need-returns-3
 returns-3 c =
@@ -111,24 +60,24 @@ pub receive-within-spec : {M : Type 1} → statement M
 receive-within-spec =
     tie.close
     (tie.spec
-    word-requires
-    read-within-requires
-    enum-known-read
+    (λ c κs. search needs)
+    (λ c κs. search needs)
+    (λ c. search needs)
     enum-told
-    receive-requires
-    same-length
-    same-length-2
-    same-length-3
-    same-length-4
+    (λ c κs. search needs)
+    (λ c. search needs)
+    (λ c. search needs)
+    (λ c. search needs)
+    (λ c. search needs)
     returns
-    is-ready-requires
-    refused-requires
-    same-length-5
-    same-length-6
+    (λ c κs. search needs)
+    (λ c κs. search needs)
+    (λ c. search needs)
+    (λ c. search needs)
     returns-2
-    receive-requires-2
-    same-length-7
-    same-length-8
-    same-length-9
-    same-length-10
+    (λ c κs. search needs)
+    (λ c. search needs)
+    (λ c. search needs)
+    (λ c. search needs)
+    (λ c. search needs)
     returns-3)

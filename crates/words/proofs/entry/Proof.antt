@@ -6,20 +6,8 @@ use borrow.Author.Needs.{needs}
 use Rattle.words.proofs.entry.Statement.{statement}
 use Rattle.words.proofs.entry.Tie as tie
 
-mul-as-size : tie.Need-mul-as-size
-mul-as-size c = search needs
-
-shared-slice-read-as-size : tie.Need-shared-slice-read-as-size
-shared-slice-read-as-size c = search needs
-
-as-size-requires : tie.Need-as-size-requires
-as-size-requires c κs = search needs
-
-returns : tie.Need-returns
-returns c = search needs
-
 returns-2 : tie.Need-returns-2
 returns-2 c = (sym (List·getD-eq-default (c .before .before .args .l .now) 0 (omega arith)), omega arith)
 
 pub entry-spec : {M : Type 1} → statement M
-entry-spec = tie.close (tie.spec mul-as-size shared-slice-read-as-size as-size-requires returns returns-2)
+entry-spec = tie.close (tie.spec (λ c. search needs) (λ c. search needs) (λ c κs. search needs) (λ c. search needs) returns-2)

@@ -6,20 +6,8 @@ use borrow.Author.Needs.{needs}
 use Rattle.words.proofs.put_entry.Statement.{statement}
 use Rattle.words.proofs.put_entry.Tie as tie
 
-mul-l : tie.Need-mul-l
-mul-l c = search needs
-
-slice-write-l : tie.Need-slice-write-l
-slice-write-l c = search needs
-
-same-length : tie.Need-same-length
-same-length c = search needs
-
-returns : tie.Need-returns
-returns c = search needs
-
 returns-2 : tie.Need-returns-2
 returns-2 c = sym (set-out (c .before .args .l .now) _ _ (omega arith))
 
 pub put-entry-spec : {M : Type 1} → statement M
-put-entry-spec = tie.close (tie.spec mul-l slice-write-l same-length returns returns-2)
+put-entry-spec = tie.close (tie.spec (λ c. search needs) (λ c. search needs) (λ c. search needs) (λ c. search needs) returns-2)

@@ -4,19 +4,13 @@ use borrow.Author.Needs.{needs}
 use Rattle.host.proofs.flight.qm_log_append.Statement.{statement}
 use Rattle.host.proofs.flight.qm_log_append.Tie as tie
 
-append-requires : tie.Need-append-requires
-append-requires c κs = search needs
-
 told-requires : tie.Need-told-requires
 told-requires c κs =
     append-spans _ _ _ _ _ (c .before .before .append .ensures)
-
-same-length : tie.Need-same-length
-same-length c = search needs
 
 returns : tie.Need-returns
 returns c =
     append-told _ _ _ _ _ _ (c .before .before .before .append .ensures) (c .told .ensures)
 
 pub qm-log-append-spec : {M : Type 1} → statement M
-qm-log-append-spec = tie.close (tie.spec append-requires told-requires same-length returns)
+qm-log-append-spec = tie.close (tie.spec (λ c κs. search needs) told-requires (λ c. search needs) returns)

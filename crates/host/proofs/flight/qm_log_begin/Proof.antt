@@ -4,19 +4,13 @@ use borrow.Author.Needs.{needs}
 use Rattle.host.proofs.flight.qm_log_begin.Statement.{statement}
 use Rattle.host.proofs.flight.qm_log_begin.Tie as tie
 
-begin-requires : tie.Need-begin-requires
-begin-requires c κs = search needs
-
 told-requires : tie.Need-told-requires
 told-requires c κs =
     begin-spans _ _ _ _ (c .before .before .begin .ensures)
-
-same-length : tie.Need-same-length
-same-length c = search needs
 
 returns : tie.Need-returns
 returns c =
     begin-told _ _ _ _ _ (c .before .before .before .begin .ensures) (c .told .ensures)
 
 pub qm-log-begin-spec : {M : Type 1} → statement M
-qm-log-begin-spec = tie.close (tie.spec begin-requires told-requires same-length returns)
+qm-log-begin-spec = tie.close (tie.spec (λ c κs. search needs) told-requires (λ c. search needs) returns)

@@ -13,51 +13,6 @@ returns c = let s = c .before .before .before .args in see-short _ _ _ _ (lacks-
 returns-2 : tie.Need-returns-2
 returns-2 c = let s = c .before .before .before .before .args in see-short _ _ _ _ (lacks-lasts (s .senders .now) (s .lasts .now) (c .if2 .taken))
 
-word-requires : tie.Need-word-requires
-word-requires c κs = search needs
-
-sub-shown : tie.Need-sub-shown
-sub-shown c = search needs
-
-part-shown-start : tie.Need-part-shown-start
-part-shown-start c = search needs
-
-part-shown-end : tie.Need-part-shown-end
-part-shown-end c = search needs
-
-sub-shown-2 : tie.Need-sub-shown-2
-sub-shown-2 c = search needs
-
-part-shown-start-2 : tie.Need-part-shown-start-2
-part-shown-start-2 c = search needs
-
-part-shown-end-2 : tie.Need-part-shown-end-2
-part-shown-end-2 c = search needs
-
-shown-requires : tie.Need-shown-requires
-shown-requires c κs = search needs
-
-see-requires : tie.Need-see-requires
-see-requires c κs = search needs
-
-put-word-requires : tie.Need-put-word-requires
-put-word-requires c κs = search needs
-
-put-words-requires : tie.Need-put-words-requires
-put-words-requires c κs = search needs
-
-put-entries-requires : tie.Need-put-entries-requires
-put-entries-requires c κs = search needs
-
-noted-code-requires : tie.Need-noted-code-requires
-noted-code-requires c κs = search needs
-
-same-length : tie.Need-same-length
-same-length c = search needs
-
-same-length-2 : tie.Need-same-length-2
-same-length-2 c = search needs
-
 returns-3 : tie.Need-returns-3
 returns-3 c =
     let lasting = c .before .before .before in
@@ -79,19 +34,19 @@ qm-watch-see-spec =
     (tie.spec
     returns
     returns-2
-    word-requires
-    sub-shown
-    part-shown-start
-    part-shown-end
-    sub-shown-2
-    part-shown-start-2
-    part-shown-end-2
-    shown-requires
-    see-requires
-    put-word-requires
-    put-words-requires
-    put-entries-requires
-    noted-code-requires
-    same-length
-    same-length-2
+    (λ c κs. search needs)
+    (λ c. search needs)
+    (λ c. search needs)
+    (λ c. search needs)
+    (λ c. search needs)
+    (λ c. search needs)
+    (λ c. search needs)
+    (λ c κs. search needs)
+    (λ c κs. search needs)
+    (λ c κs. search needs)
+    (λ c κs. search needs)
+    (λ c κs. search needs)
+    (λ c κs. search needs)
+    (λ c. search needs)
+    (λ c. search needs)
     returns-3)

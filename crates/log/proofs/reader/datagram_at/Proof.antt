@@ -11,16 +11,10 @@ returns c =
     let a = c .before .before .args in
     sym (datagram-long (a .log .now) (a .at) (a .sender) (a .tick) (a .n) (c .if1 .taken))
 
-room-requires : tie.Need-room-requires
-room-requires c κs = search needs
-
 returns-2 : tie.Need-returns-2
 returns-2 c =
     let a = c .before .before .before .before .args in
     sym (datagram-cut (a .log .now) (a .at) (a .sender) (a .tick) (a .n) (c .before .before .if1 .left) (omega arith))
-
-add-t9 : tie.Need-add-t9
-add-t9 c = search needs
 
 returns-3 : tie.Need-returns-3
 returns-3 c =
@@ -28,4 +22,4 @@ returns-3 c =
     sym (datagram-found (a .log .now) (a .at) (a .sender) (a .tick) (a .n) (c .before .before .if1 .left) (c .before .before .before .before .pre) (omega arith))
 
 pub datagram-at-spec : {M : Type 1} → statement M
-datagram-at-spec = tie.close (tie.spec returns room-requires returns-2 add-t9 returns-3)
+datagram-at-spec = tie.close (tie.spec returns (λ c κs. search needs) returns-2 (λ c. search needs) returns-3)

@@ -9,19 +9,10 @@ returns : tie.Need-returns
 returns c =
     sym (first-empty (c .before .before .args .log .now) (c .if1 .taken))
 
-shared-slice-read-if2 : tie.Need-shared-slice-read-if2
-shared-slice-read-if2 c = search needs
-
 returns-2 : tie.Need-returns-2
 returns-2 c =
     let i = c .before .before in
     sym (first-one (i .before .before .args .log .now) (i .if1 .left) (c .if2 .taken))
-
-shared-slice-read-if3 : tie.Need-shared-slice-read-if3
-shared-slice-read-if3 c = search needs
-
-limit-at-requires : tie.Need-limit-at-requires
-limit-at-requires c κs = search needs
 
 returns-3 : tie.Need-returns-3
 returns-3 c =
@@ -40,9 +31,9 @@ first-entry-spec =
     tie.close
     (tie.spec
     returns
-    shared-slice-read-if2
+    (λ c. search needs)
     returns-2
-    shared-slice-read-if3
-    limit-at-requires
+    (λ c. search needs)
+    (λ c κs. search needs)
     returns-3
     returns-4)

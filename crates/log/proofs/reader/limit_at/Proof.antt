@@ -7,20 +7,11 @@ use borrow.Author.Needs.{needs}
 use Rattle.log.proofs.reader.limit_at.Statement.{statement}
 use Rattle.log.proofs.reader.limit_at.Tie as tie
 
-read-seven-requires : tie.Need-read-seven-requires
-read-seven-requires c κs = search needs
-
-enum-known-read : tie.Need-enum-known-read
-enum-known-read c = search needs
-
 within-requires : tie.Need-within-requires
 within-requires c κs =
     let r = c .before .before .before in
     let a = r .before .before .args in
     number-taken (a .log .now) (a .at) _ _ (λ i. r .before .shared-slice-known .given i .fits) _ (r .read-seven .ensures) (c .before .read .given .1) .within
-
-enum-known-read-2 : tie.Need-enum-known-read-2
-enum-known-read-2 c = search needs
 
 returns : tie.Need-returns
 returns c =
@@ -39,9 +30,9 @@ pub limit-at-spec : {M : Type 1} → statement M
 limit-at-spec =
     tie.close
     (tie.spec
-    read-seven-requires
-    enum-known-read
+    (λ c κs. search needs)
+    (λ c. search needs)
     within-requires
-    enum-known-read-2
+    (λ c. search needs)
     returns
     returns-2)

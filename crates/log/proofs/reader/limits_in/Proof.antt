@@ -5,12 +5,6 @@ use borrow.Author.Needs.{needs}
 use Rattle.log.proofs.reader.limits_in.Statement.{statement}
 use Rattle.log.proofs.reader.limits_in.Tie as tie
 
-first-entry-requires : tie.Need-first-entry-requires
-first-entry-requires c κs = search needs
-
-enum-known-first : tie.Need-enum-known-first
-enum-known-first c = search needs
-
 enum-told : tie.Need-enum-told
 enum-told c = search needs
 
@@ -26,4 +20,4 @@ returns-2 c =
 
 pub limits-in-spec : {M : Type 1} → statement M
 limits-in-spec =
-    tie.close (tie.spec first-entry-requires enum-known-first enum-told returns returns-2)
+    tie.close (tie.spec (λ c κs. search needs) (λ c. search needs) enum-told returns returns-2)

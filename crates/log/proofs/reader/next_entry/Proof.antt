@@ -12,18 +12,6 @@ returns c =
     let a = c .before .before .args in
     sym (next-end (a .log .now) (a .at) (c .if1 .taken))
 
-read-seven-requires : tie.Need-read-seven-requires
-read-seven-requires c κs = search needs
-
-enum-known-read : tie.Need-enum-known-read
-enum-known-read c = search needs
-
-tick-at-requires : tie.Need-tick-at-requires
-tick-at-requires c κs = search needs
-
-enum-known-read-2 : tie.Need-enum-known-read-2
-enum-known-read-2 c = search needs
-
 returns-2 : tie.Need-returns-2
 returns-2 c =
     let r = c .before .before .before .before in
@@ -42,9 +30,9 @@ next-entry-spec =
     tie.close
     (tie.spec
     returns
-    read-seven-requires
-    enum-known-read
-    tick-at-requires
-    enum-known-read-2
+    (λ c κs. search needs)
+    (λ c. search needs)
+    (λ c κs. search needs)
+    (λ c. search needs)
     returns-2
     returns-3)

@@ -5,25 +5,10 @@ use borrow.Author.Needs.{needs}
 use Rattle.log.proofs.reader.read_on.Statement.{statement}
 use Rattle.log.proofs.reader.read_on.Tie as tie
 
-next-entry-requires : tie.Need-next-entry-requires
-next-entry-requires c κs = search needs
-
 returns : tie.Need-returns
 returns c =
     let a = c .before .before .before .args in
     c .next-entry .ensures ∙ sym (read-on (a .log .now) (a .at) (c .before .if1 .taken))
-
-first-entry-requires : tie.Need-first-entry-requires
-first-entry-requires c κs = search needs
-
-enum-known-first : tie.Need-enum-known-first
-enum-known-first c = search needs
-
-next-entry-requires-2 : tie.Need-next-entry-requires-2
-next-entry-requires-2 c κs = search needs
-
-enum-known-first-2 : tie.Need-enum-known-first-2
-enum-known-first-2 c = search needs
 
 returns-2 : tie.Need-returns-2
 returns-2 c =
@@ -41,11 +26,11 @@ pub read-on-spec : {M : Type 1} → statement M
 read-on-spec =
     tie.close
     (tie.spec
-    next-entry-requires
+    (λ c κs. search needs)
     returns
-    first-entry-requires
-    enum-known-first
-    next-entry-requires-2
-    enum-known-first-2
+    (λ c κs. search needs)
+    (λ c. search needs)
+    (λ c κs. search needs)
+    (λ c. search needs)
     returns-2
     returns-3)

@@ -7,18 +7,6 @@ use borrow.Author.Needs.{needs}
 use Rattle.log.proofs.reader.tick_at.Statement.{statement}
 use Rattle.log.proofs.reader.tick_at.Tie as tie
 
-read-seven-requires : tie.Need-read-seven-requires
-read-seven-requires c κs = search needs
-
-enum-known-read : tie.Need-enum-known-read
-enum-known-read c = search needs
-
-length-at-requires : tie.Need-length-at-requires
-length-at-requires c κs = search needs
-
-enum-known-read-2 : tie.Need-enum-known-read-2
-enum-known-read-2 c = search needs
-
 returns : tie.Need-returns
 returns c =
     let r = c .before .before .before .before in
@@ -36,9 +24,9 @@ pub tick-at-spec : {M : Type 1} → statement M
 tick-at-spec =
     tie.close
     (tie.spec
-    read-seven-requires
-    enum-known-read
-    length-at-requires
-    enum-known-read-2
+    (λ c κs. search needs)
+    (λ c. search needs)
+    (λ c κs. search needs)
+    (λ c. search needs)
     returns
     returns-2)

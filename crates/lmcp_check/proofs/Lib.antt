@@ -1,0 +1,6 @@
+pub mod Cases
+pub mod Frames
+pub mod Goes
+pub mod Roots
+pub mod Runs
+pub mod Steps

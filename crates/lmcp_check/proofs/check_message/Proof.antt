@@ -1,0 +1,65 @@
+-- `lmcp_check::check_message` meets its contract: the frame, and then the root.
+use mathlib.Core.Path.{_≡_, sym, ap, _∙_}
+use mathlib.Core.List.{List}
+use Prim.Native.Nat.{ℕ, _-_, _≤_}
+use native.Mathlib.Omega.{arith}
+use lib.ListN.{length, take, drop, length-take, length-drop}
+use borrow.Author.Needs.{needs}
+use Rattle.lmcp.specs.Limits.{maxMessage}
+use Rattle.lmcp.specs.Message.{rootOf}
+use Rattle.lmcp_check.proofs.Roots.{frame-within, wrong-frame, wrong-root}
+use Rattle.lmcp_check.proofs.check_message.Statement.{statement}
+use Rattle.lmcp_check.proofs.check_message.Tie as tie
+
+-- the root, as the code takes it
+abbrev root : List ℕ → List ℕ
+root m = take (length m - 4 - 8) (drop 8 m)
+
+root-is : (m : List ℕ) → root m ≡ rootOf m
+root-is m = let e : length m - 4 - 8 ≡ length m - 12 = omega arith in ap (λ (n : ℕ). take n (drop 8 m)) e
+
+abbrev M : tie.Else1 → List ℕ
+M c = c .before .before .before .args .message .now
+
+within : (c : tie.Else1) → (12 ≤ length (M c)) × (length (M c) ≤ maxMessage)
+within c = frame-within (M c) (sym (c .before .frame-of .ensures) ∙ c .if1 .left)
+
+returns : tie.Need-returns
+returns c = let f = c .before in wrong-frame (f .before .before .args .message .now) (f .frame-of .result) (f .frame-of .ensures) (c .if1 .taken)
+
+sub-end : tie.Need-sub-end
+sub-end c = omega (arith, within c .0)
+
+sub-s : tie.Need-sub-s
+sub-s c = omega (arith, within c .0)
+
+part-s-start : tie.Need-part-s-start
+part-s-start c = let k : 8 ≤ length (M c) - 4 = omega (arith, within c .0) in k
+
+check-root-requires : tie.Need-check-root-requires
+check-root-requires c κs =
+    let e = c .before .before in
+    let n : length (root (M e)) ≤ length (M e) = rw (length-take, length-drop) (omega arith) in
+    omega (arith, n, within e .1)
+
+returns-2 : tie.Need-returns-2
+returns-2 c =
+    let v = c .before in
+    let e = v .before .before in
+    let f = e .before in
+    wrong-root (M e) (f .frame-of .result) (f .frame-of .ensures) (e .if1 .left) (root (M e)) (root-is (M e)) (v .version-of .result) (v .version-of .ensures)
+    (c .check-root .result) (c .check-root .ensures)
+
+pub check-message-spec : {M : Type 1} → statement M
+check-message-spec =
+    tie.close
+    (tie.spec
+    (λ c κs. search needs)
+    returns
+    sub-end
+    sub-s
+    part-s-start
+    (λ c. search needs)
+    (λ c κs. search needs)
+    check-root-requires
+    returns-2)

@@ -1,0 +1,46 @@
+-- The contracts of the walk that writes: what it reads is in order. Definitions only.
+use mathlib.Core.Path.{_≡_}
+use mathlib.Core.Bool.{Bool}
+use mathlib.Core.List.{List, [], _∷_}
+use Prim.Native.Nat.{ℕ, zero, suc, _+_, _≤_}
+use lib.IntN.{ℤ, pos}
+use lib.ListN.{length, drop}
+use lib.Dec.{leb, eqb}
+use Rattle.wire.specs.Choice.{_when_else_}
+use Rattle.wire.specs.Bytes.{be}
+use Rattle.wire.specs.Signed.{signed}
+use Rattle.lmcp.specs.Run.{got}
+use Rattle.lmcp.specs.Read.{Read}
+use Rattle.lmcp.specs.Ends.{Sofar}
+
+-- W is not refused, and the place after its numbers, of which the first goes to q, is one that can be counted
+pub record Ahead (W : Read) (q : ℕ) : Type 0 where
+  pub zs : List ℤ
+  pub rest : List ℕ
+  pub is : W ≡ got zs rest
+  pub room : q + length zs ≤ 4294967296
+
+abbrev pub Few0 : ℕ → ℕ → Type 0
+Few0 to at = Unit
+
+-- all of W is laid from `to` on
+abbrev pub Lays : List ℕ → List ℤ → ℕ → Read → ℕ → ℕ → List ℤ → Type 0
+Lays s list to W p q list' = Sofar Few0 s list to W (got []) p q list'
+
+-- the number of a code at the front of bytes
+abbrev pub coded : ℕ → List ℕ → ℤ
+coded c l =
+    pos (be 1 l) when eqb c 0 else
+    pos (be 2 l) when eqb c 1 else
+    pos (be 4 l) when eqb c 2 else
+    signed 16 (be 2 l) when eqb c 3 else
+    signed 32 (be 4 l) when eqb c 4 else
+    signed 64 (be 8 l)
+
+abbrev pub codedAll : ℕ → ℕ → ℕ → List ℕ → List ℤ
+codedAll zero c w l = []
+codedAll (suc n) c w l = coded c l ∷ codedAll n c w (drop w l)
+
+-- whether there is room for the numbers of W behind the first
+abbrev pub Rooms : Read → ℕ → Bool → Type 0
+Rooms W room r = (zs : List ℤ) (rest : List ℕ) → W ≡ got zs rest → r ≡ leb (suc (length zs)) room

@@ -1,0 +1,10 @@
+pub mod Calls
+pub mod Copies
+pub mod Exact
+pub mod Fits
+pub mod Flights
+pub mod Growing
+pub mod Losses
+pub mod Pieces
+pub mod Seasons
+pub mod Went

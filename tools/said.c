@@ -1,0 +1,31 @@
+/* What is said of what did not go well: by the system, of the output, of a log. */
+
+#include "qm.h"
+
+int failed(const char *command, const char *path) {
+    fprintf(stderr, "qm %s: %s: %s\n", command, path, strerror(*__errno_location()));
+    return FAILED;
+}
+
+int printed(const char *command) {
+    if (fflush(stdout) == 0 && !ferror(stdout)) return DONE;
+    return failed(command, "standard output");
+}
+
+/* docs/REFUSALS.md has every number. */
+static const char *meaning(qm_u32 number) {
+    switch (number) {
+    case QM_EDITION: return "not a log, or one of an edition that this program does not know";
+    case QM_NOT_SHORTEST: return "a number is not in its shortest form: damaged on disk";
+    case QM_KEPT_TOO_LONG: return "an entry's datagram is over 65,535 bytes: damaged on disk";
+    case QM_LOG_CUT: return "empty, or it ends inside an entry: the writing was cut off";
+    case QM_LOG_LIMIT: return "its payload limit is over 1,048,576: damaged on disk, or from a newer program";
+    case QM_INDEX_FULL: return "more than 4,096 entries with a key: an index takes no more";
+    default: return "docs/REFUSALS.md says why";
+    }
+}
+
+int refused(const char *command, const char *path, qm_u32 number) {
+    fprintf(stderr, "qm %s: %s: refused %u, %s\n", command, path, number, meaning(number));
+    return REFUSED;
+}

@@ -1,0 +1,51 @@
+/* A season over the functions that count: the memory that they are lent, one entry at a time, and the tile lines. */
+
+#include "season.h"
+
+/* Slots of the largest payload, and room for the numbers of the longest message: 6 and 13 come of no lack of memory here. */
+static qm_u64 state[QM_STATE];
+static qm_byte names[QM_NAMES];
+static qm_byte store[QM_STORE];
+static qm_u32 ledger[QM_LEDGER];
+static qm_i64 numbers[QM_NUMBERS];
+/* The sets over all flights, and how many numbers each has. */
+static qm_u64 tiles[SEASON_TILES], pits[SEASON_PITS], sure[SEASON_PITS];
+static qm_size has_tiles, has_pits, has_sure;
+
+void flight_begin(void) {
+    /* memory of the header's lengths: 9 does not come */
+    qm_open(state, QM_STATE, names, QM_NAMES, QM_STORE);
+}
+
+void flight_forget(qm_u64 sender) {
+    qm_forget(state, QM_STATE, names, QM_NAMES, sender);
+}
+
+qm_u32 flight_take(const struct walk *w, struct totals *told) {
+    qm_u64 said[QM_STRETCH];
+    /* the list of numbers is of the header's length: 13 does not come */
+    qm_count_on(w->log.bytes, w->log.length, w->at, 1, state, QM_STATE, names, QM_NAMES, store, QM_STORE, ledger, QM_LEDGER, numbers, QM_NUMBERS, tiles,
+                SEASON_TILES, pits, SEASON_PITS, sure, SEASON_PITS, has_tiles, has_pits, has_sure, said, QM_STRETCH);
+    has_tiles = said[QM_ON_TILES];
+    has_pits = said[QM_ON_PITS];
+    has_sure = said[QM_ON_SURE];
+    *told = (struct totals) {.entries = said[QM_ON_ENTRIES], .kept = said[QM_ON_KEPT], .repeated = said[QM_ON_REPEATED],
+                             .delivered = said[QM_ON_DELIVERED], .lists = said[QM_ON_LISTS]};
+    for (unsigned n = 0; n < QM_REFUSALS; n++) told->refused[n] = said[QM_ON_REFUSED + n];
+    return said[QM_ON_STOP] == QM_STOP_REFUSED ? (qm_u32) said[QM_ON_NUMBER] : 0;
+}
+
+void totals_add(struct totals *sum, const struct totals *more) {
+    sum->entries += more->entries;
+    sum->kept += more->kept;
+    sum->repeated += more->repeated;
+    sum->delivered += more->delivered;
+    sum->lists += more->lists;
+    for (unsigned n = 0; n < QM_REFUSALS; n++) sum->refused[n] += more->refused[n];
+}
+
+void season_print(void) {
+    static qm_u64 tile[SEASON_TILES], pit[SEASON_TILES], certain[SEASON_TILES];
+    qm_count_lines(tile, SEASON_TILES, pit, SEASON_TILES, certain, SEASON_TILES, tiles, SEASON_TILES, pits, SEASON_PITS, sure, SEASON_PITS, has_tiles, has_pits, has_sure);
+    for (qm_size i = 0; i < has_tiles; i++) printf("tile %llu pits %llu sure %llu\n", tile[i], pit[i], certain[i]);
+}

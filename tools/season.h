@@ -1,0 +1,27 @@
+/* A season: flights one after another, each through a fresh receiver, into the same sets of tiles and pits. season.c alone calls the functions that count. */
+
+#ifndef QM_SEASON_H
+#define QM_SEASON_H
+
+#include "qm.h"
+
+/* What qm lends for a season: one tile more is 60, one pit more 61. */
+enum { SEASON_TILES = 65536, SEASON_PITS = 65536 };
+
+/* How entries were answered, and how many lists they brought. */
+struct totals {
+    qm_u64 entries, kept, repeated, delivered, refused[QM_REFUSALS], lists;
+};
+
+/* A flight begins: a fresh receiver. */
+void flight_begin(void);
+/* Its receiver forgets a sender. */
+void flight_forget(qm_u64 sender);
+/* It takes the entry at hand. Answers 0, or 13, 60 or 61; `told` is of this entry. */
+qm_u32 flight_take(const struct walk *w, struct totals *told);
+
+void totals_add(struct totals *sum, const struct totals *more);
+/* A line a tile of all flights, rising. */
+void season_print(void);
+
+#endif

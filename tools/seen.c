@@ -1,0 +1,84 @@
+/* Which datagrams a log has had of each sender. */
+
+#include "seen.h"
+
+enum { FIRST_ROOM = 1 << 12, RANDOM_BYTES = 25, CHUNK = 7 };
+
+/* The numbers of the hash are those modulo this prime; it takes seven bytes of a datagram at a time. */
+static const qm_u64 prime = (1ull << 61) - 1, first_bytes = (1ull << 8 * CHUNK) - 1;
+
+/* The system gives each run of a program random bytes. */
+static qm_u64 key_of_run(void) {
+    static qm_u64 key;
+    const void *random = (const void *) getauxval(RANDOM_BYTES);
+    if (key == 0 && random) __builtin_memcpy(&key, random, sizeof key);
+    key &= prime;
+    return key > 1 ? key : prime - 2;
+}
+
+static qm_u64 times(qm_u64 a, qm_u64 b) {
+    unsigned __int128 product = (unsigned __int128) a * b;
+    qm_u64 sum = (qm_u64) (product & prime) + (qm_u64) (product >> 61);
+    return sum >= prime ? sum - prime : sum;
+}
+
+/* A polynomial in the key, whose coefficients are sender, length and bytes: two datagrams of one hash are one chance in 2^47. */
+static qm_u64 hash_of(const struct walk *w, qm_u64 key) {
+    const qm_byte *at = walk_datagram(w);
+    qm_size left = w->entry[QM_ENTRY_LENGTH];
+    qm_u64 hash = times(times(times(left + 1, key) + (w->entry[QM_SENDER] >> 32), key) + (qm_u32) w->entry[QM_SENDER], key);
+    for (; left > CHUNK; at += CHUNK, left -= CHUNK) {
+        qm_u64 chunk;
+        __builtin_memcpy(&chunk, at, sizeof chunk);
+        hash = times(hash + (chunk & first_bytes), key);
+    }
+    for (; left > 0; at++, left--) hash = times(hash + *at, key);
+    return hash;
+}
+
+/* Whether the entry at a place has sender and bytes of the one at hand. */
+static int is_copy(const struct walk *w, qm_size place) {
+    qm_u64 other[QM_ENTRY];
+    if (qm_log_next(w->log.bytes, w->log.length, place, other, QM_ENTRY) != 0) return 0;
+    if (other[QM_SENDER] != w->entry[QM_SENDER] || other[QM_ENTRY_LENGTH] != w->entry[QM_ENTRY_LENGTH]) return 0;
+    return memcmp(w->log.bytes + other[QM_ENTRY_PLACE], walk_datagram(w), w->entry[QM_ENTRY_LENGTH]) == 0;
+}
+
+/* The row of a hash, or the free one where it would stand, from the row `from` on. */
+static qm_size row_of(const struct seen *s, qm_u64 hash, qm_size from) {
+    qm_size i = from & (s->room - 1);
+    while (s->rows[i].place != 0 && s->rows[i].hash != hash) i = (i + 1) & (s->room - 1);
+    return i;
+}
+
+/* At most half of the rows are in use. */
+static int grow(struct seen *s) {
+    struct seen wider = {.room = s->room ? 2 * s->room : FIRST_ROOM, .used = s->used, .key = key_of_run()};
+    wider.rows = calloc(wider.room, sizeof *wider.rows);
+    if (!wider.rows) return 0;
+    for (qm_size i = 0; i < s->room; i++) {
+        if (s->rows[i].place == 0) continue;
+        qm_size to = s->rows[i].hash & (wider.room - 1);
+        while (wider.rows[to].place != 0) to = (to + 1) & (wider.room - 1);
+        wider.rows[to] = s->rows[i];
+    }
+    free(s->rows);
+    *s = wider;
+    return 1;
+}
+
+int seen_note(struct seen *s, const struct walk *w) {
+    if (2 * s->used >= s->room && !grow(s)) return SEEN_FAILED;
+    qm_u64 hash = hash_of(w, s->key);
+    qm_size i = row_of(s, hash, hash);
+    for (; s->rows[i].place != 0; i = row_of(s, hash, i + 1))
+        if (is_copy(w, s->rows[i].place)) return SEEN_BEFORE;
+    s->rows[i] = (struct seen_row) {hash, w->at};
+    s->used++;
+    return SEEN_FIRST;
+}
+
+void seen_close(struct seen *s) {
+    free(s->rows);
+    *s = (struct seen) {0};
+}

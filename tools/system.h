@@ -1,0 +1,83 @@
+/* What tools, tests and bench use of the system, declared once: the toolchain ships the C library without its headers. Programs are x86-64 Linux, and so are
+   these numbers. */
+
+#ifndef SYSTEM_H
+#define SYSTEM_H
+
+/* ---- text */
+
+typedef struct file FILE;
+extern FILE *stdin, *stdout, *stderr;
+
+FILE *fopen(const char *path, const char *how);
+int fclose(FILE *file);
+unsigned long fread(void *to, unsigned long size, unsigned long n, FILE *file);
+unsigned long fwrite(const void *from, unsigned long size, unsigned long n, FILE *file);
+char *fgets(char *to, int room, FILE *file);
+int printf(const char *format, ...);
+int fprintf(FILE *file, const char *format, ...);
+int sprintf(char *to, const char *format, ...);
+int fflush(FILE *file);
+int ferror(FILE *file);
+int setvbuf(FILE *file, char *buffer, int how, unsigned long length);
+enum { WHOLE_BUFFERS = 0 };
+
+int strcmp(const char *a, const char *b);
+char *strchr(const char *text, int byte);
+unsigned long strlen(const char *text);
+long atol(const char *text);
+
+/* ---- memory */
+
+void *malloc(unsigned long length);
+void *realloc(void *at, unsigned long length);
+void *calloc(unsigned long many, unsigned long size);
+void free(void *at);
+void *memcpy(void *to, const void *from, unsigned long length);
+void *memmove(void *to, const void *from, unsigned long length);
+void *memset(void *to, int byte, unsigned long length);
+int memcmp(const void *a, const void *b, unsigned long length);
+void qsort(void *at, unsigned long many, unsigned long size, int (*compare)(const void *, const void *));
+unsigned long getauxval(unsigned long what);
+
+void *mmap(void *at, unsigned long length, int allowed, int flags, int file, long offset);
+int munmap(void *at, unsigned long length);
+int mprotect(void *at, unsigned long length, int allowed);
+int madvise(void *at, unsigned long length, int advice);
+enum { MAY_NOTHING = 0, MAY_READ = 1, MAY_READ_AND_WRITE = 3, OF_A_FILE = 2, OF_NO_FILE = 0x22, IN_ORDER = 2 };
+
+/* ---- files by number */
+
+int open(const char *path, int how, ...);
+long read(int file, void *to, unsigned long most);
+long write(int file, const void *from, unsigned long length);
+long pwrite(int file, const void *from, unsigned long length, long at);
+long lseek(int file, long by, int from);
+int ftruncate(int file, long length);
+int fdatasync(int file);
+int flock(int file, int how);
+int fcntl(int file, int what, ...);
+int isatty(int file);
+int close(int file);
+enum { TO_READ = 0, TO_READ_AND_WRITE = 2, CREATED = 0100, FOR_ALL_TO_READ = 0644, FROM_END = 2, ALONE = 2, AT_ONCE = 4, PIPE_SIZE = 1031 };
+
+/* ---- the process: its end, its errors, signals and the time */
+
+_Noreturn void exit(int status);
+_Noreturn void _exit(int status);
+int *__errno_location(void);
+char *strerror(int number);
+enum { INTERRUPTED = 4 };
+
+void (*signal(int number, void (*handler)(int)))(int);
+unsigned alarm(unsigned seconds);
+enum { BUS_ERROR = 7, NO_SUCH_MEMORY = 11, ALARM = 14, FILE_TOO_LARGE = 25 };
+#define PASSED_OVER ((void (*)(int)) 1)
+
+struct timespec {
+    long seconds, nanoseconds;
+};
+int clock_gettime(int clock, struct timespec *t);
+enum { STEADY_CLOCK = 1 };
+
+#endif
