@@ -20,7 +20,9 @@ returns-2 c =
     written-so (setsOf (a .tiles .now) (a .pits .now) (a .sure .now)) (record { tiles = a .had-tiles; pits = a .had-pits; sure = a .had-sure }) (a .tile .now) (a .pit .now) (a .certain .now)
     (record { tiles = one .least .result; pits = two .least2 .result; sure = three .least3 .result })
     (λ i. record { tiles = one .least .ensures i; pits = two .least2 .ensures i; sure = three .least3 .ensures i })
-    (c .before .before .before .before .before .before .before .before .before .before .before .no-room .result) (c .before .before .before .before .before .before .before .before .before .before .before .no-room .ensures) (c .before .before .before .before .before .before .before .before .before .before .if1 .left) _ _ _ (c .before .before .before .before .before .before .put-lines .ensures)
+    (c .before .before .before .before .before .before .before .before .before .before .before .no-room .result)
+    (c .before .before .before .before .before .before .before .before .before .before .before .no-room .ensures)
+    (c .before .before .before .before .before .before .before .before .before .before .if1 .left) _ _ _ (c .before .before .before .before .before .before .put-lines .ensures)
 
 pub qm-count-lines-spec : {M : Type 1} → statement M
 qm-count-lines-spec =

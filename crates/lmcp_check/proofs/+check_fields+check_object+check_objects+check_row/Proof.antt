@@ -9,7 +9,7 @@ use borrow.Author.Needs.{needs}
 use Rattle.lmcp.specs.declared.Row.{Row}
 use Rattle.lmcp.specs.Run.{repeat}
 use Rattle.lmcp.specs.Table.{pitsurv, rowsOf, startsOf, fieldsOf}
-use Rattle.lmcp.proofs.Goes.{repeat-all}
+use Rattle.lmcp.proofs.WalkPlaces.{repeat-all}
 use Rattle.lmcp_check.specs.InsideSteps.{readObject, readFields}
 use Rattle.lmcp.specs.Packed.{packedOf, cell}
 use Rattle.lmcp_check.specs.InsideChecks.{Upto}

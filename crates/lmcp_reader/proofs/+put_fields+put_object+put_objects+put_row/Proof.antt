@@ -16,13 +16,13 @@ use Rattle.lmcp.specs.Table.{pitsurv, rowsOf, fieldsOf}
 use Rattle.lmcp.specs.Packed.{packedOf, cell}
 use Rattle.lmcp.specs.Read.{reading}
 use Rattle.lmcp.specs.Ends.{Sofar}
-use Rattle.lmcp.proofs.Goes.{begins, repeat-all, repeat-more, fields-more, items-turn, items-end, fields-turn, fields-done}
+use Rattle.lmcp.proofs.WalkPlaces.{begins, repeat-all, repeat-more, fields-more, items-turn, items-end, fields-turn, fields-done}
 use Rattle.lmcp.proofs.Widths.{be-one}
 use Rattle.lmcp_check.specs.InsideSteps.{readObject, readFields}
 use Rattle.lmcp_check.proofs.Cases.{number-is}
 use Rattle.lmcp_check.proofs.Steps.{few-rows, bounds}
 use Rattle.lmcp_reader.specs.InsidePuts.{Ahead, Few0}
-use Rattle.lmcp_reader.proofs.Cases.{through, plain-small}
+use Rattle.lmcp_reader.proofs.NumberBits.{through, plain-small}
 use Rattle.lmcp_reader.proofs.Puts.{ahead-as, ahead-first, ahead-next, Here, object-ahead, object-laid, width-is, values-room, values-laid, single-room, single-laid}
 use Rattle.lmcp_reader.proofs.Puts.{few, count-inside, items-ahead, objects-ahead, objects-laid, chars-room, chars-laid}
 use Rattle.lmcp_reader.proofs.Puts.{Object, first-inside, null-room, null-laid, some-inside, some-deep, some-typed, some-ahead, some-laid}

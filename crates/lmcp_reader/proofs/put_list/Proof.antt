@@ -10,7 +10,7 @@ use Rattle.lmcp.specs.declared.Found.the-variants.{Refused}
 use Rattle.lmcp.specs.Run.{prepend, whole}
 use Rattle.lmcp.specs.Message.{ReadTo}
 use Rattle.lmcp_check.specs.InsideSteps.{readRoot}
-use Rattle.lmcp_reader.proofs.Cases.{through}
+use Rattle.lmcp_reader.proofs.NumberBits.{through}
 use Rattle.lmcp_reader.proofs.Roots.{root-ahead, list-short, list-good}
 use Rattle.lmcp_reader.proofs.put_list.Statement.{statement}
 use Rattle.lmcp_reader.proofs.put_list.Tie as tie

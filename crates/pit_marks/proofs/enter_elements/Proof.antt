@@ -6,8 +6,8 @@ use native.Mathlib.Omega.{arith}
 use lib.ListN.{length, drop}
 use Rattle.count_rules.specs.Marks.{Mark, markLength, markAt}
 use Rattle.pit_marks.specs.Enters.{enterMarks}
-use Rattle.pit_marks.proofs.Cases.{as-said, then-on, then-refused, all-entered}
-use Rattle.pit_marks.proofs.Walks.{takes-one, moves-on, marksFrom, marks-turn, marks-end}
+use Rattle.pit_marks.proofs.EnteringCases.{as-said, then-on, then-refused, all-entered}
+use Rattle.pit_marks.proofs.ElementTurn.{takes-one, moves-on, marksFrom, marks-turn, marks-end}
 use borrow.Author.Needs.{needs}
 use Rattle.pit_marks.proofs.enter_elements.Statement.{statement}
 use Rattle.pit_marks.proofs.enter_elements.Tie as tie

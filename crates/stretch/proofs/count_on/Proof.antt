@@ -82,7 +82,9 @@ one-entry-requires c κs =
     let own = first .before .before .before .before .before in
     let a = own .before .before .before .before .before .before .before .before .before .args in
     let D = lentOf (a .state .now) (a .names .now) (a .store .now) (a .ledger .now) (a .numbers .now) (a .tiles .now) (a .pits .now) (a .sure .now) in
-    going-few (a .log .now) (own .limits-in .result) (a .most) (a .place) D (first .nothing .result .sizes) _ (l .loop .at) (l .loop .taken) (l .loop .done) (l .loop .inv .0) (c .before .before .before .before .before .before .before .before .before .before .before .before .before .before .loop-test .taken) (own .before .before .before .before .before .before .before .before .before .fits .most .fits)
+    going-few (a .log .now) (own .limits-in .result) (a .most) (a .place) D (first .nothing .result .sizes) _ (l .loop .at) (l .loop .taken) (l .loop .done) (l .loop .inv .0)
+    (c .before .before .before .before .before .before .before .before .before .before .before .before .before .before .loop-test .taken)
+    (own .before .before .before .before .before .before .before .before .before .fits .most .fits)
 
 same-length-9 : tie.Need-same-length-9 Inv-loop μ-loop
 same-length-9 c = c .before .before .before .before .before .before .before .before .before .before .before .before .before .before .before .before .before .state .given ∙ c .before .before .before .before .before .before .before .before .before .before .before .before .before .before .before .before .before .before .before .before .before .before .before .before .before .before .before .before .before .before .before .before .before .before .loop .inv .1
@@ -135,7 +137,10 @@ loop-again c =
     let D = lentOf (a .state .now) (a .names .now) (a .store .now) (a .ledger .now) (a .numbers .now) (a .tiles .now) (a .pits .now) (a .sure .now) in
     let found = c .before .before .before .before .before .before .before .before .before .before .before .before .before .before .before .before .before .before .before .before .before .before .before .before .before .before .before .before .before in
     let taken = c .before .before .before .before .before .before .before .before .before .before .before .before .before .before .before .before .before in (
-      going-more (a .log .now) (own .limits-in .result) (a .most) (a .place) D (first .nothing .result .sizes) _ (l .loop .at) (l .loop .taken) (l .loop .done) (l .loop .inv .0) (c .before .before .before .before .before .before .before .before .before .before .before .before .before .before .before .before .before .before .before .before .before .before .before .before .before .before .before .before .before .before .before .before .loop-test .taken) (found .step .given .0 .0) (sym (c .before .before .before .before .before .before .before .before .before .before .before .before .before .before .before .before .before .before .before .before .before .before .before .before .before .before .before .before .before .before .before .read-on .ensures) ∙ found .step .given .1)
+      going-more (a .log .now) (own .limits-in .result) (a .most) (a .place) D (first .nothing .result .sizes) _ (l .loop .at) (l .loop .taken) (l .loop .done) (l .loop .inv .0)
+          (c .before .before .before .before .before .before .before .before .before .before .before .before .before .before .before .before .before .before .before .before .before .before .before .before .before .before .before .before .before .before .before .before .loop-test .taken)
+          (found .step .given .0 .0)
+          (sym (c .before .before .before .before .before .before .before .before .before .before .before .before .before .before .before .before .before .before .before .before .before .before .before .before .before .before .before .before .before .before .before .read-on .ensures) ∙ found .step .given .1)
           (taken .one-entry .result) _ (taken .one-entry .ensures) (c .if1 .left),
       c .before .before .before .before .before .before .before .before .before .before .before .before .before .before .before .before .state .given ∙ l .loop .inv .1,
       c .before .before .before .before .before .before .before .before .before .before .before .before .before .before .names .given ∙ l .loop .inv .2,

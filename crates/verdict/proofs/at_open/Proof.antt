@@ -4,7 +4,7 @@ use Prim.Native.Nat.{_+_, _*_}
 use Rattle.datagram.specs.Limits.{maxFragments}
 use Rattle.slots.specs.Words.{blockAt, heldWord}
 use Rattle.steps.proofs.Branches.{step3-other, step3-again, step3-differs, step3-join, step3-clash}
-use Rattle.receiver_state.proofs.Cases.{held-lent, held-asked, other-size, other-count, same-both, agree-all}
+use Rattle.receiver_state.proofs.StepListCases.{held-lent, held-asked, other-size, other-count, same-both, agree-all}
 use Rattle.verdict.specs.Decided.{withHeader}
 use borrow.Author.Needs.{needs}
 use Rattle.verdict.proofs.at_open.Statement.{statement}
