@@ -32,8 +32,10 @@ empty-rooms = λ i. record { tiles = length-replicate {A = ℕ} maxTiles 0 i; pi
 
 returns : tie.Need-returns
 returns c =
-    let w = c .before .before .before .before .before .before .before .before .before .before .before .before .before .before in
-    let o = w .before .before .before .before .before .before .before .before .before .before .before in
+    let earlier = c .before .before .before .before .before .before .before .before in
+    let w = earlier .before .before .before .before .before .before in
+    let earlier-2 = w .before .before .before .before .before .before .before .before in
+    let o = earlier-2 .before .before .before in
     let at-log = o .before .before .before .before .before in
     let st = at-log .before in
     let a = st .args in
@@ -44,8 +46,11 @@ returns c =
 
 returns-2 : tie.Need-returns-2
 returns-2 c =
-    let w = c .before .before .before .before .before .before .before .before .before .before .before .before .before .before .before .before .before in
-    let o = w .before .before .before .before .before .before .before .before .before .before .before in
+    let earlier = c .before .before .before .before .before .before .before .before in
+    let earlier-2 = earlier .before .before .before .before .before .before .before .before in
+    let w = earlier-2 .before in
+    let earlier-3 = w .before .before .before .before .before .before .before .before in
+    let o = earlier-3 .before .before .before in
     let at-log = o .before .before .before .before .before in
     let st = at-log .before in
     let a = st .args in

@@ -31,7 +31,8 @@ returns c =
 
 put-object-requires : tie.Need-put-object-requires
 put-object-requires c κs =
-    let t = c .before .before .before .before .before .before .before .before .before .before .before in
+    let earlier = c .before .before .before .before .before .before .before .before in
+    let t = earlier .before .before .before in
     let start = t .before .before in
     let a = start .args in
     (record { short = start .pre .1 .0; inside = omega arith; packed = t .table .ensures }, root-ahead (a .version) (a .s .now) (start .pre .1 .1))

@@ -38,7 +38,8 @@ returns c =
 loop-less : tie.Need-loop-less Inv-loop μ-loop
 loop-less c =
     let e = c .before in
-    let g = e .before .before .before .before .before .before .before .before .before .before .before in
+    let earlier = e .before .before .before .before .before .before .before .before in
+    let g = earlier .before .before .before in
     let l = g .before in
     let a = l .before .before .before .args in
     let o = takes-one (a .two) (drop (l .loop .place) (a .list .now)) in

@@ -27,7 +27,8 @@ loop-holds c =
 
 loop-again : tie.Need-loop-again Inv-loop μ-loop
 loop-again c =
-    let w = c .before .before .before .before .before .before .before .before .before .before .before .before .before .before in
+    let earlier = c .before .before .before .before .before .before .before .before in
+    let w = earlier .before .before .before .before .before .before in
     let l = w .before .before in
     let a = l .before .before .before .before .before .before .before .args in
     let i = l .loop .i in
@@ -37,11 +38,11 @@ loop-again c =
     let s : ℕ → ℕ = λ j. pitsIn (a .sure .now) (a .had .sure) (getD (a .tiles .now) j 0) in
     let e = w .word .ensures in (
       refl,
-      c .before .before .before .before .before .before .before .before .before .before .before .tile .given ∙ l .loop .inv .1,
+      earlier .before .before .before .tile .given ∙ l .loop .inv .1,
       c .before .before .before .before .before .before .pit .given ∙ l .loop .inv .2,
       c .before .certain .given ∙ l .loop .inv .3,
       omega arith,
-      laid-more (a .tile .now) (a .had .tiles) t i _ (l .loop .tile) _ h (l .loop .inv .5) e (c .before .before .before .before .before .before .before .before .before .before .before .before .put-word .ensures),
+      laid-more (a .tile .now) (a .had .tiles) t i _ (l .loop .tile) _ h (l .loop .inv .5) e (earlier .before .before .before .before .put-word .ensures),
       laid-more (a .pit .now) (a .had .tiles) p i _ (l .loop .pit) _ h (l .loop .inv .6)
           (c .before .before .before .before .before .before .before .before .pits-of .ensures ∙ ap (pitsIn (a .pits .now) (a .had .pits)) e)
           (c .before .before .before .before .before .before .before .put-word2 .ensures),

@@ -12,7 +12,8 @@ use Rattle.receiver.proofs.deliver.Tie as tie
 
 mul-at : tie.Need-mul-at
 mul-at c =
-    let start = c .before .before .before .before .before .before .before .before .before .before in
+    let earlier = c .before .before .before .before .before .before .before .before in
+    let start = earlier .before .before in
     let word4 = c .word4 in
     let args = start .args in
     omega (arith, word4 .ensures, place-small (args .s) (word4 .result) (start .pre .0) (rw (word4 .ensures) (start .pre .1 .room)))

@@ -11,7 +11,8 @@ use Rattle.receiver.proofs.put.Tie as tie
 
 deliver-requires : tie.Need-deliver-requires
 deliver-requires c κs =
-    let at-keep = c .before .before .before .before .before .before .before .before .before .before .before .before in
+    let earlier = c .before .before .before .before .before .before .before .before in
+    let at-keep = earlier .before .before .before .before in
     let start = at-keep .before .before .before .before .before .before in
     let args = start .args in
     (start .pre .0, ready-after (args .state .now) (args .names .now) (at-keep .keep .last .0) (at-keep .keep .last .1 .0) _ (at-keep .keep .ensures) (start .pre .1))

@@ -47,7 +47,8 @@ returns-2 c =
 
 mul-same-at : tie.Need-mul-same-at
 mul-same-at c =
-    let start = c .before .before .before .before .before .before .before .before .before .before .before .before .before in
+    let earlier = c .before .before .before .before .before .before .before .before in
+    let start = earlier .before .before .before .before .before in
     let word = c .word in
     let args = start .args in
     omega (arith, word .ensures, place-small (args .s) (word .result) (start .pre .0) (rw (word .ensures) (start .pre .1 .room)))
