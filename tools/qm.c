@@ -19,7 +19,6 @@ static int run(unsigned i, int option, char **word) {
     switch (i) {
     case LIST: return list_command(word[0]);
     case REPLAY: return replay_command(word[0], option);
-    case GAPS: return gaps_command(word[0]);
     case INDEX: return index_command(word[0]);
     case KEEP: return keep_command(word[0], option);
     default:
@@ -30,7 +29,12 @@ static int run(unsigned i, int option, char **word) {
 
 /* A command that reads its words itself has said which is wrong. */
 static int run_any(unsigned i, int words, char **word) {
-    int status = i == COUNT ? count_command(words, word) : strays_command(words, word);
+    int status;
+    switch (i) {
+    case GAPS: status = gaps_command(words, word); break;
+    case COUNT: status = count_command(words, word); break;
+    default: status = strays_command(words, word);
+    }
     return status == USAGE ? command_usage(stderr, i, USAGE) : status;
 }
 

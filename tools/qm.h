@@ -90,11 +90,11 @@ int is_number(const char *text, qm_u64 most, qm_u64 *number);
 
 int list_command(const char *path);
 int replay_command(const char *path, int large);
-int gaps_command(const char *path);
 int index_command(const char *path);
 int find_command(const char *path, qm_u64 sender, qm_u64 sequence);
 int keep_command(const char *path, int synced);
 /* these read the words of the command line themselves, and say which is wrong */
+int gaps_command(int words, char **word);
 int count_command(int words, char **word);
 int strays_command(int words, char **word);
 

@@ -9,9 +9,12 @@ const struct command commands[COMMANDS] = {
                 "Prints `1 kept`, `2 repeat`, `3 delivered 1845` or `4 refused 8` for each entry, with ` emptied SENDER SEQUENCE` where a message was given up for\n"
                 "another, then `end N` or `refused R after N`. The log's limits bind. The receiver's store has 2,097,152 bytes, as that of the program replay_log,\n"
                 "whose lines these are; with --large it has slots of the largest payload that there is, as `qm count` has.\n", 1},
-    [GAPS] = {"gaps", "LOG", "a line an entry: what the sequence watch notes of its sender's number", 0,
+    [GAPS] = {"gaps", "[--missing | --acks SENDER] LOG", "a line an entry: what the sequence watch notes of its sender's number; or the numbers that never came", 0,
               "Prints `1 first`, `2 forward 3` (so many numbers are missing before it), `3 same`, `4 late 2`, `5 restarted 7` or `6 refused 4` for each entry,\n"
-              "then `end N` or `refused R after N`. The watch has room for 16 senders; those of a 17th are `refused 14`.\n", 1},
+              "then `end N` or `refused R after N`. The watch has room for 16 senders; those of a 17th are `refused 14`.\n"
+              "  --missing      in place of these `sender 7 missing 508` or `sender 7 missing 510 to 512` for each sender, rising from its first number, less what came\n"
+              "                 late, and `sender 7 restarted 0` where it began anew; then `end N`, N senders\n"
+              "  --acks SENDER  in place of these the numbers of that sender that came, rising, as a record that the program ack_bytes reads, raw\n", ANY},
     [COUNT] = {"count", "[--whole] [--senders] [--from SENDER].. [--forget-at SENDER:ENTRY].. LOG..",
                "entries by their answers, and for each tile its pits and how many of them are sure, of one flight or of a season", 0,
                "Each log is a flight, of any length, through a fresh receiver; all flights make one map, whatever their order, and a flight that is given twice adds no\n"
