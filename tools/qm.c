@@ -15,11 +15,12 @@ int is_number(const char *text, qm_u64 most, qm_u64 *number) {
 }
 
 static int run(unsigned i, int option, char **word) {
-    qm_u64 sender, sequence;
+    qm_u64 sender, sequence, place;
     switch (i) {
     case LIST: return list_command(word[0]);
     case REPLAY: return replay_command(word[0], option);
     case INDEX: return index_command(word[0]);
+    case SHOW: return is_number(word[1], ~0ull, &place) ? show_command(word[0], place) : command_usage(stderr, i, USAGE);
     case KEEP: return keep_command(word[0], option);
     default:
         if (is_number(word[1], ~0ull, &sender) && is_number(word[2], 4294967295, &sequence)) return find_command(word[0], sender, sequence);

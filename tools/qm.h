@@ -16,7 +16,7 @@ enum {
 
 /* ---- how it is called */
 
-enum { LIST, REPLAY, GAPS, COUNT, STRAYS, INDEX, FIND, KEEP, COMMANDS };
+enum { LIST, REPLAY, GAPS, COUNT, STRAYS, INDEX, FIND, SHOW, KEEP, COMMANDS };
 
 /* Options of its own and any number of logs: the command reads its words itself. */
 enum { ANY = -1 };
@@ -53,6 +53,9 @@ int failed(const char *command, const char *path);
 
 /* Says on standard error what a refusal means. Answers REFUSED. */
 int refused(const char *command, const char *path, qm_u32 number);
+
+/* A channel's name, bytes outside 32 to 126 as \x and two hexadecimal digits, a backslash as two: what a stranger sends reaches no terminal as it is. */
+void print_name(FILE *to, const qm_byte *name, qm_size length);
 
 /* ---- a log, entry by entry */
 
@@ -92,6 +95,7 @@ int list_command(const char *path);
 int replay_command(const char *path, int large);
 int index_command(const char *path);
 int find_command(const char *path, qm_u64 sender, qm_u64 sequence);
+int show_command(const char *path, qm_u64 place);
 int keep_command(const char *path, int synced);
 /* these read the words of the command line themselves, and say which is wrong */
 int gaps_command(int words, char **word);

@@ -36,6 +36,10 @@ const struct command commands[COMMANDS] = {
                "place, then `end N`; or the one line `refused R`. The place is that of the entry's first byte.\n", 1},
     [FIND] = {"find", "LOG SENDER SEQUENCE", "where the first entry of a key begins", 0,
               "Prints `place 1`, `none`, or the line `refused R` of `qm index`. SENDER is a number of 64 bits and SEQUENCE one of 32, in decimal.\n", 3},
+    [SHOW] = {"show", "LOG PLACE", "the entry that begins at a place, and what its datagram says", 0,
+              "Prints `sender 7 tick 99 length 738`, then `small sequence 500 name TILE payload 12`, `fragment 3 of 17 sequence 500 offset 900 data 300 payload 5000`, with\n"
+              "` name TILE` behind fragment 0, or `refused 7`, as the datagram reader says within the log's limits. PLACE is one that `qm find` or `qm index` prints. Of a\n"
+              "name bytes outside 32 to 126 are `\\x` and two hexadecimal digits, and a backslash is two.\n", 2},
     [KEEP] = {"keep", "[--sync] LOG < RECORDS", "appends records to a log as they come, and says of each when it is kept", "--sync",
               "A record is an 8-byte sender, an 8-byte tick and a 2-byte length, big-endian, and the datagram. Once its entry was written to the file, the line\n"
               "`kept N` says that the log has N entries now: they stay when qm is killed at any moment. With --sync the line is `kept N synced`, and they stay\n"
