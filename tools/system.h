@@ -59,7 +59,23 @@ int flock(int file, int how);
 int fcntl(int file, int what, ...);
 int isatty(int file);
 int close(int file);
-enum { TO_READ = 0, TO_READ_AND_WRITE = 2, CREATED = 0100, FOR_ALL_TO_READ = 0644, FROM_END = 2, ALONE = 2, AT_ONCE = 4, PIPE_SIZE = 1031 };
+int rename(const char *from, const char *to);
+int unlink(const char *path);
+int mkdir(const char *path, unsigned mode);
+enum { TO_READ = 0, TO_READ_AND_WRITE = 2, CREATED = 0100, FOR_ALL_TO_READ = 0644, FOR_ALL_TO_ENTER = 0755, FROM_END = 2, ALONE = 2, AT_ONCE = 4, PIPE_SIZE = 1031 };
+
+/* What statx tells of a file; every processor has it in this order. */
+struct facts {
+    unsigned told, block;
+    unsigned long long attributes;
+    unsigned links, user, group;
+    unsigned short mode, nothing;
+    unsigned long long number, length, blocks, known, times[8];
+    unsigned special[2], device[2];
+    unsigned long long more[14];
+};
+int statx(int folder, const char *path, int how, unsigned wanted, struct facts *facts);
+enum { THIS_FOLDER = -100, THE_FILE_ITSELF = 0x1000, BASIC_FACTS = 0x7ff, MODE_KIND = 0170000, PLAIN_FILE = 0100000 };
 
 /* ---- the process: its end, its errors, signals and the time */
 
@@ -67,7 +83,7 @@ _Noreturn void exit(int status);
 _Noreturn void _exit(int status);
 int *__errno_location(void);
 char *strerror(int number);
-enum { INTERRUPTED = 4 };
+enum { INTERRUPTED = 4, ALREADY_THERE = 17 };
 
 void (*signal(int number, void (*handler)(int)))(int);
 unsigned alarm(unsigned seconds);

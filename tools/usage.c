@@ -40,6 +40,14 @@ const struct command commands[COMMANDS] = {
               "Prints `sender 7 tick 99 length 738`, then `small sequence 500 name TILE payload 12`, `fragment 3 of 17 sequence 500 offset 900 data 300 payload 5000`, with\n"
               "` name TILE` behind fragment 0, or `refused 7`, as the datagram reader says within the log's limits. PLACE is one that `qm find` or `qm index` prints. Of a\n"
               "name bytes outside 32 to 126 are `\\x` and two hexadecimal digits, and a backslash is two.\n", 2},
+    [CUT] = {"cut", "[--from-tick A] [--to-tick B] [--from-entry N] [--to-entry M] [--sender S].. [--replace] -o OUT LOG", "a log of some entries of a log", 0,
+             "Writes OUT, a log with the head of LOG and those of its entries that each of the options lets through, as they are: ticks from A to B, the entries N to M, the\n"
+             "first being 1, of the sender S, or of these, where it stands more than once. Prints `entries N` once OUT has them. OUT is OUT.part until it is whole; a file that\n"
+             "is there is left alone, unless --replace says otherwise. Of a log that is not whole the entries before the refused one are taken (status 3).\n", ANY},
+    [JOIN] = {"join", "[--replace] -o OUT LOG..", "one log of all entries of some logs, one after the other", 0,
+              "Writes OUT, with the largest payload limit of the logs. Where some are of edition 1 and others not, OUT is of edition 2, and standard error names them, since its\n"
+              "limits are wider than theirs. Prints `entries N` once OUT has them. One log is one flight: what two flights sent under one key is there taken for copies, so\n"
+              "`qm count LOG..` counts them without joining them. OUT and logs that are not whole as in `qm cut`.\n", ANY},
     [KEEP] = {"keep", "[--sync] LOG < RECORDS", "appends records to a log as they come, and says of each when it is kept", "--sync",
               "A record is an 8-byte sender, an 8-byte tick and a 2-byte length, big-endian, and the datagram. Once its entry was written to the file, the line\n"
               "`kept N` says that the log has N entries now: they stay when qm is killed at any moment. With --sync the line is `kept N synced`, and they stay\n"
