@@ -34,6 +34,7 @@ static int run_any(unsigned i, int words, char **word) {
     switch (i) {
     case GAPS: status = gaps_command(words, word); break;
     case COUNT: status = count_command(words, word); break;
+    case TAKE: status = take_command(words, word); break;
     case CUT: status = cut_command(words, word); break;
     case JOIN: status = join_command(words, word); break;
     default: status = strays_command(words, word);

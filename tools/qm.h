@@ -16,7 +16,7 @@ enum {
 
 /* ---- how it is called */
 
-enum { LIST, REPLAY, GAPS, COUNT, STRAYS, INDEX, FIND, SHOW, CUT, JOIN, KEEP, COMMANDS };
+enum { LIST, REPLAY, GAPS, COUNT, STRAYS, INDEX, FIND, SHOW, TAKE, CUT, JOIN, KEEP, COMMANDS };
 
 /* Options of its own and any number of logs: the command reads its words itself. */
 enum { ANY = -1 };
@@ -101,6 +101,7 @@ int keep_command(const char *path, int synced);
 int gaps_command(int words, char **word);
 int count_command(int words, char **word);
 int strays_command(int words, char **word);
+int take_command(int words, char **word);
 int cut_command(int words, char **word);
 int join_command(int words, char **word);
 

@@ -40,6 +40,13 @@ const struct command commands[COMMANDS] = {
               "Prints `sender 7 tick 99 length 738`, then `small sequence 500 name TILE payload 12`, `fragment 3 of 17 sequence 500 offset 900 data 300 payload 5000`, with\n"
               "` name TILE` behind fragment 0, or `refused 7`, as the datagram reader says within the log's limits. PLACE is one that `qm find` or `qm index` prints. Of a\n"
               "name bytes outside 32 to 126 are `\\x` and two hexadecimal digits, and a backslash is two.\n", 2},
+    [TAKE] = {"take", "[--name] LOG SENDER SEQUENCE > FILE | qm take --all DIR LOG", "the payload of a message, raw; or every payload that a replay delivers, a file each", 0,
+              "Prints the payload of the first message of that key that a replay of the log delivers, over slots of the largest payload. Where the replay delivers none, since\n"
+              "other messages took its slot, the key's entries alone are put together, and standard error says so. Where they do not complete it nothing is printed, and standard\n"
+              "error says which fragments are missing (status 3).\n"
+              "  --name     in place of the payload the name of its channel, as `qm show` prints it\n"
+              "  --all DIR  each delivered payload as the file DIR/SENDER-SEQUENCE, and where a key is delivered again DIR/SENDER-SEQUENCE-2 and so on; a line for each,\n"
+              "             `sender 7 sequence 500 tick 99 payload 1845 file 7-500 name TILE`, then `end N`. DIR is made where it is not there; no file is written over.\n", ANY},
     [CUT] = {"cut", "[--from-tick A] [--to-tick B] [--from-entry N] [--to-entry M] [--sender S].. [--replace] -o OUT LOG", "a log of some entries of a log", 0,
              "Writes OUT, a log with the head of LOG and those of its entries that each of the options lets through, as they are: ticks from A to B, the entries N to M, the\n"
              "first being 1, of the sender S, or of these, where it stands more than once. Prints `entries N` once OUT has them. OUT is OUT.part until it is whole; a file that\n"
