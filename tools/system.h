@@ -46,23 +46,12 @@ int mprotect(void *at, unsigned long length, int allowed);
 int madvise(void *at, unsigned long length, int advice);
 enum { MAY_NOTHING = 0, MAY_READ = 1, MAY_READ_AND_WRITE = 3, OF_A_FILE = 2, OF_NO_FILE = 0x22, IN_ORDER = 2 };
 
-/* ---- files by number */
+/* ---- files by name */
 
-int open(const char *path, int how, ...);
-long read(int file, void *to, unsigned long most);
-long write(int file, const void *from, unsigned long length);
-long pwrite(int file, const void *from, unsigned long length, long at);
-long lseek(int file, long by, int from);
-int ftruncate(int file, long length);
-int fdatasync(int file);
-int flock(int file, int how);
-int fcntl(int file, int what, ...);
-int isatty(int file);
-int close(int file);
 int rename(const char *from, const char *to);
 int unlink(const char *path);
 int mkdir(const char *path, unsigned mode);
-enum { TO_READ = 0, TO_READ_AND_WRITE = 2, CREATED = 0100, FOR_ALL_TO_READ = 0644, FOR_ALL_TO_ENTER = 0755, FROM_END = 2, ALONE = 2, AT_ONCE = 4, PIPE_SIZE = 1031 };
+enum { FOR_ALL_TO_ENTER = 0755 };
 
 /* What statx tells of a file; every processor has it in this order. */
 struct facts {
@@ -77,13 +66,28 @@ struct facts {
 int statx(int folder, const char *path, int how, unsigned wanted, struct facts *facts);
 enum { THIS_FOLDER = -100, THE_FILE_ITSELF = 0x1000, BASIC_FACTS = 0x7ff, MODE_KIND = 0170000, PLAIN_FILE = 0100000 };
 
+/* ---- files by number */
+
+int open(const char *path, int how, ...);
+long read(int file, void *to, unsigned long most);
+long write(int file, const void *from, unsigned long length);
+long pwrite(int file, const void *from, unsigned long length, long at);
+long lseek(int file, long by, int from);
+int ftruncate(int file, long length);
+int fdatasync(int file);
+int flock(int file, int how);
+int fcntl(int file, int what, ...);
+int isatty(int file);
+int close(int file);
+enum { TO_READ = 0, TO_READ_AND_WRITE = 2, CREATED = 0100, FOR_ALL_TO_READ = 0644, FROM_END = 2, ALONE = 2, AT_ONCE = 4, PIPE_SIZE = 1031 };
+
 /* ---- the process: its end, its errors, signals and the time */
 
 _Noreturn void exit(int status);
 _Noreturn void _exit(int status);
 int *__errno_location(void);
 char *strerror(int number);
-enum { INTERRUPTED = 4, ALREADY_THERE = 17 };
+enum { INTERRUPTED = 4, WOULD_WAIT = 11, IS_THERE = 17 };
 
 void (*signal(int number, void (*handler)(int)))(int);
 unsigned alarm(unsigned seconds);

@@ -177,7 +177,7 @@ static int take_all(const struct asked *a, struct mapped log) {
     struct keys keys = {0};
     qm_u64 taken = 0;
     int status = DONE;
-    if (mkdir(a->folder, FOR_ALL_TO_ENTER) != 0 && *__errno_location() != ALREADY_THERE) return failed("take", a->folder);
+    if (mkdir(a->folder, FOR_ALL_TO_ENTER) != 0 && *__errno_location() != IS_THERE) return failed("take", a->folder);
     walk_over(&w, "take", a->log, log);
     receiver_open();
     while (status == DONE && walk_on(&w)) status = take_entry(a, &w, &keys, &taken);
