@@ -36,6 +36,11 @@ static qm_u64 hash_of(const struct walk *w, qm_u64 key) {
     return hash;
 }
 
+qm_u64 hash_of_message(qm_u64 sender, qm_u32 sequence) {
+    qm_u64 key = key_of_run();
+    return times(times(times((sender >> 32) + 1, key) + (qm_u32) sender, key) + sequence, key);
+}
+
 /* Whether the entry at a place has sender and bytes of the one at hand. */
 static int is_copy(const struct walk *w, qm_size place) {
     qm_u64 other[QM_ENTRY];

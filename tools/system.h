@@ -46,6 +46,26 @@ int mprotect(void *at, unsigned long length, int allowed);
 int madvise(void *at, unsigned long length, int advice);
 enum { MAY_NOTHING = 0, MAY_READ = 1, MAY_READ_AND_WRITE = 3, OF_A_FILE = 2, OF_NO_FILE = 0x22, IN_ORDER = 2 };
 
+/* ---- files by name */
+
+int rename(const char *from, const char *to);
+int unlink(const char *path);
+int mkdir(const char *path, unsigned mode);
+enum { FOR_ALL_TO_ENTER = 0755 };
+
+/* What statx tells of a file; every processor has it in this order. */
+struct facts {
+    unsigned told, block;
+    unsigned long long attributes;
+    unsigned links, user, group;
+    unsigned short mode, nothing;
+    unsigned long long number, length, blocks, known, times[8];
+    unsigned special[2], device[2];
+    unsigned long long more[14];
+};
+int statx(int folder, const char *path, int how, unsigned wanted, struct facts *facts);
+enum { THIS_FOLDER = -100, THE_FILE_ITSELF = 0x1000, BASIC_FACTS = 0x7ff, MODE_KIND = 0170000, PLAIN_FILE = 0100000 };
+
 /* ---- files by number */
 
 int open(const char *path, int how, ...);
@@ -67,7 +87,7 @@ _Noreturn void exit(int status);
 _Noreturn void _exit(int status);
 int *__errno_location(void);
 char *strerror(int number);
-enum { INTERRUPTED = 4 };
+enum { INTERRUPTED = 4, WOULD_WAIT = 11, IS_THERE = 17 };
 
 void (*signal(int number, void (*handler)(int)))(int);
 unsigned alarm(unsigned seconds);
