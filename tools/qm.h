@@ -93,9 +93,9 @@ int replay_command(const char *path, int large);
 int gaps_command(const char *path);
 int index_command(const char *path);
 int find_command(const char *path, qm_u64 sender, qm_u64 sequence);
-int keep_command(const char *path, int synced);
 /* these read the words of the command line themselves, and say which is wrong */
 int count_command(int words, char **word);
 int strays_command(int words, char **word);
+int keep_command(int words, char **word);
 
 #endif
