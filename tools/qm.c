@@ -21,7 +21,6 @@ static int run(unsigned i, int option, char **word) {
     case REPLAY: return replay_command(word[0], option);
     case INDEX: return index_command(word[0]);
     case SHOW: return is_number(word[1], ~0ull, &place) ? show_command(word[0], place) : command_usage(stderr, i, USAGE);
-    case KEEP: return keep_command(word[0], option);
     default:
         if (is_number(word[1], ~0ull, &sender) && is_number(word[2], 4294967295, &sequence)) return find_command(word[0], sender, sequence);
         return command_usage(stderr, i, USAGE);
@@ -37,6 +36,7 @@ static int run_any(unsigned i, int words, char **word) {
     case TAKE: status = take_command(words, word); break;
     case CUT: status = cut_command(words, word); break;
     case JOIN: status = join_command(words, word); break;
+    case KEEP: status = keep_command(words, word); break;
     default: status = strays_command(words, word);
     }
     return status == USAGE ? command_usage(stderr, i, USAGE) : status;

@@ -96,7 +96,6 @@ int replay_command(const char *path, int large);
 int index_command(const char *path);
 int find_command(const char *path, qm_u64 sender, qm_u64 sequence);
 int show_command(const char *path, qm_u64 place);
-int keep_command(const char *path, int synced);
 /* these read the words of the command line themselves, and say which is wrong */
 int gaps_command(int words, char **word);
 int count_command(int words, char **word);
@@ -104,5 +103,6 @@ int strays_command(int words, char **word);
 int take_command(int words, char **word);
 int cut_command(int words, char **word);
 int join_command(int words, char **word);
+int keep_command(int words, char **word);
 
 #endif

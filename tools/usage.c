@@ -55,11 +55,20 @@ const struct command commands[COMMANDS] = {
               "Writes OUT, with the largest payload limit of the logs. Where some are of edition 1 and others not, OUT is of edition 2, and standard error names them, since its\n"
               "limits are wider than theirs. Prints `entries N` once OUT has them. One log is one flight: what two flights sent under one key is there taken for copies, so\n"
               "`qm count LOG..` counts them without joining them. OUT and logs that are not whole as in `qm cut`.\n", ANY},
-    [KEEP] = {"keep", "[--sync] LOG < RECORDS", "appends records to a log as they come, and says of each when it is kept", "--sync",
+    [KEEP] = {"keep", "[--sync] [--quiet] [--repair] [--new] [--every 3600s|500MB] LOG < RECORDS", "appends records to a log as they come, and says of each when it is kept", 0,
               "A record is an 8-byte sender, an 8-byte tick and a 2-byte length, big-endian, and the datagram. Once its entry was written to the file, the line\n"
-              "`kept N` says that the log has N entries now: they stay when qm is killed at any moment. With --sync the line is `kept N synced`, and they stay\n"
-              "when the machine stops too. A log that is not there is begun, of edition 2 with the limit 1,048,576. One that ends inside an entry, since its writing\n"
-              "was cut off, goes on after its last whole entry, and standard error says so. Only one qm keep writes to a log at a time.\n", 1},
+              "`kept N` says that the log has N entries now: they stay when qm is killed at any moment. A log that is not there is begun, of edition 2 with the\n"
+              "limit 1,048,576. One that ends inside an entry, since its writing was cut off, goes on after its last whole entry; the bytes of the cut one go into\n"
+              "a file LOG.cut-1, -2 and so on, and standard error says so. Only one qm keep writes to a log at a time. SIGINT and SIGTERM end it after the record in\n"
+              "hand; where nobody takes its lines any more it keeps on without them, and its status is 1.\n"
+              "  --sync    asks the disk before each line, `kept N synced`: then they stay when the machine stops too\n"
+              "  --quiet   no line for each record\n"
+              "  --repair  also a log that is refused otherwise, that has more bytes behind its last whole entry than one entry can have, or that may never have been\n"
+              "            a log, goes on: what is refused goes into LOG.cut-1. Without it such a file stays as it is\n"
+              "  --new     begins a log under the next number: of FLIGHT.log FLIGHT-0001.log, FLIGHT-0002.log and so on. The line `log FLIGHT-0002.log` says which\n"
+              "  --every 3600s, --every 500MB\n"
+              "            goes on in the last of these, or the first, and begins the next one at the first record after so many seconds, or before it has more\n"
+              "            than so many million bytes\n", ANY},
 };
 
 static const char statuses[] = "Status: 0 done, 1 a file or the output failed, 2 called otherwise, 3 the log is refused.\n";
