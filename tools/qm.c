@@ -21,6 +21,7 @@ static int run(unsigned i, int option, char **word) {
     case REPLAY: return replay_command(word[0], option);
     case GAPS: return gaps_command(word[0]);
     case INDEX: return index_command(word[0]);
+    case CHECK: return check_command(word[0]);
     default:
         if (is_number(word[1], ~0ull, &sender) && is_number(word[2], 4294967295, &sequence)) return find_command(word[0], sender, sequence);
         return command_usage(stderr, i, USAGE);
@@ -29,7 +30,12 @@ static int run(unsigned i, int option, char **word) {
 
 /* A command that reads its words itself has said which is wrong. */
 static int run_any(unsigned i, int words, char **word) {
-    int status = i == COUNT ? count_command(words, word) : i == STRAYS ? strays_command(words, word) : keep_command(words, word);
+    int status;
+    switch (i) {
+    case COUNT: status = count_command(words, word); break;
+    case KEEP: status = keep_command(words, word); break;
+    default: status = strays_command(words, word);
+    }
     return status == USAGE ? command_usage(stderr, i, USAGE) : status;
 }
 
