@@ -21,6 +21,7 @@ static int run(unsigned i, int option, char **word) {
     case REPLAY: return replay_command(word[0], option);
     case INDEX: return index_command(word[0]);
     case SHOW: return is_number(word[1], ~0ull, &place) ? show_command(word[0], place) : command_usage(stderr, i, USAGE);
+    case CHECK: return check_command(word[0]);
     default:
         if (is_number(word[1], ~0ull, &sender) && is_number(word[2], 4294967295, &sequence)) return find_command(word[0], sender, sequence);
         return command_usage(stderr, i, USAGE);

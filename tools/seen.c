@@ -87,3 +87,9 @@ void seen_close(struct seen *s) {
     free(s->rows);
     *s = (struct seen) {0};
 }
+
+qm_u64 hash_of_bytes(const qm_byte *bytes, qm_size length) {
+    qm_u64 key = key_of_run(), hash = length + 1;
+    for (qm_size i = 0; i < length; i++) hash = times(hash + bytes[i], key);
+    return hash;
+}

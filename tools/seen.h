@@ -28,4 +28,7 @@ void seen_close(struct seen *s);
 /* Notes the datagram of the entry at hand. Answers whether it is the first of its sender with these bytes; SEEN_FAILED where there is no memory. */
 int seen_note(struct seen *s, const struct walk *w);
 
+/* A hash of a few bytes, by the key of the run. */
+qm_u64 hash_of_bytes(const qm_byte *bytes, qm_size length);
+
 #endif

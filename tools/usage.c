@@ -69,6 +69,12 @@ const struct command commands[COMMANDS] = {
               "  --every 3600s, --every 500MB\n"
               "            goes on in the last of these, or the first, and begins the next one at the first record after so many seconds, or before it has more\n"
               "            than so many million bytes\n", ANY},
+    [CHECK] = {"check", "LOG", "is a log whole, who is in it, on which channels, and what was refused", 0,
+               "Prints `whole`, or `refused R after N`; then of the N entries: `entries N`, `bytes B` of their datagrams, `limit L`, the largest payload that the log takes,\n"
+               "`first T last U`, the ticks of its first and its last entry; `sender 7 datagrams 12 bytes 9000 first T last U` for each sender, rising; for each channel, by\n"
+               "its name, `channel messages 12 bytes 8000 first T last U rate 1.250 name TILE`: the messages that a fresh receiver delivers, and how many of them come\n"
+               "in 1,000 ticks, a second where ticks are milliseconds (0 where fragments came and no message was completed); and `refused 7 datagrams 3, MEANING` for each\n"
+               "number by which the receiver has refused datagrams.\n", 1},
 };
 
 static const char statuses[] = "Status: 0 done, 1 a file or the output failed, 2 called otherwise, 3 the log is refused.\n";
