@@ -2,7 +2,7 @@
 use mathlib.Core.Path.{_≡_, refl, sym, ap, _∙_, subst}
 use mathlib.Core.Logic.{inl, inr}
 use mathlib.Core.Bool.{Bool, true, false}
-use mathlib.Core.Option.{some, Option·map}
+use mathlib.Core.Option.{none, some, Option·map}
 use mathlib.Core.List.{List, [], _∷_, _++_, map, append-assoc}
 use Prim.Native.Nat.{ℕ, _+_, _-_, _≤_}
 use native.Mathlib.Omega.{arith}
@@ -24,16 +24,22 @@ use Rattle.count_rules.specs.Marks.{PitList, listIn}
 use Rattle.count_rules.specs.Report.{tiles, Line, line, report}
 use Rattle.count_rules.specs.Run.{isRefused, howMany, refusals, refusedIn, listsRead}
 use Rattle.count_rules.specs.Count.{maxTiles, maxPits, pitsInAll, tooLong, fault, firstFault, Report, reportOf, Outcome, reported, noReport, answersTo, countLog}
+use Rattle.season.specs.Losses.{cameWhole}
 use Rattle.count_rules.specs.Walk.{seenAfter}
 use Rattle.count_rules.proofs.Seen.{seen-report}
 use Rattle.count_rules.specs.Promise.{payloadsOf, Shown, shownOf, shown}
 use Rattle.count_rules.proofs.Shows.{shown-promise}
+use Rattle.count.specs.declared.Answer.the-variants.{Given, Refused}
 use Rattle.count.specs.declared.Counted.{Counted}
 use Rattle.count.specs.Counts.{counted, given, zeros, columnOf, Loan, Counts}
 use Rattle.host_count.specs.Numbers.{reportLength, numbersOf}
 use Rattle.host_count.specs.Told.{codeOf, reportLeft, short}
-use Rattle.count_laws.specs.Calls.{Kept, LentFor, Columns, columns, CodeCount, toldIn, HostCount}
-use Rattle.count_laws.proofs.Shown.{Given, given-by, zero-given}
+use Rattle.count_laws.specs.Calls.{Kept, LentFor, columns, CodeCount, columnsOf, CodeLoss, GivenFrom, CodeEvery, toldIn, HostCount}
+use Rattle.count_laws.specs.Losses.{shownFrom}
+use Rattle.count_laws.proofs.Shown as shows
+use Rattle.count_laws.proofs.Shown.{given-by, zero-given}
+use Rattle.count_laws.proofs.Losses.{loss-promise}
+use Rattle.count_laws.proofs.Every.{only-delivered}
 
 -- ---- both are counted or both refused
 
@@ -46,16 +52,6 @@ lent-count σ room l t log = λ i. countLog (t .list i) (t .store i) (t .ledger 
 
 -- ---- `count_log`
 
-abbrev columnsOf : Shown → Columns
-columnsOf s = record {
-  delivered = s .delivered;
-  lists = s .lists;
-  tiles = length (s .lines);
-  tile = columnOf (λ x. x .tile) (s .lines);
-  pits = columnOf (λ x. x .pits) (s .lines);
-  sure = columnOf (λ x. x .sure) (s .lines);
-}
-
 columns-shown : (o : Outcome) → columns (counted o) ≡ Option·map columnsOf (shown o)
 columns-shown (reported r) = refl
 columns-shown (noReport n) = refl
@@ -67,6 +63,23 @@ columns-of σ room log l l₁ r t c =
 pub code-count : CodeCount
 code-count σ f log τ g log′ k h e room l l₁ m m₁ r s t u c d =
     columns-of σ room log l l₁ r t c ∙ (ap (Option·map columnsOf) (same-shown σ f log τ g log′ k h e room) ∙ sym (columns-of τ room log′ m m₁ s u d))
+
+map-picked : (b : Bool) (s : Shown) → Option·map columnsOf (pick b (some s) none) ≡ pick b (some (columnsOf s)) none
+map-picked true s = refl
+map-picked false s = refl
+
+pub code-loss : CodeLoss
+code-loss σ f log s k few room l l₁ r t c =
+    columns-of σ room log l l₁ r t c
+    ∙ (ap (Option·map columnsOf) (loss-promise σ f log s k few room) ∙ map-picked (eqb (firstFault room [] (cameWhole σ f)) 0) (shownFrom (cameWhole σ f)))
+
+pub code-every : CodeEvery
+code-every log l l₁ r c e = go (c .outcome) (c .says .gave) (c .gave)
+  where
+    go : (o : Outcome) → o ≡ countLog (length (l .list)) (l .store) (l .ledger) log → r ≡ counted o → GivenFrom log l (r .report)
+    go (reported x) p q =
+        record { report = x; is = ap (λ (z : Counted). z .report) q; from-delivered = only-delivered (length (l .list)) (l .store) (l .ledger) log x (sym p) }
+    go (noReport n) p q = absurd (let y : Given ≡ Refused n = sym e ∙ ap (λ (z : Counted). z .answer) q in let z : _≡_ {A = ℕ} 0 1 = cc in let x : ⊥ = omega arith in x)
 
 -- ---- a report has at most 256 lines
 
@@ -169,7 +182,7 @@ ten-of rs = length-build refusals (λ k. howMany (isRefused k) rs)
 
 -- what a call that answers 0 tells
 module _ (σ : Scene) (f : Feed) (log : List ℕ) (k : Kept σ f log) (room : ℕ) (r : Report) (q : countLog room (σ .store) (σ .ledger) log ≡ reported r) where
-  its : Given (σ .store) (σ .ledger) log (k .log-of .entries) (k .log-of .reads) room r
+  its : shows.Given (σ .store) (σ .ledger) log (k .log-of .entries) (k .log-of .reads) room r
   its = given-by (σ .store) (σ .ledger) log (k .log-of .entries) (k .log-of .reads) room r q
 
   its-few : length (r .lines) ≤ maxTiles
