@@ -38,6 +38,7 @@ static int run_any(unsigned i, int words, char **word) {
     case CUT: status = cut_command(words, word); break;
     case JOIN: status = join_command(words, word); break;
     case KEEP: status = keep_command(words, word); break;
+    case IMPORT: status = import_command(words, word); break;
     default: status = strays_command(words, word);
     }
     return status == USAGE ? command_usage(stderr, i, USAGE) : status;

@@ -75,6 +75,13 @@ const struct command commands[COMMANDS] = {
                "its name, `channel messages 12 bytes 8000 first T last U rate 1.250 name TILE`: the messages that a fresh receiver delivers, and how many of them come\n"
                "in 1,000 ticks, a second where ticks are milliseconds (0 where fragments came and no message was completed); and `refused 7 datagrams 3, MEANING` for each\n"
                "number by which the receiver has refused datagrams.\n", 1},
+    [IMPORT] = {"import", "[--port N] [--replace] -o LOG CAPTURE", "a log of the datagrams that tcpdump has captured", 0,
+                "CAPTURE is a file of tcpdump, Wireshark or dumpcap, pcap or pcapng: Ethernet, Linux cooked (the interface `any`) or bare IP, IPv4 and IPv6. Each UDP datagram to\n"
+                "the port, 7667 where --port says no other, is an entry of LOG; its tick is the time of its capture, in milliseconds since 1970. Pieces of IP datagrams are put\n"
+                "together; the entry is that of the last piece. Its sender is a number made of address and port. Prints `packets P`, `imported N`, `other O` that are none such,\n"
+                "`pieces Q` that found no whole, `cut C` that were captured in part, `broken B` whose lengths do not fit, and for each sender\n"
+                "`sender 3232235527500 datagrams 12 bytes 9000 first T last U port 7667 address 10.0.0.7`. LOG is LOG.part until it is whole; a file that is there is left alone,\n"
+                "unless --replace says otherwise. A capture that was cut off is imported up to there (status 3).\n", ANY},
 };
 
 static const char statuses[] = "Status: 0 done, 1 a file or the output failed, 2 called otherwise, 3 the log is refused.\n";
