@@ -30,6 +30,8 @@ extern const struct command commands[COMMANDS];
 /* Writes how qm, or that command of it, is called; with DONE also what it does. Answers the status given. */
 int usage(FILE *to, int status);
 int command_usage(FILE *to, unsigned i, int status);
+/* Which qm this is. Answers the status. */
+int version(void);
 
 /* ---- files */
 
@@ -94,12 +96,12 @@ int is_number(const char *text, qm_u64 most, qm_u64 *number);
 /* ---- the commands: each prints what it has to say and answers the status */
 
 int list_command(const char *path);
-int replay_command(const char *path, int large);
 int index_command(const char *path);
 int check_command(const char *path);
 int find_command(const char *path, qm_u64 sender, qm_u64 sequence);
 int show_command(const char *path, qm_u64 place);
 /* these read the words of the command line themselves, and say which is wrong */
+int replay_command(int words, char **word);
 int gaps_command(int words, char **word);
 int count_command(int words, char **word);
 int strays_command(int words, char **word);

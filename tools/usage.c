@@ -5,10 +5,10 @@
 const struct command commands[COMMANDS] = {
     [LIST] = {"list", "LOG", "a line an entry: its sender, its arrival tick and its datagram's length", 0,
               "Prints `1 sender 7 tick 99 length 23` for each entry, then `end N`; or `refused R after N`, the N entries before it being printed.\n", 1},
-    [REPLAY] = {"replay", "[--large] LOG", "a line an entry: what a fresh receiver answers to its datagram", "--large",
+    [REPLAY] = {"replay", "[--store BYTES] LOG", "a line an entry: what a fresh receiver answers to its datagram", 0,
                 "Prints `1 kept`, `2 repeat`, `3 delivered 1845` or `4 refused 8` for each entry, with ` emptied SENDER SEQUENCE` where a message was given up for\n"
-                "another, then `end N` or `refused R after N`. The log's limits bind. The receiver's store has 2,097,152 bytes, as that of the program replay_log,\n"
-                "whose lines these are; with --large it has slots of the largest payload that there is, as `qm count` has.\n", 1},
+                "another, then `end N` or `refused R after N`. The log's limits bind. The receiver has eight slots of the largest payload that there is, as that of `qm count`.\n"
+                "  --store BYTES  slots of an eighth of so many bytes, 8,388,608 at most: with 2,097,152 the lines are those of the program replay_log\n", ANY},
     [GAPS] = {"gaps", "[--missing | --acks SENDER] LOG", "a line an entry: what the sequence watch notes of its sender's number; or the numbers that never came", 0,
               "Prints `1 first`, `2 forward 3` (so many numbers are missing before it), `3 same`, `4 late 2`, `5 restarted 7` or `6 refused 4` for each entry,\n"
               "then `end N` or `refused R after N`. The watch has room for 16 senders; those of a 17th are `refused 14`.\n"
@@ -89,8 +89,13 @@ static const char statuses[] = "Status: 0 done, 1 a file or the output failed, 2
 int usage(FILE *to, int status) {
     fprintf(to, "usage: qm COMMAND LOG\n");
     for (unsigned i = 0; i < COMMANDS; i++) fprintf(to, "  qm %s %s\n      %s\n", commands[i].name, commands[i].takes, commands[i].does);
-    fprintf(to, "`qm COMMAND --help` says more. %s", statuses);
+    fprintf(to, "`qm COMMAND --help` says more; qm --version. %s", statuses);
     return status;
+}
+
+int version(void) {
+    printf("qm " QM_VERSION_TEXT "\n");
+    return printed("--version");
 }
 
 int command_usage(FILE *to, unsigned i, int status) {
