@@ -22,6 +22,10 @@
 extern "C" {
 #endif
 
+/* Which header this is. */
+#define QM_VERSION 100
+#define QM_VERSION_TEXT "1.0"
+
 typedef unsigned char qm_byte;
 typedef unsigned int qm_u32;
 typedef unsigned long long qm_u64;
