@@ -16,7 +16,7 @@ enum {
 
 /* ---- how it is called */
 
-enum { LIST, REPLAY, GAPS, COUNT, STRAYS, INDEX, FIND, KEEP, COMMANDS };
+enum { LIST, REPLAY, GAPS, COUNT, PITS, STRAYS, INDEX, FIND, KEEP, COMMANDS };
 
 /* Options of its own and any number of logs: the command reads its words itself. */
 enum { ANY = -1 };
@@ -96,6 +96,7 @@ int find_command(const char *path, qm_u64 sender, qm_u64 sequence);
 int keep_command(const char *path, int synced);
 /* these read the words of the command line themselves, and say which is wrong */
 int count_command(int words, char **word);
+int pits_command(int words, char **word);
 int strays_command(int words, char **word);
 
 #endif

@@ -44,8 +44,31 @@ void totals_add(struct totals *sum, const struct totals *more) {
     for (unsigned n = 0; n < QM_REFUSALS; n++) sum->refused[n] += more->refused[n];
 }
 
+/* The tiles of all flights, and of each how many pits it has, and how many of them are sure. */
+static qm_u64 tile[SEASON_TILES], tile_pits[SEASON_TILES], tile_sure[SEASON_TILES];
+
+static void tell_tiles(void) {
+    qm_count_lines(tile, SEASON_TILES, tile_pits, SEASON_TILES, tile_sure, SEASON_TILES, tiles, SEASON_TILES, pits, SEASON_PITS, sure, SEASON_PITS, has_tiles, has_pits, has_sure);
+}
+
 void season_print(void) {
-    static qm_u64 tile[SEASON_TILES], pit[SEASON_TILES], certain[SEASON_TILES];
-    qm_count_lines(tile, SEASON_TILES, pit, SEASON_TILES, certain, SEASON_TILES, tiles, SEASON_TILES, pits, SEASON_PITS, sure, SEASON_PITS, has_tiles, has_pits, has_sure);
-    for (qm_size i = 0; i < has_tiles; i++) printf("tile %llu pits %llu sure %llu\n", tile[i], pit[i], certain[i]);
+    tell_tiles();
+    for (qm_size i = 0; i < has_tiles; i++) printf("tile %llu pits %llu sure %llu\n", tile[i], tile_pits[i], tile_sure[i]);
+}
+
+int season_next(struct season_pits *p) {
+    static qm_u64 number[SEASON_PITS], certain[SEASON_PITS];
+    qm_u64 told = 0;
+    if (p->tiles == 0) tell_tiles();
+    if (p->tiles == has_tiles) return 0;
+    /* the sets rise by tile, so that a tile's own part of them is all that has to be looked at */
+    qm_size i = p->tiles++, many = tile_pits[i], many_sure = tile_sure[i];
+    qm_pits(tile[i], pits + p->before, many, sure + p->before_sure, many_sure, many, many_sure, number, SEASON_PITS, certain, SEASON_PITS, &told, 1);
+    p->before += many;
+    p->before_sure += many_sure;
+    p->tile = tile[i];
+    p->pit = number;
+    p->sure = certain;
+    p->many = told;
+    return 1;
 }

@@ -24,4 +24,15 @@ void totals_add(struct totals *sum, const struct totals *more);
 /* A line a tile of all flights, rising. */
 void season_print(void);
 
+/* The pits of the tiles of all flights, tile by tile, rising, and of each whether it is sure. Zeros are a beginning. */
+struct season_pits {
+    qm_u64 tile;
+    const qm_u64 *pit, *sure;
+    qm_size many;
+    qm_size tiles, before, before_sure;   /* how many tiles were told, and how many pits and sure pits they have */
+};
+
+/* Whether there is one more tile; it is then the one told. */
+int season_next(struct season_pits *p);
+
 #endif

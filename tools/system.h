@@ -24,6 +24,7 @@ enum { WHOLE_BUFFERS = 0 };
 
 int strcmp(const char *a, const char *b);
 char *strchr(const char *text, int byte);
+unsigned long strcspn(const char *text, const char *bytes);
 unsigned long strlen(const char *text);
 long atol(const char *text);
 
