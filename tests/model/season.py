@@ -29,6 +29,9 @@ class Season:
                 self.pits += 1
             known[pit] = known.get(pit, False) or sure == 1
 
+    def listed(self, payload, sender, tick, datagram):
+        """A list was entered: of this payload, completed by this entry."""
+
     def fly(self, log, only=None, forgets=()):
         """One flight through a fresh receiver. Its strays, each as sender, entry, tick and sequence."""
         receiver, seen, strays = Receiver(STORE, *limits_in(log)), set(), []
@@ -45,6 +48,7 @@ class Season:
             if found is not None:
                 self.enter(*found)
                 self.lists[sender] = self.lists.get(sender, 0) + 1
+                self.listed(receiver.payload, sender, tick, datagram)
             if answer == "repeat" and (sender, datagram) not in seen:
                 strays.append((sender, i, tick, read(datagram, MAX_PAYLOAD)["sequence"]))
             seen.add((sender, datagram))
