@@ -49,7 +49,7 @@ static int read_words(struct asked *a, int words, char **word) {
 
 /* ---- the marks */
 
-/* The list that the entry at hand brought: its marks are printed, or noted for their pits. Answers whether there was room. */
+/* The list that the entry at hand brought: its marks are printed, or noted for their pits. Answers whether these were counted. */
 static int take_list(const struct asked *a, struct last *last, const struct walk *w, const struct listed *l, unsigned log) {
     for (qm_size i = 0; i < l->many; i++) {
         struct mark m = mark_of(w, l, i);
@@ -74,30 +74,28 @@ static int take_flight(const struct asked *a, struct last *last, const struct lo
 
 /* ---- the pits */
 
-/* A pit by its last mark; sure where any mark says so. */
-static int print_pit(const struct asked *a, const struct last *last, qm_u64 tile, qm_u64 pit, int sure) {
-    const struct last_row *row = last_of(last, tile, pit);
-    if (!row) return 0;
-    struct mark m = row->mark;
-    m.sure = sure;
-    a->form->pit(&m, row->marks, a->log[m.log]);
-    return 1;
-}
-
-/* What was counted and what was read are of the same lists, so that this does not come. */
+/* What was counted and what is read are of the same lists, so that this does not come. */
 static int differs(void) {
     fprintf(stderr, "qm pits: the logs were changed while they were read\n");
     return FAILED;
 }
 
+/* A pit by its last mark; sure where any mark says so. Answers whether the mark is of this pit. */
+static int print_pit(const struct asked *a, const struct last_row *row, const struct season_tile *t, qm_size i) {
+    struct mark m = row->mark;
+    m.sure = t->sure[i] != 0;
+    a->form->pit(&m, row->marks, a->log[m.log]);
+    return m.tile == t->tile && m.pit == t->pit[i] && row->marks > 0;
+}
+
 static int print_pits(const struct asked *a, const struct last *last) {
-    struct season_pits p = {0};
+    struct season_tile t = {0};
+    int good = 1;
     a->form->begin();
-    while (season_next(&p))
-        for (qm_size i = 0; i < p.many; i++)
-            if (!print_pit(a, last, p.tile, p.pit[i], p.sure[i] != 0)) return differs();
+    while (good && season_next(&t))
+        for (qm_size i = 0; good && i < t.many; i++) good = print_pit(a, &last->rows[t.first + i], &t, i);
     a->form->end();
-    return DONE;
+    return good ? DONE : differs();
 }
 
 static int print_marks(const struct asked *a, const struct logs *logs, struct last *last) {

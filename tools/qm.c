@@ -30,7 +30,12 @@ static int run(unsigned i, int option, char **word) {
 
 /* A command that reads its words itself has said which is wrong. */
 static int run_any(unsigned i, int words, char **word) {
-    int status = i == COUNT ? count_command(words, word) : i == PITS ? pits_command(words, word) : strays_command(words, word);
+    int status;
+    switch (i) {
+    case COUNT: status = count_command(words, word); break;
+    case PITS: status = pits_command(words, word); break;
+    default: status = strays_command(words, word);
+    }
     return status == USAGE ? command_usage(stderr, i, USAGE) : status;
 }
 

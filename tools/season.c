@@ -56,19 +56,34 @@ void season_print(void) {
     for (qm_size i = 0; i < has_tiles; i++) printf("tile %llu pits %llu sure %llu\n", tile[i], tile_pits[i], tile_sure[i]);
 }
 
-int season_next(struct season_pits *p) {
+qm_size season_pits(void) {
+    return has_pits;
+}
+
+/* The sets rise, and a pit is kept in them under its tile: by halving. */
+qm_size season_find(qm_u64 tile, qm_u64 pit) {
+    qm_u64 number = tile << 32 | pit;
+    qm_size low = 0, high = has_pits;
+    while (low < high) {
+        qm_size middle = low + (high - low) / 2;
+        if (pits[middle] < number) low = middle + 1;
+        else high = middle;
+    }
+    return low < has_pits && pits[low] == number ? low : has_pits;
+}
+
+int season_next(struct season_tile *t) {
     static qm_u64 number[SEASON_PITS], certain[SEASON_PITS];
-    qm_u64 told = 0;
-    if (p->tiles == 0) tell_tiles();
-    if (p->tiles == has_tiles) return 0;
-    /* the sets rise by tile, so that a tile's own part of them is all that has to be looked at */
-    qm_size i = p->tiles++, many = tile_pits[i], many_sure = tile_sure[i];
-    qm_pits(tile[i], pits + p->before, many, sure + p->before_sure, many_sure, many, many_sure, number, SEASON_PITS, certain, SEASON_PITS, &told, 1);
-    p->before += many;
-    p->before_sure += many_sure;
-    p->tile = tile[i];
-    p->pit = number;
-    p->sure = certain;
-    p->many = told;
+    if (t->told == 0) tell_tiles();
+    if (t->told == has_tiles) return 0;
+    qm_size i = t->told++;
+    t->first += t->many;
+    t->first_sure += t->many_sure;
+    t->tile = tile[i];
+    t->pit = number;
+    t->sure = certain;
+    t->many_sure = tile_sure[i];
+    /* a tile's pits stand together, so that its own part of the sets is all that has to be looked at */
+    qm_pits(tile[i], pits + t->first, tile_pits[i], sure + t->first_sure, tile_sure[i], tile_pits[i], tile_sure[i], number, SEASON_PITS, certain, SEASON_PITS, &t->many, 1);
     return 1;
 }

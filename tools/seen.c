@@ -1,24 +1,38 @@
 /* Which datagrams a log has had of each sender. */
 
 #include "seen.h"
-#include "hash.h"
 
-enum { FIRST_ROOM = 1 << 12, CHUNK = 7 };
+enum { FIRST_ROOM = 1 << 12, RANDOM_BYTES = 25, CHUNK = 7 };
 
-/* The hash takes seven bytes of a datagram at a time. */
-static const qm_u64 first_bytes = (1ull << 8 * CHUNK) - 1;
+/* The numbers of the hash are those modulo this prime; it takes seven bytes of a datagram at a time. */
+static const qm_u64 prime = (1ull << 61) - 1, first_bytes = (1ull << 8 * CHUNK) - 1;
+
+/* The system gives each run of a program random bytes. */
+static qm_u64 key_of_run(void) {
+    static qm_u64 key;
+    const void *random = (const void *) getauxval(RANDOM_BYTES);
+    if (key == 0 && random) __builtin_memcpy(&key, random, sizeof key);
+    key &= prime;
+    return key > 1 ? key : prime - 2;
+}
+
+static qm_u64 times(qm_u64 a, qm_u64 b) {
+    unsigned __int128 product = (unsigned __int128) a * b;
+    qm_u64 sum = (qm_u64) (product & prime) + (qm_u64) (product >> 61);
+    return sum >= prime ? sum - prime : sum;
+}
 
 /* A polynomial in the key, whose coefficients are sender, length and bytes: two datagrams of one hash are one chance in 2^47. */
 static qm_u64 hash_of(const struct walk *w, qm_u64 key) {
     const qm_byte *at = walk_datagram(w);
     qm_size left = w->entry[QM_ENTRY_LENGTH];
-    qm_u64 hash = hash_times(hash_times(hash_times(left + 1, key) + (w->entry[QM_SENDER] >> 32), key) + (qm_u32) w->entry[QM_SENDER], key);
+    qm_u64 hash = times(times(times(left + 1, key) + (w->entry[QM_SENDER] >> 32), key) + (qm_u32) w->entry[QM_SENDER], key);
     for (; left > CHUNK; at += CHUNK, left -= CHUNK) {
         qm_u64 chunk;
         __builtin_memcpy(&chunk, at, sizeof chunk);
-        hash = hash_times(hash + (chunk & first_bytes), key);
+        hash = times(hash + (chunk & first_bytes), key);
     }
-    for (; left > 0; at++, left--) hash = hash_times(hash + *at, key);
+    for (; left > 0; at++, left--) hash = times(hash + *at, key);
     return hash;
 }
 
@@ -39,7 +53,7 @@ static qm_size row_of(const struct seen *s, qm_u64 hash, qm_size from) {
 
 /* At most half of the rows are in use. */
 static int grow(struct seen *s) {
-    struct seen wider = {.room = s->room ? 2 * s->room : FIRST_ROOM, .used = s->used, .key = hash_key()};
+    struct seen wider = {.room = s->room ? 2 * s->room : FIRST_ROOM, .used = s->used, .key = key_of_run()};
     wider.rows = calloc(wider.room, sizeof *wider.rows);
     if (!wider.rows) return 0;
     for (qm_size i = 0; i < s->room; i++) {

@@ -107,12 +107,29 @@ def survey():
     return {tile: [(1000 * tile + k, r.random() < 0.6) for k in range(r.randrange(3, 14))] for tile in range(400, 418)}
 
 
+TILE_EAST, TILE_NORTH, COLUMNS = 120, 90, 6  # metres of a tile, and how many lie in a row
+CORNER = 519876543, -23456  # the south-west corner of the first row, in ten-millionths of a degree
+METRE_NORTH, METRE_EAST = 89.932, 146.03  # ten-millionths of a degree, at this latitude
+ASTRAY = 409001  # the partner's camera has this pit 70 metres off
+
+
+def where(sender, pit):
+    """Where a camera sees a pit: on its tile, within a few metres. Every fifth one has no place."""
+    if pit % 5 == 3:
+        return None
+    r, seen = random.Random(pit), random.Random(f"{sender} {pit}")
+    row, column = divmod(pit // 1000 - 400, COLUMNS)
+    east = TILE_EAST * (column + r.uniform(0.06, 0.94)) + seen.gauss(0, 1.5) + 70 * ((sender, pit) == (PARTNER, ASTRAY))
+    north = TILE_NORTH * (2 - row + r.uniform(0.06, 0.94)) + seen.gauss(0, 1.5)
+    return round(CORNER[0] + METRE_NORTH * north), round(CORNER[1] + METRE_EAST * east), 64 + round(north / 40) + seen.randrange(2)
+
+
 def flown(r, sender, tiles, first, version=1, seen=1.0):
     """The datagrams of one camera over some tiles, numbered from the first, each tile's in any order and some of them late once more."""
     out, pits = [], survey()
     for i, tile in enumerate(tiles):
         marks = [(pit, sure and r.random() < 0.8) for pit, sure in pits[tile] if r.random() < seen]
-        sent = [(sender, d) for d in cut(first + i, b"TILE", pits_message(tile, marks, version), 300)]
+        sent = [(sender, d) for d in cut(first + i, b"TILE", pits_message(tile, marks, version, place=lambda pit: where(sender, pit)), 300)]
         r.shuffle(sent)
         out += sent + ([r.choice(sent)] if r.random() < 0.4 else [])
     return out
@@ -128,8 +145,9 @@ def mixed(r, *many):
 
 
 def stranger(first):
-    """Lists of a stranger on the same net: pits that nobody dug, one of them on a tile of ours."""
-    return [(STRANGER, d) for i, tile in enumerate((402, 9000)) for d in cut(first + i, b"TILE", pits_message(tile, [(1, 1), (2, 1), (3, 1)]), 300)]
+    """Lists of a stranger on the same net: pits that nobody dug, far away, one list of them on a tile of ours."""
+    marks, far = [(1, 1), (2, 1), (3, 1)], lambda pit: (522345678 + 900 * pit, 3456789, 12) if pit < 3 else None
+    return [(STRANGER, d) for i, tile in enumerate((402, 9000)) for d in cut(first + i, b"TILE", pits_message(tile, marks, place=far), 300)]
 
 
 def flights():
