@@ -17,7 +17,7 @@ int is_number(const char *text, qm_u64 most, qm_u64 *number) {
 static int run(unsigned i, int option, char **word) {
     qm_u64 sender, sequence;
     switch (i) {
-    case LIST: return list_command(word[0]);
+    case LIST: return option ? told_command(word[0]) : list_command(word[0]);
     case REPLAY: return replay_command(word[0], option);
     case GAPS: return gaps_command(word[0]);
     case INDEX: return index_command(word[0]);

@@ -54,6 +54,10 @@ int failed(const char *command, const char *path);
 /* Says on standard error what a refusal means. Answers REFUSED. */
 int refused(const char *command, const char *path, qm_u32 number);
 
+/* What a receiver answered, as the words of a line; and the key that was given up for it, where there is one. */
+void print_answer(qm_u32 refusal, const qm_u64 *told);
+void print_emptied(qm_u32 refusal, const qm_u64 *told);
+
 /* ---- a log, entry by entry */
 
 struct walk {
@@ -89,6 +93,7 @@ int is_number(const char *text, qm_u64 most, qm_u64 *number);
 /* ---- the commands: each prints what it has to say and answers the status */
 
 int list_command(const char *path);
+int told_command(const char *path);
 int replay_command(const char *path, int large);
 int gaps_command(const char *path);
 int index_command(const char *path);
