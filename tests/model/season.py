@@ -4,7 +4,7 @@ refused counts up to there, and all lists go into the same sets."""
 import random
 
 from . import messages
-from .count import pits_message, read_payload, strangers, ticked
+from .count import pits_message, read_payload, strangers
 from .log import entries_in, first_log_of, limits_in, log_of
 from .receiver import MAX_PAYLOAD, Receiver, cut, read, small
 
@@ -150,14 +150,24 @@ def stranger(first):
     return [(STRANGER, d) for i, tile in enumerate((402, 9000)) for d in cut(first + i, b"TILE", pits_message(tile, marks, place=far), 300)]
 
 
+def paced(r, datagrams, first):
+    """Entries as a flight of some minutes makes them."""
+    out, tick = [], first
+    for sender, d in datagrams:
+        tick += r.choice([40, 60, 900, 9000, 21000])
+        out.append((sender, tick, d))
+    return out
+
+
 def flights():
     """The first flight is one camera's. In the second both fly; the first camera reboots after six tiles and begins at 0 again, and the stranger is about.
     The third is the partner's alone, over tiles that were seen before, and the stranger again."""
     r = random.Random(3)
-    first = ticked(flown(r, CAMERA, range(400, 408), 5000, seen=0.8), 1_700_000_000_000)
+    first = flown(r, CAMERA, range(400, 408), 5000, seen=0.8)
     rebooted = flown(r, CAMERA, range(406, 412), 0) + flown(r, CAMERA, range(412, 416), 0)
-    second = ticked(mixed(r, rebooted, flown(r, PARTNER, range(408, 414), 100, 2), stranger(70) + [(STRANGER, d) for d in strangers()[:3]]), 1_700_086_400_000)
-    third = ticked(mixed(r, flown(r, PARTNER, [*range(400, 405), 416, 417], 0, 2), stranger(90)), 1_700_172_800_000)
+    second = mixed(r, rebooted, flown(r, PARTNER, range(408, 414), 100, 2), stranger(70) + [(STRANGER, d) for d in strangers()[:3]])
+    third = mixed(r, flown(r, PARTNER, [*range(400, 405), 416, 417], 0, 2), stranger(90))
+    first, second, third = (paced(r, one, 1_700_040_000_000 + 86_400_000 * i) for i, one in enumerate((first, second, third)))
     return [log_of(first), log_of(second), first_log_of(third)]
 
 
