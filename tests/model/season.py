@@ -113,15 +113,18 @@ METRE_NORTH, METRE_EAST = 89.932, 146.03  # ten-millionths of a degree, at this 
 ASTRAY = 409001  # the partner's camera has this pit 70 metres off
 
 
-def where(sender, pit):
+def on_ground(sender, pit, row, column):
     """Where a camera sees a pit: on its tile, within a few metres. Every fifth one has no place."""
     if pit % 5 == 3:
         return None
     r, seen = random.Random(pit), random.Random(f"{sender} {pit}")
-    row, column = divmod(pit // 1000 - 400, COLUMNS)
     east = TILE_EAST * (column + r.uniform(0.06, 0.94)) + seen.gauss(0, 1.5) + 70 * ((sender, pit) == (PARTNER, ASTRAY))
     north = TILE_NORTH * (2 - row + r.uniform(0.06, 0.94)) + seen.gauss(0, 1.5)
     return round(CORNER[0] + METRE_NORTH * north), round(CORNER[1] + METRE_EAST * east), 64 + round(north / 40) + seen.randrange(2)
+
+
+def where(sender, pit):
+    return on_ground(sender, pit, *divmod(pit // 1000 - 400, COLUMNS))
 
 
 def flown(r, sender, tiles, first, version=1, seen=1.0):
