@@ -5,7 +5,7 @@ import json
 from . import messages
 from .count import pit_list
 from .receiver import MAX_PAYLOAD, read
-from .season import Season, broken, text
+from .season import NAMES, SEASON, Season, broken
 
 COLUMNS = ("tile", "pit", "sure", "marks", "lat", "lon", "height", "depth", "sender", "sequence", "tick", "log")
 
@@ -88,6 +88,16 @@ def features_of(rows):
     return {"type": "FeatureCollection", "features": [{"type": "Feature", "geometry": point(row), "properties": properties(row)} for row in rows]}
 
 
+def map_text(rows):
+    """The same to the letter, for names that a string of JSON has as they are."""
+    def line(row):
+        point = f'{{"type":"Point","coordinates":[{degrees(row["lon"])},{degrees(row["lat"])},{row["height"]}]}}' if "lat" in row else "null"
+        properties = json.dumps(features_of([row])["features"][0]["properties"], separators=(",", ":"))
+        return f'\n{{"type":"Feature","geometry":{point},"properties":{properties}}}'
+
+    return '{"type":"FeatureCollection","features":[' + ",".join(map(line, rows)) + "\n]}\n"
+
+
 def features_in(printed):
     """The same from what was printed."""
     return json.loads(printed.decode("utf8"), parse_float=str, object_pairs_hook=once)
@@ -145,3 +155,8 @@ def random_list(r):
 assert marks_in([1, 5, 9, 3, 4, 77, 1, 2, 5, -6, 7, 0, 4, 78, 0, 0]) == [{"tile": 9, "pit": 77, "sure": 1, "lat": 5, "lon": -6, "height": 7}, {"tile": 9, "pit": 78, "sure": 0}]
 assert marks_in([2, 5, 9, 2, 4, 77, 0, 2, 5, -6, 7, 45, 4, 78, 1, 0, -3]) == [{"tile": 9, "pit": 77, "sure": 0, "lat": 5, "lon": -6, "height": 7, "depth": 45}, {"tile": 9, "pit": 78, "sure": 1, "depth": -3}]
 assert [degrees(n) for n in (0, 1, -1, 519876543, -23456, -2**31)] == ["0.0000000", "0.0000001", "-0.0000001", "51.9876543", "-0.0023456", "-214.7483648"]
+
+# the sample
+SAMPLE = season_of(SEASON, [name.encode() for name in NAMES])
+FILES = {"samples/season-pits.txt": printed(SAMPLE, ""), "samples/season.geojson": map_text(SAMPLE.rows()).encode()}
+assert features_in(FILES["samples/season.geojson"]) == features_of(SAMPLE.rows())
