@@ -15,13 +15,13 @@ int is_number(const char *text, qm_u64 most, qm_u64 *number) {
 }
 
 static int run(unsigned i, int option, char **word) {
-    qm_u64 sender, sequence;
+    qm_u64 sender, sequence, place;
     switch (i) {
     case LIST: return option ? told_command(word[0]) : list_command(word[0]);
     case REPLAY: return replay_command(word[0], option);
-    case GAPS: return gaps_command(word[0]);
     case INDEX: return index_command(word[0]);
-    case KEEP: return keep_command(word[0], option);
+    case SHOW: return is_number(word[1], ~0ull, &place) ? show_command(word[0], place) : command_usage(stderr, i, USAGE);
+    case CHECK: return check_command(word[0]);
     default:
         if (is_number(word[1], ~0ull, &sender) && is_number(word[2], 4294967295, &sequence)) return find_command(word[0], sender, sequence);
         return command_usage(stderr, i, USAGE);
@@ -32,8 +32,13 @@ static int run(unsigned i, int option, char **word) {
 static int run_any(unsigned i, int words, char **word) {
     int status;
     switch (i) {
+    case GAPS: status = gaps_command(words, word); break;
     case COUNT: status = count_command(words, word); break;
     case PITS: status = pits_command(words, word); break;
+    case TAKE: status = take_command(words, word); break;
+    case CUT: status = cut_command(words, word); break;
+    case JOIN: status = join_command(words, word); break;
+    case KEEP: status = keep_command(words, word); break;
     default: status = strays_command(words, word);
     }
     return status == USAGE ? command_usage(stderr, i, USAGE) : status;

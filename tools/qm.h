@@ -16,7 +16,7 @@ enum {
 
 /* ---- how it is called */
 
-enum { LIST, REPLAY, GAPS, COUNT, PITS, STRAYS, INDEX, FIND, KEEP, COMMANDS };
+enum { LIST, REPLAY, GAPS, COUNT, PITS, STRAYS, INDEX, FIND, SHOW, TAKE, CUT, JOIN, KEEP, CHECK, COMMANDS };
 
 /* Options of its own and any number of logs: the command reads its words itself. */
 enum { ANY = -1 };
@@ -51,12 +51,17 @@ int printed(const char *command);
 /* Says on standard error what the system did not do, by its own last error. Answers FAILED. */
 int failed(const char *command, const char *path);
 
+/* What a refusal means, in a line. */
+const char *meaning(qm_u32 number);
 /* Says on standard error what a refusal means. Answers REFUSED. */
 int refused(const char *command, const char *path, qm_u32 number);
 
 /* What a receiver answered, as the words of a line; and the key that was given up for it, where there is one. */
 void print_answer(qm_u32 refusal, const qm_u64 *told);
 void print_emptied(qm_u32 refusal, const qm_u64 *told);
+
+/* A channel's name, bytes outside 32 to 126 as \x and two hexadecimal digits, a backslash as two: what a stranger sends reaches no terminal as it is. */
+void print_name(FILE *to, const qm_byte *name, qm_size length);
 
 /* ---- a log, entry by entry */
 
@@ -95,13 +100,18 @@ int is_number(const char *text, qm_u64 most, qm_u64 *number);
 int list_command(const char *path);
 int told_command(const char *path);
 int replay_command(const char *path, int large);
-int gaps_command(const char *path);
 int index_command(const char *path);
+int check_command(const char *path);
 int find_command(const char *path, qm_u64 sender, qm_u64 sequence);
-int keep_command(const char *path, int synced);
+int show_command(const char *path, qm_u64 place);
 /* these read the words of the command line themselves, and say which is wrong */
+int gaps_command(int words, char **word);
 int count_command(int words, char **word);
 int pits_command(int words, char **word);
 int strays_command(int words, char **word);
+int take_command(int words, char **word);
+int cut_command(int words, char **word);
+int join_command(int words, char **word);
+int keep_command(int words, char **word);
 
 #endif

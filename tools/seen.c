@@ -36,6 +36,11 @@ static qm_u64 hash_of(const struct walk *w, qm_u64 key) {
     return hash;
 }
 
+qm_u64 hash_of_message(qm_u64 sender, qm_u32 sequence) {
+    qm_u64 key = key_of_run();
+    return times(times(times((sender >> 32) + 1, key) + (qm_u32) sender, key) + sequence, key);
+}
+
 /* Whether the entry at a place has sender and bytes of the one at hand. */
 static int is_copy(const struct walk *w, qm_size place) {
     qm_u64 other[QM_ENTRY];
@@ -81,4 +86,10 @@ int seen_note(struct seen *s, const struct walk *w) {
 void seen_close(struct seen *s) {
     free(s->rows);
     *s = (struct seen) {0};
+}
+
+qm_u64 hash_of_bytes(const qm_byte *bytes, qm_size length) {
+    qm_u64 key = key_of_run(), hash = length + 1;
+    for (qm_size i = 0; i < length; i++) hash = times(hash + bytes[i], key);
+    return hash;
 }

@@ -20,9 +20,15 @@ struct seen {
 
 enum { SEEN_BEFORE, SEEN_FIRST, SEEN_FAILED };
 
+/* The hash of a message's key, by the key of the run. */
+qm_u64 hash_of_message(qm_u64 sender, qm_u32 sequence);
+
 /* Zeros are a table without rows; seen_close makes it that again. */
 void seen_close(struct seen *s);
 /* Notes the datagram of the entry at hand. Answers whether it is the first of its sender with these bytes; SEEN_FAILED where there is no memory. */
 int seen_note(struct seen *s, const struct walk *w);
+
+/* A hash of a few bytes, by the key of the run. */
+qm_u64 hash_of_bytes(const qm_byte *bytes, qm_size length);
 
 #endif

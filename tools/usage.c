@@ -12,9 +12,12 @@ const struct command commands[COMMANDS] = {
                 "Prints `1 kept`, `2 repeat`, `3 delivered 1845` or `4 refused 8` for each entry, with ` emptied SENDER SEQUENCE` where a message was given up for\n"
                 "another, then `end N` or `refused R after N`. The log's limits bind. The receiver's store has 2,097,152 bytes, as that of the program replay_log,\n"
                 "whose lines these are; with --large it has slots of the largest payload that there is, as `qm count` has.\n", 1},
-    [GAPS] = {"gaps", "LOG", "a line an entry: what the sequence watch notes of its sender's number", 0,
+    [GAPS] = {"gaps", "[--missing | --acks SENDER] LOG", "a line an entry: what the sequence watch notes of its sender's number; or the numbers that never came", 0,
               "Prints `1 first`, `2 forward 3` (so many numbers are missing before it), `3 same`, `4 late 2`, `5 restarted 7` or `6 refused 4` for each entry,\n"
-              "then `end N` or `refused R after N`. The watch has room for 16 senders; those of a 17th are `refused 14`.\n", 1},
+              "then `end N` or `refused R after N`. The watch has room for 16 senders; those of a 17th are `refused 14`.\n"
+              "  --missing      in place of these `sender 7 missing 508` or `sender 7 missing 510 to 512` for each sender, rising from its first number, less what came\n"
+              "                 late, and `sender 7 restarted 0` where it began anew; then `end N`, N senders\n"
+              "  --acks SENDER  in place of these the numbers of that sender that came, rising, as a record that the program ack_bytes reads, raw\n", ANY},
     [COUNT] = {"count", "[--whole] [--senders] [--from SENDER].. [--forget-at SENDER:ENTRY].. LOG..",
                "entries by their answers, and for each tile its pits and how many of them are sure, of one flight or of a season", 0,
                "Each log is a flight, of any length, through a fresh receiver; all flights make one map, whatever their order, and a flight that is given twice adds no\n"
@@ -48,11 +51,45 @@ const struct command commands[COMMANDS] = {
                "place, then `end N`; or the one line `refused R`. The place is that of the entry's first byte.\n", 1},
     [FIND] = {"find", "LOG SENDER SEQUENCE", "where the first entry of a key begins", 0,
               "Prints `place 1`, `none`, or the line `refused R` of `qm index`. SENDER is a number of 64 bits and SEQUENCE one of 32, in decimal.\n", 3},
-    [KEEP] = {"keep", "[--sync] LOG < RECORDS", "appends records to a log as they come, and says of each when it is kept", "--sync",
+    [SHOW] = {"show", "LOG PLACE", "the entry that begins at a place, and what its datagram says", 0,
+              "Prints `sender 7 tick 99 length 738`, then `small sequence 500 name TILE payload 12`, `fragment 3 of 17 sequence 500 offset 900 data 300 payload 5000`, with\n"
+              "` name TILE` behind fragment 0, or `refused 7`, as the datagram reader says within the log's limits. PLACE is one that `qm find` or `qm index` prints. Of a\n"
+              "name bytes outside 32 to 126 are `\\x` and two hexadecimal digits, and a backslash is two.\n", 2},
+    [TAKE] = {"take", "[--name] LOG SENDER SEQUENCE > FILE | qm take --all DIR LOG", "the payload of a message, raw; or every payload that a replay delivers, a file each", 0,
+              "Prints the payload of the first message of that key that a replay of the log delivers, over slots of the largest payload. Where the replay delivers none, since\n"
+              "other messages took its slot, the key's entries alone are put together, and standard error says so. Where they do not complete it nothing is printed, and standard\n"
+              "error says which fragments are missing (status 3).\n"
+              "  --name     in place of the payload the name of its channel, as `qm show` prints it\n"
+              "  --all DIR  each delivered payload as the file DIR/SENDER-SEQUENCE, and where a key is delivered again DIR/SENDER-SEQUENCE-2 and so on; a line for each,\n"
+              "             `sender 7 sequence 500 tick 99 payload 1845 file 7-500 name TILE`, then `end N`. DIR is made where it is not there; no file is written over.\n", ANY},
+    [CUT] = {"cut", "[--from-tick A] [--to-tick B] [--from-entry N] [--to-entry M] [--sender S].. [--replace] -o OUT LOG", "a log of some entries of a log", 0,
+             "Writes OUT, a log with the head of LOG and those of its entries that each of the options lets through, as they are: ticks from A to B, the entries N to M, the\n"
+             "first being 1, of the sender S, or of these, where it stands more than once. Prints `entries N` once OUT has them. OUT is OUT.part until it is whole; a file that\n"
+             "is there is left alone, unless --replace says otherwise. Of a log that is not whole the entries before the refused one are taken (status 3).\n", ANY},
+    [JOIN] = {"join", "[--replace] -o OUT LOG..", "one log of all entries of some logs, one after the other", 0,
+              "Writes OUT, with the largest payload limit of the logs. Where some are of edition 1 and others not, OUT is of edition 2, and standard error names them, since its\n"
+              "limits are wider than theirs. Prints `entries N` once OUT has them. One log is one flight: what two flights sent under one key is there taken for copies, so\n"
+              "`qm count LOG..` counts them without joining them. OUT and logs that are not whole as in `qm cut`.\n", ANY},
+    [KEEP] = {"keep", "[--sync] [--quiet] [--repair] [--new] [--every 3600s|500MB] LOG < RECORDS", "appends records to a log as they come, and says of each when it is kept", 0,
               "A record is an 8-byte sender, an 8-byte tick and a 2-byte length, big-endian, and the datagram. Once its entry was written to the file, the line\n"
-              "`kept N` says that the log has N entries now: they stay when qm is killed at any moment. With --sync the line is `kept N synced`, and they stay\n"
-              "when the machine stops too. A log that is not there is begun, of edition 2 with the limit 1,048,576. One that ends inside an entry, since its writing\n"
-              "was cut off, goes on after its last whole entry, and standard error says so. Only one qm keep writes to a log at a time.\n", 1},
+              "`kept N` says that the log has N entries now: they stay when qm is killed at any moment. A log that is not there is begun, of edition 2 with the\n"
+              "limit 1,048,576. One that ends inside an entry, since its writing was cut off, goes on after its last whole entry; the bytes of the cut one go into\n"
+              "a file LOG.cut-1, -2 and so on, and standard error says so. Only one qm keep writes to a log at a time. SIGINT and SIGTERM end it after the record in\n"
+              "hand; where nobody takes its lines any more it keeps on without them, and its status is 1.\n"
+              "  --sync    asks the disk before each line, `kept N synced`: then they stay when the machine stops too\n"
+              "  --quiet   no line for each record\n"
+              "  --repair  also a log that is refused otherwise, that has more bytes behind its last whole entry than one entry can have, or that may never have been\n"
+              "            a log, goes on: what is refused goes into LOG.cut-1. Without it such a file stays as it is\n"
+              "  --new     begins a log under the next number: of FLIGHT.log FLIGHT-0001.log, FLIGHT-0002.log and so on. The line `log FLIGHT-0002.log` says which\n"
+              "  --every 3600s, --every 500MB\n"
+              "            goes on in the last of these, or the first, and begins the next one at the first record after so many seconds, or before it has more\n"
+              "            than so many million bytes\n", ANY},
+    [CHECK] = {"check", "LOG", "is a log whole, who is in it, on which channels, and what was refused", 0,
+               "Prints `whole`, or `refused R after N`; then of the N entries: `entries N`, `bytes B` of their datagrams, `limit L`, the largest payload that the log takes,\n"
+               "`first T last U`, the ticks of its first and its last entry; `sender 7 datagrams 12 bytes 9000 first T last U` for each sender, rising; for each channel, by\n"
+               "its name, `channel messages 12 bytes 8000 first T last U rate 1.250 name TILE`: the messages that a fresh receiver delivers, and how many of them come\n"
+               "in 1,000 ticks, a second where ticks are milliseconds (0 where fragments came and no message was completed); and `refused 7 datagrams 3, MEANING` for each\n"
+               "number by which the receiver has refused datagrams.\n", 1},
 };
 
 static const char statuses[] = "Status: 0 done, 1 a file or the output failed, 2 called otherwise, 3 the log is refused.\n";

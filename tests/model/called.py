@@ -17,7 +17,8 @@ def build():
     return built.RUN + [os.path.join(ROOT, "target", "tools", "qm")]
 
 
-QM = build()
+# another qm may be held to the same, as one that was compiled with sanitizers
+QM = os.environ["QM"].split() if "QM" in os.environ else build()
 
 
 def qm(*words, **how):

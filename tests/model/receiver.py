@@ -61,7 +61,7 @@ class Receiver:
         self.slots = [None] * 8
         self.opened = 0
         self.memory = {}  # the sequences of each sender, the sender of the latest delivery last
-        self.payload = None  # what was delivered last
+        self.payload = self.name = None  # of what was delivered last
 
     def find(self, key):
         for s, slot in enumerate(self.slots):
@@ -92,7 +92,7 @@ class Receiver:
             if at is not None:
                 return "refused 8"
             self.remember(key)
-            self.payload = r["data"]
+            self.payload, self.name = r["data"], r["name"]
             return f"delivered {len(r['data'])}"
         emptied = ""
         if at is not None:
@@ -120,7 +120,7 @@ class Receiver:
         if len(slot["held"]) == slot["count"]:
             self.slots[at] = None
             self.remember(key)
-            self.payload = b"".join(slot["held"][k][1] for k in range(slot["count"]))
+            self.payload, self.name = b"".join(slot["held"][k][1] for k in range(slot["count"])), slot["held"][0][2]
             return f"delivered {slot['size']}{emptied}"
         return f"kept{emptied}"
 

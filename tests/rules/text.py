@@ -16,16 +16,7 @@ OVER = {
 }
 # files of specs/ with definitions that nothing public reaches
 NOT_INSIDE = {
-    "count/Counts",
-    "find/Numbers",
-    "find/Said",
-    "gauge/Lines",
-    "index_lines/Lines",
-    "lmcp_bytes/Lines",
     "lmcp_writer/Steps",
-    "log_write/Kept",
-    "pit_marks/Enters",
-    "pit_payloads/Took",
 }
 OPERATORS = set("→ × ≡ λ ≤ < + * : ⌝ ⌜ ∷ ++ = ⊎ - / % ^ && || when else if then in let".split())
 # a word that hands on the number of a refusal

@@ -37,7 +37,8 @@ use Rattle.steps.proofs.Latest.{recalled}
 use Rattle.steps.proofs.Seats.{busyAt, look, Found, open-found, open-none, free-found, free-none, Changed, set-changed, set-here}
 use Rattle.steps.proofs.Stores.{part-fits}
 use Rattle.steps.proofs.Branches.{step-sound, receive-refused, small-again, small-whole, fragment-again, fragment-free, fragment-open}
-use Rattle.arrival.specs.Demand.{Message, SentSmall, SentCut, Scene, key, parts, datagram, size, message, slotBytes, Event, part, noise, Feed, start, _▹_, bytesOf, arrival, arrivals, call, after, got, begun, done, completes, completed, keysOf, unfinished, handed, nameIn, own, numberOf, answerTo}
+use Rattle.arrival.specs.Demand.{Message, SentSmall, SentCut, Scene, key, parts, datagram, size, message, slotBytes, Event, part, noise, Feed, start, _▹_}
+use Rattle.arrival.specs.Demand.{bytesOf, arrival, arrivals, call, after, got, begun, done, completes, completed, keysOf, unfinished, handed, nameIn, own, numberOf, answerTo}
 use Rattle.arrival.proofs.Within.{small-within}
 use Rattle.arrival.proofs.Pieces.{piece, Cut, cut-of, payload-fits, few-parts}
 use Rattle.arrival.proofs.Joining.{Holds, holds-open, arrives-again, arrives-new}

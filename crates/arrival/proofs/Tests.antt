@@ -22,7 +22,8 @@ use Rattle.steps.specs.Search.{allBelow, count}
 use Rattle.steps.specs.Memory.{sameKey, among, has, since}
 use Rattle.steps.proofs.Tables.{all-at, not-true, or-not, or-yes}
 use Rattle.steps.proofs.Memories.{key-same}
-use Rattle.arrival.specs.Demand.{Message, Scene, SentSmall, SentCut, Sent, key, parts, datagram, size, message, slotBytes, Distinct, Event, part, noise, Feed, start, _▹_, RefusedForForm, MayCome, Mixture, got, done, unfinished, NeverOverEight, AtMost16Senders, completed, keysOf, StillKnown, NeverTooLate, Supposed}
+use Rattle.arrival.specs.Demand.{Message, Scene, SentSmall, SentCut, Sent, key, parts, datagram, size, message, slotBytes, Distinct, Event, part, noise}
+use Rattle.arrival.specs.Demand.{Feed, start, _▹_, RefusedForForm, MayCome, Mixture, got, done, unfinished, NeverOverEight, AtMost16Senders, completed, keysOf, StillKnown, NeverTooLate, Supposed}
 use Rattle.arrival.proofs.Pieces.{fragmentSaid, piece}
 
 -- ---- the tests

@@ -19,7 +19,8 @@ use Rattle.steps.specs.Search.{one, count}
 use Rattle.steps.specs.Memory.{sameKey, among, FewSenders, Recent}
 use Rattle.steps.proofs.Tables.{or-not, or-yes, all-at, all-of, all-not, all-cong}
 use Rattle.steps.proofs.Memories.{same-key, key-same}
-use Rattle.arrival.specs.Demand.{Message, Scene, nobody, Distinct, EachSent, SentCut, SentSmall, Sent, key, parts, size, message, slotBytes, Event, part, noise, Feed, start, _▹_, RefusedForForm, MayCome, Mixture, NeverOverEight, AtMost16Senders, StillKnown, NeverTooLate, got, begun, done, completes, completed, keysOf, unfinished, push}
+use Rattle.arrival.specs.Demand.{Message, Scene, nobody, Distinct, EachSent, SentCut, SentSmall, Sent, key, parts, size, message, slotBytes, Event, part, noise, Feed}
+use Rattle.arrival.specs.Demand.{start, _▹_, RefusedForForm, MayCome, Mixture, NeverOverEight, AtMost16Senders, StillKnown, NeverTooLate, got, begun, done, completes, completed, keysOf, unfinished, push}
 
 -- ---- what is supposed, arrival by arrival
 

@@ -31,7 +31,8 @@ shows-so (σ ∷ l) =
     λ i. map shown (run-at ledgerLength (withSlotsOf (σ .slots)) (length-replicate {A = ℕ} ledgerLength 1) xs i) ∷ shows-so l i
 
 shown-so : map showsQuickly scenes ≡ map (λ (σ : Scene). σ .answered) scenes
-unfolding withSlotsOf runAt A-of B-of step sound receive decide act stay step3 step5 sameFragment agrees seat oldest release lower opening openCount filled emptyMemory isRemembered remember placeFor withKey memoryOk among isHeld hold noneHeld said readDatagram readSmall readFragment formed goodForm nameLength goodName untilZero be overlay
+unfolding withSlotsOf runAt A-of B-of step sound receive decide act stay step3 step5 sameFragment agrees seat oldest release lower opening openCount filled emptyMemory isRemembered remember placeFor
+    withKey memoryOk among isHeld hold noneHeld said readDatagram readSmall readFragment formed goodForm nameLength goodName untilZero be overlay
 shown-so = refl
 
 -- place, length and name of what is delivered; the lowest free slot; of two slots to choose from the lower
@@ -40,7 +41,8 @@ worked-scenes = shows-so scenes ∙ shown-so
 
 -- B's two bytes stand one byte into the parts of slots 0 and 1, and its offset and length in their rows; the rest is as it was lent
 pub stored-where : (storedTwo ≡ 9 ∷ 0x42 ∷ 0x43 ∷ 9 ∷ 9 ∷ 0x42 ∷ 0x43 ∷ 9 ∷ 9 ∷ 9 ∷ 9 ∷ 9 ∷ []) × (ledgerTwo ≡ 1 ∷ 2 ∷ 1 ∷ 2 ∷ 7 ∷ 7 ∷ [])
-unfolding storedTwo ledgerTwo run inFours B-of step sound receive decide act stay step3 step5 sameFragment agrees seat oldest release lower opening openCount filled opened emptyMemory isRemembered remember placeFor withKey memoryOk among isHeld hold noneHeld said readDatagram readSmall readFragment formed goodForm nameLength goodName untilZero be overlay
+unfolding storedTwo ledgerTwo run inFours B-of step sound receive decide act stay step3 step5 sameFragment agrees seat oldest release lower opening openCount filled opened emptyMemory isRemembered
+    remember placeFor withKey memoryOk among isHeld hold noneHeld said readDatagram readSmall readFragment formed goodForm nameLength goodName untilZero be overlay
 stored-where = (refl, refl)
 
 -- after forget the rest keep their order; of two places to choose from the first

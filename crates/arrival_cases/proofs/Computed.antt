@@ -23,12 +23,14 @@ use Rattle.arrival_cases.specs.Worked.{small-of, fromEach, inTwo, paperS
 use Rattle.arrival.proofs.Pieces.{fragmentSaid}
 
 pub paper-at-completion : AtCompletion paperScene paperFeed
-unfolding delivery after run done completes step sound receive decide act stay step3 step5 sameFragment agrees seat oldest release lower opening openCount filled opened emptyMemory isRemembered remember placeFor withKey memoryOk among isHeld hold noneHeld said readDatagram readSmall readFragment formed goodForm nameLength goodName untilZero be overlay A-of B-of small-of
+unfolding delivery after run done completes step sound receive decide act stay step3 step5 sameFragment agrees seat oldest release lower opening openCount filled opened emptyMemory isRemembered
+    remember placeFor withKey memoryOk among isHeld hold noneHeld said readDatagram readSmall readFragment formed goodForm nameLength goodName untilZero be overlay A-of B-of small-of
 paper-at-completion = (((((tt, refl), refl), refl), refl), refl)
 
 -- the answers themselves: kept, refused for form, a small message, A completes, B came before; and no key is emptied
 pub paper-heard : allHeard (fresh (paperScene .store) (paperScene .ledger)) (arrivals paperScene paperFeed) ≡ only kept ∷ only (refusedBy 1) ∷ only (delivered (0x41 ∷ [])) ∷ only ABC ∷ only repeat ∷ []
-unfolding zipWith run step sound receive decide act stay step3 step5 sameFragment agrees seat oldest release lower opening openCount filled opened emptyMemory isRemembered remember placeFor withKey memoryOk among isHeld hold noneHeld said readDatagram readSmall readFragment formed goodForm nameLength goodName untilZero be overlay A-of B-of small-of
+unfolding zipWith run step sound receive decide act stay step3 step5 sameFragment agrees seat oldest release lower opening openCount filled opened emptyMemory isRemembered remember placeFor withKey
+    memoryOk among isHeld hold noneHeld said readDatagram readSmall readFragment formed goodForm nameLength goodName untilZero be overlay A-of B-of small-of
 paper-heard = refl
 
 -- two messages of one key

@@ -29,7 +29,7 @@ use Rattle.count_rules.specs.Run.{payloads, listsRead}
 use Rattle.count_rules.specs.Count.{maxEntries, maxTiles, firstFault, reportOf, Outcome, reported, noReport, answersTo, unless, countEntries, countListed, countLog}
 use Rattle.count_rules.specs.Walk.{Held, seenAfter, atFirst, walk, walkEntries, leftAfter, heldBy}
 use Rattle.count_rules.proofs.Seen.{seen-report}
-use Rattle.count_rules.proofs.Walks.{walk-agrees}
+use Rattle.count_rules.proofs.EntryByEntry.{walk-agrees}
 use Rattle.pit_marks.specs.declared.Sizes.{Sizes}
 use Rattle.pit_marks.specs.Sets.{Sets, rooms, heldIn, Has}
 use Rattle.pit_marks.proofs.Told.{has-none}

@@ -1,5 +1,5 @@
 pub mod Ends
-pub mod Gives
+pub mod ReportStruct
 pub mod Own
 pub mod Passing
 pub mod Walking

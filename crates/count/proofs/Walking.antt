@@ -24,8 +24,9 @@ use Rattle.count_rules.specs.Marks.{PitList, listIn}
 use Rattle.count_rules.specs.Run.{answerTo, payloadIn, payloads, listsRead}
 use Rattle.count_rules.specs.Walk.{faultAt, seenAt, Held, Walked, seenAfter, walk}
 use Rattle.pit_marks.specs.Sets.{rooms, Has}
-use Rattle.pit_payloads.specs.Took.{faultIn, listsIn, faultOver, Took}
-use Rattle.pit_payloads.proofs.Takes.{takes}
+use Rattle.pit_payloads.specs.Took.{faultIn, listsIn, faultOver}
+use Rattle.pit_payloads.specs.Inside.{Took}
+use Rattle.pit_payloads.proofs.PayloadTaken.{takes}
 use Rattle.stretch.specs.declared.Stop.the-variants as stop
 use Rattle.stretch.specs.Stretch.{Kit, calledOn, lookedAt, kitWith, enterOn, Stretched, here, byStep, stretch, Clean, stopFault, entriesOf}
 use Rattle.stretch.proofs.Laws.{list-long, seen-then, lists-both, clean-ok, entries-after}

@@ -38,7 +38,8 @@ use Rattle.count_rules.specs.Worked.{first, deep, second, third, fourth,
 use Rattle.count_rules.proofs.Heads.{own-listed}
 
 pub read-computed : read ≡ readAs
-unfolding first deep second third fourth ping markLength markAt marksIn pitListOf listRead listIn be sum run.prepend run.andThen run.after run.repeat run.whole fault numberOf judged readValue readCount typed known readHeader readHead item field fields object root frame readMessage lists.readAs lists.readList
+unfolding first deep second third fourth ping markLength markAt marksIn pitListOf listRead listIn be sum run.prepend run.andThen run.after run.repeat run.whole fault numberOf judged readValue
+    readCount typed known readHeader readHead item field fields object root frame readMessage lists.readAs lists.readList
 read-computed = refl
 
 -- ---- a log of edition 1, or of edition 2 with the largest limit

@@ -8,7 +8,7 @@ pub mod Steps
 pub mod Which
 pub mod Sums
 pub mod Totals
-pub mod Walks
+pub mod EntryByEntry
 pub mod Seen
 pub mod Spells
 pub mod Bounds

@@ -15,12 +15,13 @@ use Rattle.moss.specs.Blocks.{firstMessage, before, messagesIn}
 use Rattle.moss.specs.Packet.{Given, gives, refuses, Packet, kindIn, carried, fillFault, packetOf}
 use Rattle.moss.specs.Answers.{headersOf}
 use Rattle.moss.specs.declared.Header.{Header}
-use Rattle.moss.proofs.Walks.{messages-next, messages-cut, messages-none}
+use Rattle.moss.proofs.MessageTurn.{messages-next, messages-cut, messages-none}
 use Rattle.moss.proofs.Packets.{Good, packet-good}
 use Rattle.gauge_watch.proofs.Hears.{headed, not-read}
 use Rattle.text.specs.Text.{decimal}
 use Rattle.output.specs.Output.{Pours}
-use Rattle.gauge.specs.Lines.{notedText, spaced, lengthsIn, lengthsOf, messagesText, line}
+use Rattle.gauge.specs.Lines.{notedText, spaced, messagesText, line}
+use Rattle.gauge.specs.Inside.{lengthsIn, lengthsOf}
 
 -- ---- the block at a place, where the blocks from there on fill the packet
 

@@ -1,6 +1,5 @@
 -- The lines of the program `gauge`, in ASCII, and what they are about. Definitions only.
 use mathlib.Core.Path.{_≡_}
-use mathlib.Core.Option.{Option, none, some}
 use mathlib.Core.List.{List, [], _∷_, _++_, map}
 use Prim.Native.Nat.{ℕ}
 use lib.Dec.{eqb}
@@ -33,15 +32,6 @@ spaced (n ∷ l) = (32 ∷ decimal n) ++ spaced l
 -- " messages 5 0 12" for U, nothing for H and E
 abbrev pub messagesText : ℕ → List ℕ → List ℕ
 messagesText kind lengths = pick (eqb kind letterU) (ascii " messages" ++ spaced lengths) []
-
--- the lengths of messages that blocks hold, and of a packet's
-abbrev pub lengthsIn : Option (List (List ℕ)) → List ℕ
-lengthsIn none = []
-lengthsIn (some ms) = map length ms
-
-abbrev pub lengthsOf : Given Packet → List ℕ
-lengthsOf (refuses number) = []
-lengthsOf (gives p) = map length (p .messages)
 
 -- line n of a packet, of which so is noted
 abbrev pub line : ℕ → Given Packet → Noted → List ℕ

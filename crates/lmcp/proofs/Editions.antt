@@ -21,7 +21,7 @@ use Rattle.lmcp.specs.Read.{reading, known, readHeader, readHead}
 use Rattle.lmcp.specs.Message.{rootOf, frame, readMessage, choice, writeMessage}
 use Rattle.lmcp.specs.Lists.{versionOf, readAs, readList, isVersion, writeList}
 use Rattle.lmcp.proofs.Undo.{got-unless, got-where, not-refused, followed, prepended}
-use Rattle.lmcp.proofs.Goes.{inside, object-is, root-stops}
+use Rattle.lmcp.proofs.WalkPlaces.{inside, object-is, root-stops}
 use Rattle.lmcp.proofs.Heads.{known-version, Headed, read-headed}
 use Rattle.lmcp.proofs.Trips.{whole-got, write-read, read-write}
 use Rattle.lmcp.proofs.Pitsurv.{sound}

@@ -2,7 +2,7 @@ pub mod Answers
 pub mod Codes
 pub mod Editions
 pub mod Few
-pub mod Goes
+pub mod WalkPlaces
 pub mod Heads
 pub mod Lent
 pub mod Makes

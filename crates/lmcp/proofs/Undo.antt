@@ -13,7 +13,7 @@ use Rattle.lmcp.specs.Limits.{deepest}
 use Rattle.lmcp.specs.Run.{Run, got, refused, Tag, tag, bad, prepend, andThen, after, repeat}
 use Rattle.lmcp.specs.Table.{objectKind, Table, RowFits, RowsFit, fieldsOf}
 use Rattle.lmcp.specs.Walk.{Way, item, field, fields, isNull, object, root}
-use Rattle.lmcp.proofs.Goes.{inside, object-is}
+use Rattle.lmcp.proofs.WalkPlaces.{inside, object-is}
 
 -- ---- what is got is not refused
 

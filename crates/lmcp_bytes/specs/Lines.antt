@@ -7,7 +7,6 @@ use lib.IntN.{ℤ}
 use lib.ListN.{length, take, drop}
 use lib.Seq.{sets}
 use lib.Dec.{ltb, eqb}
-use Rattle.wire.specs.Slices.{Slice, SignedSlice}
 use Rattle.wire.specs.Text.{ascii}
 use Rattle.wire.specs.Bytes.{be}
 use Rattle.wire.specs.Signed.{signed}
@@ -43,12 +42,6 @@ pub record Holds : Type 0 where
   pub list : List ℤ
   pub bytes : List ℕ
   pub out : List ℕ
-
-abbrev pub holdsBefore : SignedSlice → Slice → Slice → Holds
-holdsBefore list bytes out = record { list = list .entry .now; bytes = bytes .entry .now; out = out .entry .now }
-
-abbrev pub holdsAfter : SignedSlice → Slice → Slice → Holds
-holdsAfter list bytes out = record { list = list .exit .now; bytes = bytes .exit .now; out = out .exit .now }
 
 -- The list that a body holds was written as a message, and line n gives its bytes or its refusal.
 pub record Made′ (calculate : Bool) (body : List ℕ) (n : ℕ) (h : Holds) (at : ℕ) (h′ : Holds) (r : ℕ) : Type 0 where

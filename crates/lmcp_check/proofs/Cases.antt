@@ -17,7 +17,7 @@ use Rattle.lmcp.specs.Walk.{isNull}
 use Rattle.lmcp.specs.Table.{boolKind, charKind, Table}
 use Rattle.lmcp.specs.Value.{fault, numberOf}
 use Rattle.lmcp.specs.Read.{typed, known, judged, readValue, readCount, readHeader, readHead}
-use Rattle.lmcp.proofs.Goes.{some-tag}
+use Rattle.lmcp.proofs.WalkPlaces.{some-tag}
 use Rattle.lmcp.proofs.Heads.{typed-least, known-type}
 
 -- ---- numbers of w bytes

@@ -9,7 +9,7 @@ use Rattle.lmcp.specs.declared.Row.{Row}
 use Rattle.lmcp.specs.Run.{got, refused, Tag, tag, prepend, andThen, after, repeat}
 use Rattle.lmcp.specs.Read.{Read}
 use Rattle.lmcp.specs.Walk.{Way, field, fields}
-use Rattle.lmcp.proofs.Goes.{prepend-nil, repeat-more, repeat-end}
+use Rattle.lmcp.proofs.WalkPlaces.{prepend-nil, repeat-more, repeat-end}
 use Rattle.lmcp_check.specs.InsideChecks.{fault0, Upto, Checks}
 
 prepend-append : (a b : List ℤ) (X : Read) → prepend (a ++ b) X ≡ prepend a (prepend b X)

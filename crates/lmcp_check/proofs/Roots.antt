@@ -17,7 +17,7 @@ use Rattle.lmcp.specs.Table.{pitsurv}
 use Rattle.lmcp.specs.Read.{Read, reading}
 use Rattle.lmcp.specs.Message.{rootOf, before, stored, checksumOf, frame, readMessage}
 use Rattle.lmcp.specs.Lists.{versionOf, readAs, readList}
-use Rattle.lmcp.proofs.Goes.{whole-none, whole-more, root-stops, root-null, root-object}
+use Rattle.lmcp.proofs.WalkPlaces.{whole-none, whole-more, root-stops, root-null, root-object}
 use Rattle.lmcp_check.specs.Refusal.{refusalOf}
 use Rattle.lmcp_check.specs.InsideSteps.{readObject, readRoot}
 use Rattle.lmcp_check.specs.InsideChecks.{fault0, Checks}

@@ -19,7 +19,7 @@ use Rattle.lmcp.specs.Table.{unsignedKind, signedKind, boolKind, charKind, obje
 use Rattle.lmcp.specs.Value.{numberOf}
 use Rattle.lmcp.specs.Read.{Read, reading, readValue}
 use Rattle.lmcp.specs.Walk.{item, field, fields}
-use Rattle.lmcp.proofs.Goes.{item-value, field-fixed}
+use Rattle.lmcp.proofs.WalkPlaces.{item-value, field-fixed}
 use Rattle.lmcp_check.proofs.Cases.{value-short, value-bad, value-good, sound-plain, sound-bool, fault-bool}
 use Rattle.lmcp.specs.Packed.{plain, single, runBytes, runBool}
 use Rattle.lmcp.proofs.Rows.{none, isRun}

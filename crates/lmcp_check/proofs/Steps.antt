@@ -12,7 +12,7 @@ use Rattle.lmcp.specs.declared.Row.{Row}
 use Rattle.lmcp.specs.Run.{tag, andThen, after, repeat}
 use Rattle.lmcp.specs.Table.{joined, charKind, objectKind, rowsOf, startsOf, fieldsOf, nothing, second, typesOf, pitsurv}
 use Rattle.lmcp.specs.Read.{Read, reading, readValue, readCount, readHead}
-use Rattle.lmcp.proofs.Goes.{item-object, item-value, field-fixed, field-counted, inside, object-is, inside-null, inside-fields, marked-stops, fields-end}
+use Rattle.lmcp.proofs.WalkPlaces.{item-object, item-value, field-fixed, field-counted, inside, object-is, inside-null, inside-fields, marked-stops, fields-end}
 use Rattle.lmcp.proofs.Heads.{read-some}
 use Rattle.lmcp.proofs.Tables.{rows-of}
 use Rattle.lmcp_check.specs.InsideSteps.{readObject, readItem, readField, readFields}

@@ -1,4 +1,4 @@
-pub mod Cases
+pub mod NumberBits
 pub mod Counts
 pub mod Puts
 pub mod Roots

@@ -20,7 +20,7 @@ use Rattle.lmcp.specs.Table.{signedKind, rowsOf, fieldsOf, nothing, pitsurv}
 use Rattle.lmcp.specs.Value.{fault, numberOf}
 use Rattle.lmcp.specs.Read.{Read, reading, readValue, readCount, readHead}
 use Rattle.lmcp.specs.Walk.{isNull}
-use Rattle.lmcp.proofs.Goes.{run-is, made, marked-then, same-run, item-object, item-value, field-fixed, field-counted, inside, object-is, inside-null, inside-fields}
+use Rattle.lmcp.proofs.WalkPlaces.{run-is, made, marked-then, same-run, item-object, item-value, field-fixed, field-counted, inside, object-is, inside-null, inside-fields}
 use Rattle.lmcp.specs.declared.Went.the-variants.{To}
 use Rattle.lmcp_check.specs.InsideSteps.{readObject, readItem, readField, readFields}
 use Rattle.lmcp_check.proofs.Goes.{then-nil, repeat-same}

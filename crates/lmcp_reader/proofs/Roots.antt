@@ -20,7 +20,7 @@ use Rattle.lmcp.specs.Walk.{isNull, root}
 use Rattle.lmcp.specs.Message.{rootOf, frame, readMessage, found, listed, ReadTo}
 use Rattle.lmcp.specs.Lists.{versionOf, readAs, readList}
 use Rattle.lmcp.proofs.Answers.{read-refuses}
-use Rattle.lmcp.proofs.Goes.{run-is}
+use Rattle.lmcp.proofs.WalkPlaces.{run-is}
 use Rattle.lmcp_check.specs.Refusal.{refusalOf}
 use Rattle.lmcp_check.specs.InsideSteps.{readObject, readRoot}
 use Rattle.lmcp_check.proofs.Roots.{frame-within}

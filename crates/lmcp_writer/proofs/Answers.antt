@@ -24,7 +24,7 @@ use Rattle.lmcp.specs.Write.{Write}
 use Rattle.lmcp.specs.Ends.{Sofar, Few15}
 use Rattle.lmcp.specs.Message.{checksumOf, headOn, messageOn, framed, writeMessage, made, written, WrittenTo}
 use Rattle.lmcp.specs.Lists.{isVersion, writeList}
-use Rattle.lmcp.proofs.Goes.{run-is, run-left, run-done, laid-again, empty}
+use Rattle.lmcp.proofs.WalkPlaces.{run-is, run-left, run-done, laid-again, empty}
 use Rattle.lmcp_writer.specs.Steps.{Ends, Laid, writeRoot}
 
 head-length : (bs : List ℕ) (e : ℕ) → e ≡ 8 + length bs → length (headOn bs) ≡ e

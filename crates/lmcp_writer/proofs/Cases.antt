@@ -30,7 +30,7 @@ use Rattle.lmcp.specs.Value as value
 use Rattle.lmcp.specs.Read.{typed}
 use Rattle.lmcp.specs.Write.{writeValue, writeCount, header, typedBy, writeHead}
 use Rattle.lmcp.specs.Lists.{isVersion}
-use Rattle.lmcp.proofs.Goes.{some-tag}
+use Rattle.lmcp.proofs.WalkPlaces.{some-tag}
 use Rattle.lmcp.proofs.Heads.{typed-least, typedBy-mag}
 use Rattle.lmcp.proofs.Values.{pow-bytes}
 

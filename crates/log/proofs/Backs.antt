@@ -18,7 +18,7 @@ use Rattle.datagram.specs.Limits.{maxDatagram, maxPayload}
 use Rattle.log.specs.Editions.{Edition, edition1, edition2, firstByte, secondByte, Lawful, headBytes, limited, limitIn, headIn, headIn1, editionIn}
 use Rattle.log.specs.Entries.{Entry, entryOf, Keeps, AllKeep, entryBytes, bodyOf, logOf}
 use Rattle.log.specs.Listed.{datagramIn, lengthIn, tickIn, entryIn, Listed, whole, broken, after, more, oneMore, listBy, entriesAfter, entriesIn}
-use Rattle.log.proofs.Takes.{both, rest-bytes}
+use Rattle.log.proofs.AfterEntry.{both, rest-bytes}
 
 -- ---- an entry: what is written reads back
 

@@ -1,4 +1,4 @@
-pub mod Takes
+pub mod AfterEntry
 pub mod Backs
 pub mod Reading
 pub mod Onward

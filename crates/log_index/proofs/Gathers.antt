@@ -15,7 +15,7 @@ use Rattle.log.specs.declared.reader.EntryAt.{EntryAt}
 use Rattle.log.specs.declared.reader.Limits.{Limits}
 use Rattle.log.specs.declared.reader.Step.the-variants.{Found, End, Refused}
 use Rattle.log.proofs.Backs.{back-entry, entry-some}
-use Rattle.log.proofs.Takes.{rest-bytes}
+use Rattle.log.proofs.AfterEntry.{rest-bytes}
 use Rattle.log.proofs.Onward.{found-at}
 use Rattle.log.proofs.Reading.{next-end}
 use Rattle.log_index.specs.Rows.{Row}

@@ -1,4 +1,4 @@
-pub mod Walks
+pub mod MessageTurn
 pub mod Trails
 pub mod Packets
 pub mod Parts

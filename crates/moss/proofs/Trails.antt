@@ -10,7 +10,7 @@ use Rattle.moss.specs.Packet.{gives, refuses}
 use Rattle.moss.specs.Message.{Part, located}
 use Rattle.moss.specs.Walk.{start, past, pastAll, pointed}
 use Rattle.moss.specs.declared.Trail.{Trail}
-use Rattle.moss.proofs.Walks.{past-count}
+use Rattle.moss.proofs.MessageTurn.{past-count}
 
 -- the number of blocks
 pub all-count : (t : Trail) (n at : ℕ) (ms : List (List ℕ)) → pastAll t n at ms .count ≡ t .count + length ms

@@ -12,7 +12,7 @@ use Rattle.wire.specs.Bytes.{be, bytes, Bytes}
 use Rattle.wire.proofs.Numbers.{be-bytes, bytes-be, be-lt, length-bytes, drop-bytes}
 use Rattle.moss.specs.Limits.{maxMessage}
 use Rattle.moss.specs.Blocks.{block, laid, isCut, firstMessage, behind, before, messagesWithin, messagesIn}
-use Rattle.moss.proofs.Walks.{messages-next, messages-none}
+use Rattle.moss.proofs.MessageTurn.{messages-next, messages-none}
 use Rattle.moss.proofs.Parts.{within-front, within-zero, front-size}
 
 -- each message has a length of two bytes

@@ -1,7 +1,7 @@
-pub mod Cases
+pub mod EnteringCases
 pub mod Lays
 pub mod Proper
 pub mod Seen
 pub mod Told
-pub mod Walks
+pub mod ElementTurn
 pub mod Once

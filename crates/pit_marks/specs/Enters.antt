@@ -65,11 +65,6 @@ pitEntered Full s x pits sure had = pitted (taken.Refused had 61) pits sure
 unfoldable pub enterPit : Bool → ℕ → List ℕ → List ℕ → Sizes → Pitted
 enterPit s x pits sure had = pitEntered (entered pits (had .pits) x) s x (wordsWith pits (had .pits) x) sure had
 
--- of the sure ones alone
-pub record EntersSure (sure : List ℕ) (had : Sizes) (x : ℕ) (r : Taken) (sure′ : List ℕ) : Type 0 where
-  pub gave : r ≡ sureEntered (entered sure (had .sure) x) [] [] had .answer
-  pub left : sure′ ≡ wordsWith sure (had .sure) x
-
 -- on with k, unless refused
 abbrev pub onward : (List ℕ → List ℕ → Sizes → Pitted) → Taken → List ℕ → List ℕ → Pitted
 onward k (taken.Now now) pits sure = k pits sure now
@@ -82,11 +77,6 @@ followed p k = onward k (p .answer) (p .pits) (p .sure)
 unfoldable pub enterMarks : ℕ → List Mark → List ℕ → List ℕ → Sizes → Pitted
 enterMarks t [] pits sure had = pitted (taken.Now had) pits sure
 enterMarks t (m ∷ ms) pits sure had = followed (enterPit (m .sure) (keyIn t (m .pit)) pits sure had) (enterMarks t ms)
-
-pub record Leaves (p : Pitted) (r : Taken) (pits sure : List ℕ) : Type 0 where
-  pub gave : r ≡ p .answer
-  pub pits-left : pits ≡ p .pits
-  pub sure-left : sure ≡ p .sure
 
 -- ---- a list: its tile before its pits
 

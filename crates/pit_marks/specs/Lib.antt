@@ -1,3 +1,4 @@
 pub mod Enters
+pub mod Inside
 pub mod Lines
 pub mod Sets

@@ -9,7 +9,8 @@ ghost use Rattle.count_rules.specs.Marks.{at, markLength, markAt, marksIn};
 ghost use Rattle.count_rules.specs.Keys.{span};
 ghost use Rattle.wire.specs.Slices.{buffer};
 ghost use Rattle.pit_marks.specs.Sets.{setsBefore, setsAfter};
-ghost use Rattle.pit_marks.specs.Enters.{keyIn, EntersSure, enterPit, enterMarks, Leaves, EntersList};
+ghost use Rattle.pit_marks.specs.Enters.{keyIn, enterPit, enterMarks, EntersList};
+ghost use Rattle.pit_marks.specs.Inside.{EntersSure, Leaves};
 ghost use Rattle.pit_marks.specs.Lines.{endOf, pitsIn, Lays};
 use sorted_set::Entered;
 

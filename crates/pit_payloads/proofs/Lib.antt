@@ -1,4 +1,4 @@
-pub mod Cases
+pub mod PayloadCases
 pub mod Empty
-pub mod Takes
+pub mod PayloadTaken
 pub mod Once

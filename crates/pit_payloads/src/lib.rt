@@ -2,7 +2,7 @@
 ghost use mathlib.Core.Path.{_≡_};
 ghost use Rattle.pit_marks.specs.Sets.{setsBefore, setsAfter};
 ghost use Rattle.pit_payloads.specs.Looks.{bookBefore, bookAfter, inNumbers, Leaves, Looks};
-ghost use Rattle.pit_payloads.specs.Took.{unreadBy};
+ghost use Rattle.pit_payloads.specs.Inside.{unreadBy};
 use lmcp::Found;
 use pit_marks::Sizes;
 use pit_marks::Taken;

@@ -31,7 +31,7 @@ use Rattle.receiver_state.specs.Inside.{Shaped, Remembers}
 use Rattle.receiver_state.proofs.Windows.{window-length}
 use Rattle.receiver_state.proofs.Firsts.{optionOf, first-within}
 use Rattle.receiver_state.proofs.Bridge.{slots-length, free-slot, oldest-slot}
-use Rattle.receiver_state.proofs.Cases.{row-is, key-is, size-is, name-is}
+use Rattle.receiver_state.proofs.StepListCases.{row-is, key-is, size-is, name-is}
 use Rattle.receiver.specs.Lent.{lent}
 use Rattle.receiver.specs.Calls.{Leaves}
 use Rattle.receiver.specs.Inside.{Slots, Releases, Occupies, Delivers, Seats, Begins}

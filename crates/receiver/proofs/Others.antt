@@ -18,7 +18,7 @@ use Rattle.steps.specs.Receive.{Machine, withSlots, forget}
 use Rattle.slots.specs.Words.{at, senderWord, countWord}
 use Rattle.receiver_state.specs.View.{stateWords, nameBytes, slotsOf, memoryOf, view, shaped}
 use Rattle.receiver_state.specs.Inside.{Shaped, Drops}
-use Rattle.receiver_state.proofs.Cases.{sender-is, count-is}
+use Rattle.receiver_state.proofs.StepListCases.{sender-is, count-is}
 use Rattle.receiver.specs.Calls.{Changes, Forgets, forgotten}
 use Rattle.receiver.specs.Inside.{Releases, ReleasesOne, ReleasesAll}
 use Rattle.receiver.specs.declared.Call.the-variants as call

@@ -28,7 +28,7 @@ use Rattle.steps.specs.Runs.{heard, from}
 use Rattle.steps.specs.Receive.{Machine, After, withSlots, stay, Verdict, refuse, again, deliver, join, begin, decide, act, step5, receive, sequenceOf, step}
 use Rattle.steps.proofs.Branches.{step-unsound, step-sound, receive-refused, step5-delivered, step5-kept}
 use Rattle.receiver_state.specs.View.{roomWord, slotsOf, view, shaped, ready}
-use Rattle.receiver_state.proofs.Cases.{ready-after}
+use Rattle.receiver_state.proofs.StepListCases.{ready-after}
 use Rattle.verdict.specs.Decided.{withHeader, verdictOf, decided}
 use Rattle.verdict.specs.Inside.{Possible}
 use Rattle.verdict.specs.declared.Verdict as code

@@ -3,5 +3,5 @@ pub mod Firsts
 pub mod Bridge
 pub mod Remembers
 pub mod Moves
-pub mod Cases
+pub mod StepListCases
 pub mod Unique

@@ -22,8 +22,9 @@ use Rattle.count_rules.specs.Run.{payloadIn, payloads, listsRead}
 use Rattle.count_rules.specs.Walk.{seenAt, seenAfter}
 use Rattle.pit_marks.specs.declared.Sizes.{Sizes}
 use Rattle.pit_marks.specs.Sets.{Sets, rooms, Has, PartOf, Partly}
-use Rattle.pit_payloads.specs.Took.{faultIn, listsIn, faultOver, Took}
-use Rattle.pit_payloads.proofs.Takes.{takes}
+use Rattle.pit_payloads.specs.Took.{faultIn, listsIn, faultOver}
+use Rattle.pit_payloads.specs.Inside.{Took}
+use Rattle.pit_payloads.proofs.PayloadTaken.{takes}
 use Rattle.stretch.specs.declared.Stop.{Stop}
 use Rattle.stretch.specs.declared.Stop.the-variants as stop
 use Rattle.stretch.specs.Stretch.{Kit, lookedAt, kitWith, Entered, enterOn, Stretched, here, before, byStep, stretch, Clean, stopFault}

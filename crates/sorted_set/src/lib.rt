@@ -42,7 +42,7 @@ fn stands_at(w: &[u64], n: usize, at: usize, x: u64) -> bool
 }
 
 // So many words move at once, by way of an array. Nothing overlaps it, so the compiler makes one move of both copies and drops the array.
-const BLOCK: usize = 256;
+const BLOCK: usize = 2048;
 
 // n words of src, from a place on, at a place.
 fn put_part(out: &mut [u64], at: usize, src: &[u64], from: usize, n: usize)
@@ -58,7 +58,7 @@ fn put_part(out: &mut [u64], at: usize, src: &[u64], from: usize, n: usize)
 
 // n words from a place on, at most a block, move up by one.
 fn move_up(w: &mut [u64], from: usize, n: usize)
-    requires { ⌜ (n ≤ 256) × (from + n < length (now w)) ⌝ }
+    requires { ⌜ (n ≤ 2048) × (from + n < length (now w)) ⌝ }
     ensures { λ _. ⌜ now (w .exit) ≡ overlay (now (w .entry)) (from + 1) (take n (drop from (now (w .entry)))) ⌝ }
 {
     let mut block = [0u64; BLOCK];

@@ -30,7 +30,8 @@ hears-so (c ∷ cs) =
     λ i. zipWith heard xs (run-at ledgerLength inFours (length-replicate {A = ℕ} ledgerLength 7) xs i) ∷ hears-so cs i
 
 computed : map quickly cases ≡ map (λ (c : Case). c .answered) cases
-unfolding inFours runAt zipWith A-of B-of step sound receive decide act stay step3 step5 sameFragment agrees seat oldest release lower opening openCount filled opened emptyMemory isRemembered remember placeFor withKey memoryOk among isHeld hold noneHeld said readDatagram readSmall readFragment formed goodForm nameLength goodName untilZero be overlay
+unfolding inFours runAt zipWith A-of B-of step sound receive decide act stay step3 step5 sameFragment agrees seat oldest release lower opening openCount filled opened emptyMemory isRemembered remember
+    placeFor withKey memoryOk among isHeld hold noneHeld said readDatagram readSmall readFragment formed goodForm nameLength goodName untilZero be overlay
 computed = refl
 
 pub worked-cases : map hears cases ≡ map (λ (c : Case). c .answered) cases

@@ -17,9 +17,11 @@ use Rattle.wire.specs.Choice.{pick}
 use Rattle.wire.proofs.Choices.{either, never, and-of, or-l, or-r, pick-all}
 use Rattle.steps.specs.Limits.{sendersMost, keysEach}
 use Rattle.steps.specs.Search.{first}
-use Rattle.steps.specs.Memory.{Key, sameKey, among, Place, noPlace, vacant, isOf, has, Memory, emptyMemory, placeAt, isRemembered, furthestBack, placeFor, orElse, withKey, sunk, remember, freed, forgetKeys, rememberAll, since, Recent, Deed, delivery, forgetting, memoryAfter, without, latest, sequencesOf, amongLast, isThere, isKnown}
+use Rattle.steps.specs.Memory.{Key, sameKey, among, Place, noPlace, vacant, isOf, has, Memory, emptyMemory, placeAt, isRemembered, furthestBack, placeFor, orElse, withKey}
+use Rattle.steps.specs.Memory.{sunk, remember, freed, forgetKeys, rememberAll, since, Recent, Deed, delivery, forgetting, memoryAfter, without, latest, sequencesOf, amongLast, isThere, isKnown}
 use Rattle.steps.proofs.Tables.{or-not, or-yes, First, first-some, first-none}
-use Rattle.steps.proofs.Memories.{key-same, has-reverse, without-less, without-other, at-most, Whole, empty-whole, empty-vacant, remember-whole, forget-whole, forget-at, Seated, own, free, full, seated, place-inside, own-place, found, not-found, of-sender, of-taken, taken-of, vacant-of, key-taken, key-sender, after-here, after-other, Holds, holds-own, holds-first, freed-own, freed-same, freed-other}
+use Rattle.steps.proofs.Memories.{key-same, has-reverse, without-less, without-other, at-most, Whole, empty-whole, empty-vacant, remember-whole, forget-whole, forget-at, Seated, own, free, full, seated, place-inside}
+use Rattle.steps.proofs.Memories.{own-place, found, not-found, of-sender, of-taken, taken-of, vacant-of, key-taken, key-sender, after-here, after-other, Holds, holds-own, holds-first, freed-own, freed-same, freed-other}
 
 -- ---- lists of numbers, each once
 

@@ -7,7 +7,9 @@ use Rattle.checksum.proofs.sum_of_eight.Tie as tie
 
 returns : tie.Need-returns
 returns c =
-    let a = c .before .before .before .before .before .before .before .before .before .before .before .before .before .before .before .before .before .args in
+    let earlier = c .before .before .before .before .before .before .before .before in
+    let earlier-2 = earlier .before .before .before .before .before .before .before .before in
+    let a = earlier-2 .before .args in
     omega (arith, sum-eight (a .b .now) (a .i) (omega arith))
 
 pub sum-of-eight-spec : {M : Type 1} → statement M

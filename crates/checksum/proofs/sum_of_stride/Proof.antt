@@ -7,7 +7,8 @@ use Rattle.checksum.proofs.sum_of_stride.Tie as tie
 
 returns : tie.Need-returns
 returns c =
-    let a = c .before .before .before .before .before .before .before .before .before .args in
+    let earlier = c .before .before .before .before .before .before .before .before in
+    let a = earlier .before .args in
     omega (arith, sum-stride (a .b .now) (a .i))
 
 pub sum-of-stride-spec : {M : Type 1} → statement M

@@ -32,23 +32,32 @@ empty-rooms = λ i. record { tiles = length-replicate {A = ℕ} maxTiles 0 i; pi
 
 returns : tie.Need-returns
 returns c =
-    let w = c .before .before .before .before .before .before .before .before .before .before .before .before .before .before in
-    let o = w .before .before .before .before .before .before .before .before .before .before .before in
+    let earlier = c .before .before .before .before .before .before .before .before in
+    let w = earlier .before .before .before .before .before .before in
+    let earlier-2 = w .before .before .before .before .before .before .before .before in
+    let o = earlier-2 .before .before .before in
     let at-log = o .before .before .before .before .before in
     let st = at-log .before in
     let a = st .args in
     let b : Bytes (a .log .now) = λ i. at-log .shared-slice-known .given i .fits in
-    refused-then (a .log .now) b (a .entries) (st .pre) (desk (lent _ _ _ _) (book _ (setsOf _ _ _))) _ _ (o .«open» .result) (o .«open» .ensures) (length-replicate {A = ℕ} stateWords 0) (length-replicate {A = ℕ} nameBytes 0) empty-rooms (w .count-on .result) (desk (lent _ _ _ _) (book _ (setsOf _ _ _))) (w .count-on .ensures) (c .before .before .stop .given .0 .0) (c .before .before .stop .given .1) _ (c .refused .ensures)
+    refused-then (a .log .now) b (a .entries) (st .pre) (desk (lent _ _ _ _) (book _ (setsOf _ _ _))) _ _ (o .«open» .result) (o .«open» .ensures) (length-replicate {A = ℕ} stateWords 0)
+    (length-replicate {A = ℕ} nameBytes 0) empty-rooms (w .count-on .result) (desk (lent _ _ _ _) (book _ (setsOf _ _ _))) (w .count-on .ensures) (c .before .before .stop .given .0 .0)
+    (c .before .before .stop .given .1) _ (c .refused .ensures)
 
 returns-2 : tie.Need-returns-2
 returns-2 c =
-    let w = c .before .before .before .before .before .before .before .before .before .before .before .before .before .before .before .before .before in
-    let o = w .before .before .before .before .before .before .before .before .before .before .before in
+    let earlier = c .before .before .before .before .before .before .before .before in
+    let earlier-2 = earlier .before .before .before .before .before .before .before .before in
+    let w = earlier-2 .before in
+    let earlier-3 = w .before .before .before .before .before .before .before .before in
+    let o = earlier-3 .before .before .before in
     let at-log = o .before .before .before .before .before in
     let st = at-log .before in
     let a = st .args in
     let b : Bytes (a .log .now) = λ i. at-log .shared-slice-known .given i .fits in
-    given-then (a .log .now) b (a .entries) (st .pre) (desk (lent _ _ _ _) (book _ (setsOf _ _ _))) _ _ (o .«open» .result) (o .«open» .ensures) (length-replicate {A = ℕ} stateWords 0) (length-replicate {A = ℕ} nameBytes 0) empty-rooms (w .count-on .result) (desk (lent _ _ _ _) (book _ (setsOf _ _ _))) (w .count-on .ensures) (λ k e. not-three _ (ap (tagOf the-type) e) (c .before .before .before .before .before .before .match .keys2)) _ (c .given .ensures)
+    given-then (a .log .now) b (a .entries) (st .pre) (desk (lent _ _ _ _) (book _ (setsOf _ _ _))) _ _ (o .«open» .result) (o .«open» .ensures) (length-replicate {A = ℕ} stateWords 0)
+    (length-replicate {A = ℕ} nameBytes 0) empty-rooms (w .count-on .result) (desk (lent _ _ _ _) (book _ (setsOf _ _ _))) (w .count-on .ensures)
+    (λ k e. not-three _ (ap (tagOf the-type) e) (c .before .before .before .before .before .before .match .keys2)) _ (c .given .ensures)
 
 pub afresh-spec : {M : Type 1} → statement M
 afresh-spec =

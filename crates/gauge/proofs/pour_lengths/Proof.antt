@@ -8,7 +8,8 @@ use Rattle.moss.specs.Blocks.{messagesIn}
 use Rattle.moss.specs.Packet.{fillFault}
 use Rattle.text.specs.Text.{decimal}
 use Rattle.output.proofs.Sending.{sends-none, pours-then, pours-is}
-use Rattle.gauge.specs.Lines.{spaced, lengthsIn}
+use Rattle.gauge.specs.Lines.{spaced}
+use Rattle.gauge.specs.Inside.{lengthsIn}
 use Rattle.gauge.proofs.Texts.{Passed, block-fits, rest-filled, lengths-next, lengths-end}
 use borrow.Author.Needs.{needs}
 use Rattle.gauge.proofs.pour_lengths.Statement.{statement}

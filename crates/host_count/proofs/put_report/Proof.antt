@@ -13,12 +13,18 @@ slice-aggregate-put-words-4 c = search needs
 
 slice-aggregate-put-words-5 : tie.Need-slice-aggregate-put-words-5
 slice-aggregate-put-words-5 c =
-    let start = c .before .before .before .before .before .before .before .before .before .before .before .before .before .before .before .before .before .before .before .before .before .before .before .before .before .before .before in
+    let earlier = c .before .before .before .before .before .before .before .before in
+    let earlier-2 = earlier .before .before .before .before .before .before .before .before in
+    let earlier-3 = earlier-2 .before .before .before .before .before .before .before .before in
+    let start = earlier-3 .before .before .before in
     let pits = start .good .1 .0 .1 .1 .1 .1 .1 .1 .1 .1 .1 .1 .0 in search needs
 
 slice-aggregate-put-words-6 : tie.Need-slice-aggregate-put-words-6
 slice-aggregate-put-words-6 c =
-    let start = c .before .before .before .before .before .before .before .before .before .before .before .before .before .before .before .before .before .before .before .before .before .before .before .before .before .before .before .before .before .before .before .before in
+    let earlier = c .before .before .before .before .before .before .before .before in
+    let earlier-2 = earlier .before .before .before .before .before .before .before .before in
+    let earlier-3 = earlier-2 .before .before .before .before .before .before .before .before in
+    let start = earlier-3 .before .before .before .before .before .before .before .before in
     let sure = start .good .1 .0 .1 .1 .1 .1 .1 .1 .1 .1 .1 .1 .1 .0 in search needs
 
 returns : tie.Need-returns

@@ -29,7 +29,8 @@ returns-2 c =
 
 returns-3 : tie.Need-returns-3
 returns-3 c =
-    let l = c .before .before .before .before .before .before .before .before .before in
+    let earlier = c .before .before .before .before .before .before .before .before in
+    let l = earlier .before in
     let test = l .before .before .before .before in
     let start = test .before .before .before .before .before in
     let a = start .args in

@@ -13,7 +13,8 @@ returns c = short-told _ _ _ _ (sym (c .before .no-room .ensures) ∙ c .if1 .ta
 returns-2 : tie.Need-returns-2
 returns-2 c =
     let telling = c .before .before .before .before in
-    let hearing = telling .before .before .before .before .before .before .before .before .before .before .before in
+    let earlier = telling .before .before .before .before .before .before .before .before in
+    let hearing = earlier .before .before .before in
     let test = hearing .before .before .before .before .before in
     let room = sym (test .before .no-room .ensures) ∙ test .if1 .left in
     heard-told _ (lent _ _ _ _) (_ ⇒ _) (_ ⇒ _) _ _ (lent _ _ _ _) room (hearing .receive .ensures) (telling .tell .ensures)

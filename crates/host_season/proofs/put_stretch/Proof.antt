@@ -12,10 +12,12 @@ returns : tie.Need-returns
 returns c =
     let four = c .before .before in
     let three = c .before .before .before .before .before .before .before in
-    let two = c .before .before .before .before .before .before .before .before .before .before .before .before in
-    let one = c .before .before .before .before .before .before .before .before .before .before .before .before .before .before .before .before .before in
-    let start = c .before .before .before .before .before .before .before .before .before .before .before .before .before .before .before .before .before .before .before .before .before .before .before .before .before in
-    put (start .args .list .now) (start .args .stretch .stop) _ _ _ _ (c .before .before .before .before .before .before .before .before .before .before .before .before .before .before .before .before .before .before .before .before .stop-numbers .ensures) refl (slice-aggregate-put-words-3 (three .before)) (one .put-words .ensures) (two .put-words2 .ensures) (three .put-words3 .ensures) (four .put-words4 .ensures)
+    let two = three .before .before .before .before .before in
+    let one = two .before .before .before .before .before in
+    let start = one .before .before .before .before .before .before .before .before in
+    put (start .args .list .now) (start .args .stretch .stop) _ _ _ _
+    (one .before .before .before .stop-numbers .ensures) refl
+    (slice-aggregate-put-words-3 (three .before)) (one .put-words .ensures) (two .put-words2 .ensures) (three .put-words3 .ensures) (four .put-words4 .ensures)
 
 pub put-stretch-spec : {M : Type 1} → statement M
 put-stretch-spec =

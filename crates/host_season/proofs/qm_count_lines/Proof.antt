@@ -7,20 +7,25 @@ use Rattle.host_season.proofs.qm_count_lines.Tie as tie
 
 returns : tie.Need-returns
 returns c =
-    let a = c .before .before .before .before .before .before .before .before .before .before .before .before .before .before .args in
+    let earlier = c .before .before .before .before .before .before .before .before in
+    let a = earlier .before .before .before .before .before .before .args in
     not-written (setsOf (a .tiles .now) (a .pits .now) (a .sure .now)) (record { tiles = a .had-tiles; pits = a .had-pits; sure = a .had-sure }) (a .tile .now) (a .pit .now) (a .certain .now)
     (c .before .before .before .before .before .before .before .least .result) (c .before .before .before .before .before .before .before .least .ensures) (c .before .no-room .result) (c .before .no-room .ensures) (c .if1 .taken)
 
 returns-2 : tie.Need-returns-2
 returns-2 c =
-    let a = c .before .before .before .before .before .before .before .before .before .before .before .before .before .before .before .before .before .before .before .before .before .before .before .before .args in
-    let one = c .before .before .before .before .before .before .before .before .before .before .before .before .before .before .before .before .before in
-    let two = c .before .before .before .before .before .before .before .before .before .before .before .before .before .before .before .before in
-    let three = c .before .before .before .before .before .before .before .before .before .before .before .before .before .before .before in
+    let earlier = c .before .before .before .before .before .before .before .before in
+    let earlier-2 = earlier .before .before .before .before .before .before .before .before in
+    let a = earlier-2 .before .before .before .before .before .before .before .before .args in
+    let one = earlier-2 .before in
+    let two = earlier-2 in
+    let three = earlier .before .before .before .before .before .before .before in
     written-so (setsOf (a .tiles .now) (a .pits .now) (a .sure .now)) (record { tiles = a .had-tiles; pits = a .had-pits; sure = a .had-sure }) (a .tile .now) (a .pit .now) (a .certain .now)
     (record { tiles = one .least .result; pits = two .least2 .result; sure = three .least3 .result })
     (λ i. record { tiles = one .least .ensures i; pits = two .least2 .ensures i; sure = three .least3 .ensures i })
-    (c .before .before .before .before .before .before .before .before .before .before .before .no-room .result) (c .before .before .before .before .before .before .before .before .before .before .before .no-room .ensures) (c .before .before .before .before .before .before .before .before .before .before .if1 .left) _ _ _ (c .before .before .before .before .before .before .put-lines .ensures)
+    (earlier .before .before .before .no-room .result)
+    (earlier .before .before .before .no-room .ensures)
+    (earlier .before .before .if1 .left) _ _ _ (c .before .before .before .before .before .before .put-lines .ensures)
 
 pub qm-count-lines-spec : {M : Type 1} → statement M
 qm-count-lines-spec =

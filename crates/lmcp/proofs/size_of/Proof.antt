@@ -29,7 +29,8 @@ returns : tie.Need-returns
 returns c =
     let start = c .before in
     let b = below w64 (start .args .z) (start .fits .z) (subst (λ (y : ℤ). ltZ y (pos 0) ≡ true) (through (start .args .z) (start .fits .z)) (c .if1 .taken)) in
-    ap natAbs (ap (λ (y : ℤ). toZ w64 (ofZ w64 (negsuc 0 -ℤ y))) (through (start .args .z) (start .fits .z)) ∙ through (negsuc 0 -ℤ start .args .z) (b .sfits)) ∙ negative-size (start .args .z) (start .fits .z) (subst (λ (y : ℤ). ltZ y (pos 0) ≡ true) (through (start .args .z) (start .fits .z)) (c .if1 .taken))
+    ap natAbs (ap (λ (y : ℤ). toZ w64 (ofZ w64 (negsuc 0 -ℤ y))) (through (start .args .z) (start .fits .z)) ∙ through (negsuc 0 -ℤ start .args .z) (b .sfits)) ∙ negative-size (start .args .z)
+    (start .fits .z) (subst (λ (y : ℤ). ltZ y (pos 0) ≡ true) (through (start .args .z) (start .fits .z)) (c .if1 .taken))
 
 cast-result-2 : tie.Need-cast-result-2
 cast-result-2 c =

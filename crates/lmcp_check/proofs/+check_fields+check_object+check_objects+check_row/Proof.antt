@@ -9,7 +9,7 @@ use borrow.Author.Needs.{needs}
 use Rattle.lmcp.specs.declared.Row.{Row}
 use Rattle.lmcp.specs.Run.{repeat}
 use Rattle.lmcp.specs.Table.{pitsurv, rowsOf, startsOf, fieldsOf}
-use Rattle.lmcp.proofs.Goes.{repeat-all}
+use Rattle.lmcp.proofs.WalkPlaces.{repeat-all}
 use Rattle.lmcp_check.specs.InsideSteps.{readObject, readFields}
 use Rattle.lmcp.specs.Packed.{packedOf, cell}
 use Rattle.lmcp_check.specs.InsideChecks.{Upto}
@@ -373,7 +373,8 @@ check-row-check-chars-requires t c κs =
 
 check-row-returns-4 : (t : ℕ) → check-row-lts.Need-returns-4 (check-row-claims t) (check-row-at t) check-row.Post
 check-row-returns-4 t c =
-    let at-entry = c .before .before .before .before .before .before .before .before .before in
+    let earlier = c .before .before .before .before .before .before .before .before in
+    let at-entry = earlier .before in
     let start = at-entry .before .before in
     let a = start .args in
     let l = start .pre .1 .0 in
@@ -395,7 +396,8 @@ check-row-check-objects-requires t c κs =
 
 check-row-returns-5 : (t : ℕ) → check-row-lts.Need-returns-5 (check-row-claims t) (check-row-at t) check-row.Post
 check-row-returns-5 t c =
-    let at-entry = c .before .before .before .before .before .before .before .before .before in
+    let earlier = c .before .before .before .before .before .before .before .before in
+    let at-entry = earlier .before in
     let start = at-entry .before .before in
     let a = start .args in
     let l = start .pre .1 .0 in

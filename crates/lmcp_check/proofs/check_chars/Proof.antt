@@ -10,7 +10,7 @@ use Rattle.lmcp.specs.Run.{repeat, got}
 use Rattle.lmcp.specs.Table.{charKind}
 use Rattle.lmcp.specs.Value.{numberOf}
 use Rattle.lmcp.specs.Read.{readValue}
-use Rattle.lmcp.proofs.Goes.{repeat-all}
+use Rattle.lmcp.proofs.WalkPlaces.{repeat-all}
 use Rattle.lmcp_check.proofs.Cases.{value-short, value-bad, value-good, fault-char, sound-char}
 use Rattle.lmcp_check.specs.InsideChecks.{fault0, Upto}
 use Rattle.lmcp.proofs.Widths.{be-one}

@@ -16,13 +16,13 @@ use Rattle.lmcp.specs.Table.{pitsurv, rowsOf, fieldsOf}
 use Rattle.lmcp.specs.Packed.{packedOf, cell}
 use Rattle.lmcp.specs.Read.{reading}
 use Rattle.lmcp.specs.Ends.{Sofar}
-use Rattle.lmcp.proofs.Goes.{begins, repeat-all, repeat-more, fields-more, items-turn, items-end, fields-turn, fields-done}
+use Rattle.lmcp.proofs.WalkPlaces.{begins, repeat-all, repeat-more, fields-more, items-turn, items-end, fields-turn, fields-done}
 use Rattle.lmcp.proofs.Widths.{be-one}
 use Rattle.lmcp_check.specs.InsideSteps.{readObject, readFields}
 use Rattle.lmcp_check.proofs.Cases.{number-is}
 use Rattle.lmcp_check.proofs.Steps.{few-rows, bounds}
 use Rattle.lmcp_reader.specs.InsidePuts.{Ahead, Few0}
-use Rattle.lmcp_reader.proofs.Cases.{through, plain-small}
+use Rattle.lmcp_reader.proofs.NumberBits.{through, plain-small}
 use Rattle.lmcp_reader.proofs.Puts.{ahead-as, ahead-first, ahead-next, Here, object-ahead, object-laid, width-is, values-room, values-laid, single-room, single-laid}
 use Rattle.lmcp_reader.proofs.Puts.{few, count-inside, items-ahead, objects-ahead, objects-laid, chars-room, chars-laid}
 use Rattle.lmcp_reader.proofs.Puts.{Object, first-inside, null-room, null-laid, some-inside, some-deep, some-typed, some-ahead, some-laid}
@@ -103,7 +103,24 @@ abbrev put-objects-claims : ℕ → put-objects-lts.Claims
 put-objects-claims t = (put-object-below t, put-object.Post)
 
 abbrev put-row-claims : ℕ → put-row-lts.Claims
-put-row-claims t = (entry-reads.Asked, entry-reads.Learnt, put-object-below t, put-object.Post, value-of-reads.Asked, value-of-reads.Learnt, put-reads.Asked, put-reads.Learnt, put-values-reads.Asked, put-values-reads.Learnt, number-reads.Asked, number-reads.Learnt, plain-of-reads.Asked, plain-of-reads.Learnt, put-objects-below t, put-objects.Post)
+put-row-claims t = (
+  entry-reads.Asked,
+  entry-reads.Learnt,
+  put-object-below t,
+  put-object.Post,
+  value-of-reads.Asked,
+  value-of-reads.Learnt,
+  put-reads.Asked,
+  put-reads.Learnt,
+  put-values-reads.Asked,
+  put-values-reads.Learnt,
+  number-reads.Asked,
+  number-reads.Learnt,
+  plain-of-reads.Asked,
+  plain-of-reads.Learnt,
+  put-objects-below t,
+  put-objects.Post,
+)
 
 -- ---- fields
 
@@ -261,7 +278,8 @@ put-object-put-fields-requires t c κs =
 
 put-object-returns-2 : (t : ℕ) → put-object-lts.Need-returns-2 (put-object-claims t) (put-object-at t) put-object.Post
 put-object-returns-2 t c =
-    let w = c .before .before .before .before .before .before .before .before .before in
+    let earlier = c .before .before .before .before .before .before .before .before in
+    let w = earlier .before in
     let f = c .before .before .before .before .before .before .before in
     some-laid (object-here t w) (w .wide .result) (object-first t w) (f .before .if1 .left) (f .four .result) (f .four .ensures .0) (object-typed t (c .before .before .before .before)) _ _ _ (c .before .put-fields .ensures)
 
@@ -342,10 +360,11 @@ row-fixed : (t : ℕ) (c : put-row-lts.After-entry4 (put-row-claims t) (put-row-
 row-fixed t c = let start = c .before .before .before .before .before .before .before in c .entry4 .ensures ∙ ap (λ (y : List (List ℕ)). cell y (start .args .i) 1) (start .pre .1 .0 .packed)
 
 -- its count, laid
-row-counted : (t : ℕ) (c : put-row-lts.After-put2 (put-row-claims t) (put-row-at t) put-row.Post) → c .put2 .last .0 ≡ set (c .before .before .before .before .before .before .before .before .before .args .list .now)
-    (c .before .before .before .before .before .before .before .before .before .args .q) (pos (c .before .before .before .number .result))
+row-counted : (t : ℕ) (c : put-row-lts.After-put2 (put-row-claims t) (put-row-at t) put-row.Post) →
+    (let earlier = c .before .before .before .before .before .before .before .before in let a = earlier .before .args in c .put2 .last .0 ≡ set (a .list .now) (a .q) (pos (c .before .before .before .number .result)))
 row-counted t c =
-    let a = c .before .before .before .before .before .before .before .before .before .args in
+    let earlier = c .before .before .before .before .before .before .before .before in
+    let a = earlier .before .args in
     let v = c .before .plain-of in
     c .put2 .ensures ∙ ap (λ (z : ℤ). set (a .list .now) (a .q) z) (through (record { sfits = v .ok }) (v .ensures))
 
@@ -508,7 +527,8 @@ put-row-put-objects-requires t c κs =
 
 put-row-returns-4 : (t : ℕ) → put-row-lts.Need-returns-4 (put-row-claims t) (put-row-at t) put-row.Post
 put-row-returns-4 t c =
-    let r = c .before .before .before .before .before .before .before .before .before .before in
+    let earlier = c .before .before .before .before .before .before .before .before in
+    let r = earlier .before .before in
     let H = row-here t r in
     let m = c .before .before .before .before .before .before .before .before in
     let z = m .before .if1 .left in
@@ -549,7 +569,8 @@ put-row-put-values-requires-2 t c κs =
 
 put-row-add-t39 : (t : ℕ) → put-row-lts.Need-add-t39 (put-row-claims t) (put-row-at t) put-row.Post
 put-row-add-t39 t c =
-    let r = c .before .before .before .before .before .before .before .before .before .before in
+    let earlier = c .before .before .before .before .before .before .before .before in
+    let r = earlier .before .before in
     let H = row-here t r in
     let m = c .before .before .before .before .before .before .before .before in
     let z = m .before .if1 .left in
@@ -559,7 +580,8 @@ put-row-add-t39 t c =
 
 put-row-mul-t40 : (t : ℕ) → put-row-lts.Need-mul-t40 (put-row-claims t) (put-row-at t) put-row.Post
 put-row-mul-t40 t c =
-    let r = c .before .before .before .before .before .before .before .before .before .before in
+    let earlier = c .before .before .before .before .before .before .before .before in
+    let r = earlier .before .before in
     let H = row-here t r in
     let m = c .before .before .before .before .before .before .before .before in
     let z = m .before .if1 .left in
@@ -569,7 +591,8 @@ put-row-mul-t40 t c =
 
 put-row-add-t43 : (t : ℕ) → put-row-lts.Need-add-t43 (put-row-claims t) (put-row-at t) put-row.Post
 put-row-add-t43 t c =
-    let r = c .before .before .before .before .before .before .before .before .before .before in
+    let earlier = c .before .before .before .before .before .before .before .before in
+    let r = earlier .before .before in
     let H = row-here t r in
     let m = c .before .before .before .before .before .before .before .before in
     let z = m .before .if1 .left in
@@ -579,7 +602,8 @@ put-row-add-t43 t c =
 
 put-row-add-t44 : (t : ℕ) → put-row-lts.Need-add-t44 (put-row-claims t) (put-row-at t) put-row.Post
 put-row-add-t44 t c =
-    let r = c .before .before .before .before .before .before .before .before .before .before in
+    let earlier = c .before .before .before .before .before .before .before .before in
+    let r = earlier .before .before in
     let H = row-here t r in
     let m = c .before .before .before .before .before .before .before .before in
     let z = m .before .if1 .left in
@@ -589,7 +613,8 @@ put-row-add-t44 t c =
 
 put-row-add-t45 : (t : ℕ) → put-row-lts.Need-add-t45 (put-row-claims t) (put-row-at t) put-row.Post
 put-row-add-t45 t c =
-    let r = c .before .before .before .before .before .before .before .before .before .before in
+    let earlier = c .before .before .before .before .before .before .before .before in
+    let r = earlier .before .before in
     let H = row-here t r in
     let m = c .before .before .before .before .before .before .before .before in
     let z = m .before .if1 .left in
@@ -599,7 +624,8 @@ put-row-add-t45 t c =
 
 put-row-returns-5 : (t : ℕ) → put-row-lts.Need-returns-5 (put-row-claims t) (put-row-at t) put-row.Post
 put-row-returns-5 t c =
-    let r = c .before .before .before .before .before .before .before .before .before .before in
+    let earlier = c .before .before .before .before .before .before .before .before in
+    let r = earlier .before .before in
     let H = row-here t r in
     let m = c .before .before .before .before .before .before .before .before in
     let z = m .before .if1 .left in

@@ -7,7 +7,7 @@ use lib.IntN.{ℤ}
 use lib.ListN.{length}
 use lib.Seq.{length-take-le}
 use borrow.Author.Needs.{needs}
-use Rattle.lmcp.proofs.Goes.{empty}
+use Rattle.lmcp.proofs.WalkPlaces.{empty}
 use Rattle.lmcp_reader.proofs.Roots.{long-list, counted}
 use Rattle.lmcp_reader.proofs.has_room.Statement.{statement}
 use Rattle.lmcp_reader.proofs.has_room.Tie as tie

@@ -10,7 +10,7 @@ use Rattle.lmcp.specs.declared.Found.the-variants.{Refused}
 use Rattle.lmcp.specs.Run.{prepend, whole}
 use Rattle.lmcp.specs.Message.{ReadTo}
 use Rattle.lmcp_check.specs.InsideSteps.{readRoot}
-use Rattle.lmcp_reader.proofs.Cases.{through}
+use Rattle.lmcp_reader.proofs.NumberBits.{through}
 use Rattle.lmcp_reader.proofs.Roots.{root-ahead, list-short, list-good}
 use Rattle.lmcp_reader.proofs.put_list.Statement.{statement}
 use Rattle.lmcp_reader.proofs.put_list.Tie as tie
@@ -31,7 +31,8 @@ returns c =
 
 put-object-requires : tie.Need-put-object-requires
 put-object-requires c κs =
-    let t = c .before .before .before .before .before .before .before .before .before .before .before in
+    let earlier = c .before .before .before .before .before .before .before .before in
+    let t = earlier .before .before .before in
     let start = t .before .before in
     let a = start .args in
     (record { short = start .pre .1 .0; inside = omega arith; packed = t .table .ensures }, root-ahead (a .version) (a .s .now) (start .pre .1 .1))

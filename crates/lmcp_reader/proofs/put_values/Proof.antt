@@ -7,7 +7,7 @@ use lib.IntN.{ℤ}
 use lib.ListN.{length, drop, set}
 use lib.Seq.{sets, drop-drop}
 use borrow.Author.Needs.{needs}
-use Rattle.lmcp_reader.proofs.Cases.{through}
+use Rattle.lmcp_reader.proofs.NumberBits.{through}
 use Rattle.lmcp_reader.specs.InsidePuts.{coded, codedAll}
 use Rattle.lmcp.proofs.Widths.{peel}
 use Rattle.lmcp_reader.proofs.put_values.Statement.{statement}

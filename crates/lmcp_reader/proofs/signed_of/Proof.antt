@@ -3,7 +3,7 @@ use mathlib.Core.Path.{_∙_}
 use native.Mathlib.Omega.{arith}
 use mir.Syntax.{w64}
 use mir.ValLaws.{toZ-ofZ}
-use Rattle.lmcp_reader.proofs.Cases.{half-small, two-halves, low, high, high-fits}
+use Rattle.lmcp_reader.proofs.NumberBits.{half-small, two-halves, low, high, high-fits}
 use Rattle.lmcp_reader.proofs.signed_of.Statement.{statement}
 use Rattle.lmcp_reader.proofs.signed_of.Tie as tie
 

@@ -8,7 +8,7 @@ use lib.ListN.{drop}
 use borrow.Author.Tests.{ne-eqb}
 use Rattle.wire.specs.Bytes.{be}
 use Rattle.wire.specs.Signed.{signed}
-use Rattle.lmcp_reader.proofs.Cases.{through}
+use Rattle.lmcp_reader.proofs.NumberBits.{through}
 use Rattle.lmcp_reader.specs.InsidePuts.{coded}
 use Rattle.lmcp.specs.InsidePacked.{widthOf}
 use Rattle.lmcp.proofs.Widths.{be-one}

@@ -13,7 +13,7 @@ use Rattle.lmcp.specs.Run.{repeat}
 use Rattle.lmcp.specs.Table.{pitsurv, rowsOf, fieldsOf}
 use Rattle.lmcp.specs.Write.{writing}
 use Rattle.lmcp.specs.Ends.{Sofar, Few15}
-use Rattle.lmcp.proofs.Goes.{same-run, begins, marked-then, marked-end, marked-stops, repeat-all, item-object, item-value, field-fixed, field-counted, inside, object-is, inside-null, inside-fields, items-turn, items-stop, items-end, fields-turn, fields-stop, fields-done, mark-stop, mark-on}
+use Rattle.lmcp.proofs.WalkPlaces.{same-run, begins, marked-then, marked-end, marked-stops, repeat-all, item-object, item-value, field-fixed, field-counted, inside, object-is, inside-null, inside-fields, items-turn, items-stop, items-end, fields-turn, fields-stop, fields-done, mark-stop, mark-on}
 use Rattle.lmcp.proofs.Tables.{rows-of}
 use Rattle.lmcp.proofs.Heads.{write-some}
 use Rattle.lmcp.proofs.Pitsurv.{row-fit}

@@ -1,7 +1,7 @@
 -- `lmcp_writer::count_root` meets its contract: of no output nothing is left.
 use mathlib.Core.Path.{_≡_, ap, subst}
 use mathlib.Core.List.{List, [], _++_}
-use Rattle.lmcp.proofs.Goes.{empty}
+use Rattle.lmcp.proofs.WalkPlaces.{empty}
 use Prim.Native.Nat.{ℕ}
 use Rattle.lmcp_writer.specs.Steps.{Ends, writeRoot}
 use borrow.Author.Needs.{needs}

@@ -8,7 +8,7 @@ use lib.ListN.{getD, drop}
 use Rattle.wire.specs.Bytes.{bytes}
 use Rattle.wire.proofs.Numbers.{length-bytes}
 use Rattle.lmcp.specs.Value.{below}
-use Rattle.lmcp.proofs.Goes.{marked}
+use Rattle.lmcp.proofs.WalkPlaces.{marked}
 use Rattle.lmcp.proofs.Sizes.{through}
 use Rattle.lmcp_writer.proofs.Cases.{laid-number, at-end, here, count-end, count-good, count-bad}
 use borrow.Author.Needs.{needs}

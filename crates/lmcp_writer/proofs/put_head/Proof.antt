@@ -12,7 +12,7 @@ use Rattle.wire.proofs.Overlays.{overlay-sets}
 use Rattle.lmcp.specs.Table.{pitsurv}
 use Rattle.lmcp.specs.Value.{below}
 use Rattle.lmcp.specs.Write.{header, typedBy}
-use Rattle.lmcp.proofs.Goes.{marked}
+use Rattle.lmcp.proofs.WalkPlaces.{marked}
 use Rattle.lmcp.proofs.Heads.{header-length}
 use Rattle.lmcp.proofs.Sizes.{through}
 use Rattle.lmcp_writer.proofs.Cases.{laid-number, at-end, here, head-end, head-null, head-deep, head-typed, head-untyped}

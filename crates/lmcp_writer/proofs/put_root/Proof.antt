@@ -10,7 +10,7 @@ use Rattle.lmcp.specs.Table.{pitsurv}
 use Rattle.lmcp.specs.Value.{below}
 use Rattle.lmcp.specs.Write.{writing}
 use Rattle.lmcp.specs.Ends.{Few15}
-use Rattle.lmcp.proofs.Goes.{same-run, root-stops, root-null, root-object, empty}
+use Rattle.lmcp.proofs.WalkPlaces.{same-run, root-stops, root-null, root-object, empty}
 use Rattle.lmcp.proofs.Sizes.{through}
 use Rattle.lmcp_writer.proofs.Cases.{here, head-end, head-null, root-some}
 use borrow.Author.Needs.{needs}

@@ -9,7 +9,7 @@ use Rattle.wire.specs.Bytes.{bytes}
 use Rattle.wire.proofs.Numbers.{length-bytes}
 use Rattle.wire.specs.Signed.{unsigned}
 use Rattle.lmcp.specs.Value.{fits}
-use Rattle.lmcp.proofs.Goes.{made}
+use Rattle.lmcp.proofs.WalkPlaces.{made}
 use Rattle.lmcp.proofs.Sizes.{through}
 use Rattle.lmcp_writer.proofs.Cases.{low-bytes, laid-number, at-end, here, value-end, value-good, value-bad}
 use borrow.Author.Needs.{needs}

@@ -1,4 +1,5 @@
--- `log_reader::next` meets its contract: a walk of its MIR, by hand. The borrow is opened, which gives the reader's cell and what the reader owns; `read_on` is called on the log and the place, `place_after` on the place and what was found, its answer is stored in the cell, and the borrow is closed at the reader with the new place.
+-- `log_reader::next` meets its contract: a walk of its MIR, by hand. The borrow is opened, which gives the reader's cell and what the reader owns; `read_on` is called on the log and the place,
+-- `place_after` on the place and what was found, its answer is stored in the cell, and the borrow is closed at the reader with the new place.
 -- All that the proof knows of the two is that they meet their contracts. What the log owns is had twice, once for the callee; what a step owns is made anew for the second call.
 -- Assumes nothing.
 use mathlib.Core.Path.{_≡_, refl, ap, _∙_}

@@ -8,7 +8,7 @@ use Rattle.moss.specs.Blocks.{messagesIn}
 use Rattle.moss.specs.Walk.{start}
 use Rattle.moss.specs.InsideWalk.{walked}
 use Rattle.moss.specs.declared.Trail.{Trail}
-use Rattle.moss.proofs.Walks.{past-count, walk-next, walk-broken, walk-end}
+use Rattle.moss.proofs.MessageTurn.{past-count, walk-next, walk-broken, walk-end}
 use Rattle.moss.proofs.walk.Statement.{statement}
 use Rattle.moss.proofs.walk.Tie as tie
 

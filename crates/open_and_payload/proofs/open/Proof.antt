@@ -27,7 +27,8 @@ returns-3 c =
     let at-if1 = at-if2 .before in
     let start = at-if1 .before .before .before in
     let args = start .args in
-    opens (args .state .now) (args .names .now) (at-if1 .if1 .left) (at-if2 .if2 .left) _ (at-slot-size .slot-size .result) _ _ _ _ (at-slot-size .slot-size .ensures) (at-put-words .put-words .ensures) (at-put-word .put-word .ensures) (at-put-word2 .put-word2 .ensures) (at-put-bytes .put-bytes .ensures)
+    opens (args .state .now) (args .names .now) (at-if1 .if1 .left) (at-if2 .if2 .left) _ (at-slot-size .slot-size .result) _ _ _ _ (at-slot-size .slot-size .ensures)
+    (at-put-words .put-words .ensures) (at-put-word .put-word .ensures) (at-put-word2 .put-word2 .ensures) (at-put-bytes .put-bytes .ensures)
 
 pub open-spec : {M : Type 1} → statement M
 open-spec = tie.close (tie.spec returns returns-2 (λ c. search needs) (λ c κs. search needs) (λ c κs. search needs) (λ c κs. search needs) (λ c κs. search needs) (λ c. search needs) (λ c κs. search needs) (λ c. search needs) (λ c. search needs) returns-3)

@@ -34,4 +34,6 @@ returns-5 c =
     part5 .ensures ∙ sym (payload-is (args .d .now) (args .store .now) _ _ _ _ (at-answer .answer .given .1) (at-place2 .place2 .given .1))
 
 pub payload-spec : {M : Type 1} → statement M
-payload-spec = tie.close (tie.spec (λ c. search needs) (λ c κs. search needs) (λ c. search needs) (λ c κs. search needs) (λ c. search needs) (λ c κs. search needs) (λ c. search needs) (λ c. search needs) (λ c κs. search needs) (λ c. search needs) (λ c κs. search needs) (λ c. search needs) (λ c. search needs) (λ c. search needs) returns-4 returns-5)
+payload-spec = tie.close
+    (tie.spec (λ c. search needs) (λ c κs. search needs) (λ c. search needs) (λ c κs. search needs) (λ c. search needs) (λ c κs. search needs) (λ c. search needs) (λ c. search needs)
+    (λ c κs. search needs) (λ c. search needs) (λ c κs. search needs) (λ c. search needs) (λ c. search needs) (λ c. search needs) returns-4 returns-5)

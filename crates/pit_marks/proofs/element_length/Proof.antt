@@ -2,7 +2,7 @@
 use mathlib.Core.Path.{sym, _∙_}
 use native.Mathlib.Omega.{arith}
 use lib.ListN.{drop}
-use Rattle.pit_marks.proofs.Walks.{length-null, length-nowhere, length-somewhere, depth-least}
+use Rattle.pit_marks.proofs.ElementTurn.{length-null, length-nowhere, length-somewhere, depth-least}
 use borrow.Author.Needs.{needs}
 use mathlib.Core.Path.{sym, _∙_}
 use native.Mathlib.Omega.{arith}

@@ -5,7 +5,7 @@ use Prim.Native.Nat.{ℕ}
 use lib.Dec.{eqb}
 use lib.ListN.{drop}
 use Rattle.pit_marks.specs.Enters.{keyIn}
-use Rattle.pit_marks.proofs.Cases.{element-null, element-mark}
+use Rattle.pit_marks.proofs.EnteringCases.{element-null, element-mark}
 use borrow.Author.Needs.{needs}
 use Rattle.pit_marks.proofs.enter_element.Statement.{statement}
 use Rattle.pit_marks.proofs.enter_element.Tie as tie

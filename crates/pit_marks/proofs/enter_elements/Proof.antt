@@ -6,8 +6,8 @@ use native.Mathlib.Omega.{arith}
 use lib.ListN.{length, drop}
 use Rattle.count_rules.specs.Marks.{Mark, markLength, markAt}
 use Rattle.pit_marks.specs.Enters.{enterMarks}
-use Rattle.pit_marks.proofs.Cases.{as-said, then-on, then-refused, all-entered}
-use Rattle.pit_marks.proofs.Walks.{takes-one, moves-on, marksFrom, marks-turn, marks-end}
+use Rattle.pit_marks.proofs.EnteringCases.{as-said, then-on, then-refused, all-entered}
+use Rattle.pit_marks.proofs.ElementTurn.{takes-one, moves-on, marksFrom, marks-turn, marks-end}
 use borrow.Author.Needs.{needs}
 use Rattle.pit_marks.proofs.enter_elements.Statement.{statement}
 use Rattle.pit_marks.proofs.enter_elements.Tie as tie
@@ -38,7 +38,8 @@ returns c =
 loop-less : tie.Need-loop-less Inv-loop μ-loop
 loop-less c =
     let e = c .before in
-    let g = e .before .before .before .before .before .before .before .before .before .before .before in
+    let earlier = e .before .before .before .before .before .before .before .before in
+    let g = earlier .before .before .before in
     let l = g .before in
     let a = l .before .before .before .args in
     let o = takes-one (a .two) (drop (l .loop .place) (a .list .now)) in

@@ -1,6 +1,6 @@
 -- A list: its tile before its pits. Assumes nothing.
 use Rattle.pit_marks.specs.Sets.{setsOf}
-use Rattle.pit_marks.proofs.Cases.{tile-full, tile-now}
+use Rattle.pit_marks.proofs.EnteringCases.{tile-full, tile-now}
 use borrow.Author.Needs.{needs}
 use Rattle.pit_marks.proofs.enter_list.Statement.{statement}
 use Rattle.pit_marks.proofs.enter_list.Tie as tie

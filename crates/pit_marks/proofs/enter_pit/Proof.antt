@@ -1,5 +1,5 @@
 -- A pit, by what entering it answers, and by whether it is sure. Assumes nothing.
-use Rattle.pit_marks.proofs.Cases.{pit-full, pit-unsure, pit-sure}
+use Rattle.pit_marks.proofs.EnteringCases.{pit-full, pit-unsure, pit-sure}
 use borrow.Author.Needs.{needs}
 use Rattle.pit_marks.proofs.enter_pit.Statement.{statement}
 use Rattle.pit_marks.proofs.enter_pit.Tie as tie

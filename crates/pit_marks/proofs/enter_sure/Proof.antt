@@ -1,5 +1,5 @@
 -- A sure pit, by what entering it answers. Assumes nothing.
-use Rattle.pit_marks.proofs.Cases.{sure-now, sure-full}
+use Rattle.pit_marks.proofs.EnteringCases.{sure-now, sure-full}
 use borrow.Author.Needs.{needs}
 use Rattle.pit_marks.proofs.enter_sure.Statement.{statement}
 use Rattle.pit_marks.proofs.enter_sure.Tie as tie

@@ -11,7 +11,8 @@ use Rattle.pit_marks.proofs.put_lines.Tie as tie
 
 abbrev Inv-loop : tie.InvT-loop
 Inv-loop tile₀ pit₀ certain₀ tiles pits sure had n i₀ tile pit certain i =
-    (n ≡ had .tiles) × (length tile ≡ length tile₀) × (length pit ≡ length pit₀) × (length certain ≡ length certain₀) × (i ≤ n) × (tile ≡ laid tile₀ n (λ j. getD tiles j 0) i) × (pit ≡ laid pit₀ n (λ j. pitsIn pits (had .pits) (getD tiles j 0)) i) × (certain ≡ laid certain₀ n (λ j. pitsIn sure (had .sure) (getD tiles j 0)) i)
+    (n ≡ had .tiles) × (length tile ≡ length tile₀) × (length pit ≡ length pit₀) × (length certain ≡ length certain₀) × (i ≤ n) × (tile ≡ laid tile₀ n (λ j. getD tiles j 0) i) ×
+    (pit ≡ laid pit₀ n (λ j. pitsIn pits (had .pits) (getD tiles j 0)) i) × (certain ≡ laid certain₀ n (λ j. pitsIn sure (had .sure) (getD tiles j 0)) i)
 
 abbrev μ-loop : tie.MeasureT-loop
 μ-loop tile₀ pit₀ certain₀ tiles pits sure had n i₀ tile pit certain i = n - i
@@ -26,7 +27,8 @@ loop-holds c =
 
 loop-again : tie.Need-loop-again Inv-loop μ-loop
 loop-again c =
-    let w = c .before .before .before .before .before .before .before .before .before .before .before .before .before .before in
+    let earlier = c .before .before .before .before .before .before .before .before in
+    let w = earlier .before .before .before .before .before .before in
     let l = w .before .before in
     let a = l .before .before .before .before .before .before .before .args in
     let i = l .loop .i in
@@ -36,12 +38,14 @@ loop-again c =
     let s : ℕ → ℕ = λ j. pitsIn (a .sure .now) (a .had .sure) (getD (a .tiles .now) j 0) in
     let e = w .word .ensures in (
       refl,
-      c .before .before .before .before .before .before .before .before .before .before .before .tile .given ∙ l .loop .inv .1,
+      earlier .before .before .before .tile .given ∙ l .loop .inv .1,
       c .before .before .before .before .before .before .pit .given ∙ l .loop .inv .2,
       c .before .certain .given ∙ l .loop .inv .3,
       omega arith,
-      laid-more (a .tile .now) (a .had .tiles) t i _ (l .loop .tile) _ h (l .loop .inv .5) e (c .before .before .before .before .before .before .before .before .before .before .before .before .put-word .ensures),
-      laid-more (a .pit .now) (a .had .tiles) p i _ (l .loop .pit) _ h (l .loop .inv .6) (c .before .before .before .before .before .before .before .before .pits-of .ensures ∙ ap (pitsIn (a .pits .now) (a .had .pits)) e) (c .before .before .before .before .before .before .before .put-word2 .ensures),
+      laid-more (a .tile .now) (a .had .tiles) t i _ (l .loop .tile) _ h (l .loop .inv .5) e (earlier .before .before .before .before .put-word .ensures),
+      laid-more (a .pit .now) (a .had .tiles) p i _ (l .loop .pit) _ h (l .loop .inv .6)
+          (c .before .before .before .before .before .before .before .before .pits-of .ensures ∙ ap (pitsIn (a .pits .now) (a .had .pits)) e)
+          (c .before .before .before .before .before .before .before .put-word2 .ensures),
       laid-more (a .certain .now) (a .had .tiles) s i _ (l .loop .certain) _ h (l .loop .inv .7) (c .before .before .before .pits-of2 .ensures ∙ ap (pitsIn (a .sure .now) (a .had .sure)) e) (c .before .before .put-word3 .ensures),
     )
 

@@ -3,7 +3,7 @@ use mathlib.Core.Path.{refl, sym, ap}
 use borrow.Author.Tests.{not-true, not-false}
 use Rattle.pit_marks.specs.Sets.{setsOf}
 use Rattle.pit_payloads.specs.Looks.{lookedBy}
-use Rattle.pit_payloads.proofs.Cases.{no-list, is-list}
+use Rattle.pit_payloads.proofs.PayloadCases.{no-list, is-list}
 use borrow.Author.Needs.{needs}
 use Rattle.pit_payloads.proofs.enter_numbers.Statement.{statement}
 use Rattle.pit_payloads.proofs.enter_numbers.Tie as tie

@@ -2,7 +2,7 @@
 use mathlib.Core.Path.{sym}
 use lib.Seq.{length-take-le}
 use Rattle.pit_marks.specs.Sets.{setsOf}
-use Rattle.pit_payloads.proofs.Cases.{fewer, payload-read-to, payload-unread-to}
+use Rattle.pit_payloads.proofs.PayloadCases.{fewer, payload-read-to, payload-unread-to}
 use borrow.Author.Needs.{needs}
 use Rattle.pit_payloads.proofs.take_payload.Statement.{statement}
 use Rattle.pit_payloads.proofs.take_payload.Tie as tie

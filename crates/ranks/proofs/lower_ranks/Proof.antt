@@ -24,8 +24,9 @@ loop-holds c =
 
 loop-again : tie.Need-loop-again Inv-loop μ-loop
 loop-again c =
-    let args = c .before .before .before .before .before .before .before .before .before .before .before .before .before .before .args in
-    let loop = c .before .before .before .before .before .before .before .before .before .before .before .loop in
+    let earlier = c .before .before .before .before .before .before .before .before in
+    let args = earlier .before .before .before .before .before .before .args in
+    let loop = earlier .before .before .before .loop in
     let word-of = c .before .before .before .before .before .before .before .before .word-of in
     let word-of2 = c .before .before .before .before .before .before .word-of2 in
     let lower-rank = c .before .before .before .before .lower-rank in

@@ -27,7 +27,8 @@ loop-holds c =
 
 loop-again : tie.Need-loop-again Inv-loop μ-loop
 loop-again c =
-    let args = c .before .before .before .before .before .before .before .before .before .args in
+    let earlier = c .before .before .before .before .before .before .before .before in
+    let args = earlier .before .args in
     let loop = c .before .before .before .before .before .loop in
     let next-place = c .next-place in
     let word-of2 = c .before .before .before .word-of2 in

@@ -12,7 +12,8 @@ use Rattle.receiver.proofs.deliver.Tie as tie
 
 mul-at : tie.Need-mul-at
 mul-at c =
-    let start = c .before .before .before .before .before .before .before .before .before .before in
+    let earlier = c .before .before .before .before .before .before .before .before in
+    let start = earlier .before .before in
     let word4 = c .word4 in
     let args = start .args in
     omega (arith, word4 .ensures, place-small (args .s) (word4 .result) (start .pre .0) (rw (word4 .ensures) (start .pre .1 .room)))
@@ -34,4 +35,6 @@ returns c =
     (at-word .word .ensures) (at-word2 .word2 .ensures) (at-word3 .word3 .ensures) (at-word4 .word4 .ensures) refl named (at-remember-key .remember-key .ensures) (at-release .release .ensures)
 
 pub deliver-spec : {M : Type 1} → statement M
-deliver-spec = tie.close (tie.spec (λ c. search needs) (λ c. search needs) (λ c. search needs) (λ c κs. search needs) (λ c. search needs) (λ c κs. search needs) (λ c. search needs) (λ c κs. search needs) (λ c κs. search needs) mul-at (λ c. search needs) (λ c κs. search needs) (λ c κs. search needs) (λ c κs. search needs) (λ c κs. search needs) (λ c. search needs) (λ c. search needs) returns)
+deliver-spec = tie.close
+    (tie.spec (λ c. search needs) (λ c. search needs) (λ c. search needs) (λ c κs. search needs) (λ c. search needs) (λ c κs. search needs) (λ c. search needs) (λ c κs. search needs)
+    (λ c κs. search needs) mul-at (λ c. search needs) (λ c κs. search needs) (λ c κs. search needs) (λ c κs. search needs) (λ c κs. search needs) (λ c. search needs) (λ c. search needs) returns)

@@ -54,4 +54,6 @@ returns-4 c =
     forgets (args .state .now) (args .names .now) (at-if1 .if1 .left) (at-if2 .if2 .left) (args .sender) _ _ _ ok free D
 
 pub forget-spec : {M : Type 1} → statement M
-forget-spec = tie.close (tie.spec returns returns-2 (λ c. search needs) (λ c. search needs) (λ c. search needs) (λ c κs. search needs) (λ c. search needs) returns-3 release-all-requires (λ c. search needs) (λ c. search needs) (λ c. search needs) (λ c κs. search needs) (λ c. search needs) (λ c. search needs) returns-4)
+forget-spec = tie.close
+    (tie.spec returns returns-2 (λ c. search needs) (λ c. search needs) (λ c. search needs) (λ c κs. search needs) (λ c. search needs) returns-3 release-all-requires (λ c. search needs)
+    (λ c. search needs) (λ c. search needs) (λ c κs. search needs) (λ c. search needs) (λ c. search needs) returns-4)

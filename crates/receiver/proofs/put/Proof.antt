@@ -3,7 +3,7 @@ use mathlib.Core.Path.{refl, _∙_}
 use Prim.Native.Nat.{_+_}
 use Rattle.datagram.specs.Said.{fragmentIn}
 use Rattle.slots.specs.Words.{blockAt, heldWord}
-use Rattle.receiver_state.proofs.Cases.{held-all, ready-after}
+use Rattle.receiver_state.proofs.StepListCases.{held-all, ready-after}
 use Rattle.receiver.proofs.Ends.{put-kept, put-delivered}
 use borrow.Author.Needs.{needs}
 use Rattle.receiver.proofs.put.Statement.{statement}
@@ -11,7 +11,8 @@ use Rattle.receiver.proofs.put.Tie as tie
 
 deliver-requires : tie.Need-deliver-requires
 deliver-requires c κs =
-    let at-keep = c .before .before .before .before .before .before .before .before .before .before .before .before in
+    let earlier = c .before .before .before .before .before .before .before .before in
+    let at-keep = earlier .before .before .before .before in
     let start = at-keep .before .before .before .before .before .before in
     let args = start .args in
     (start .pre .0, ready-after (args .state .now) (args .names .now) (at-keep .keep .last .0) (at-keep .keep .last .1 .0) _ (at-keep .keep .ensures) (start .pre .1))
@@ -45,4 +46,7 @@ returns-2 c =
     λ store ledger. put-kept (args .state .now) (args .names .now) (args .s) (start .pre .0) (args .gone) (fragmentIn (args .d .now) (args .h)) (kept .0) (kept .1 .0) (at-keep .keep .ensures) store ledger _ (all ∙ at-if1 .if1 .left) (no-name .ensures)
 
 pub put-spec : {M : Type 1} → statement M
-put-spec = tie.close (tie.spec (λ c κs. search needs) (λ c. search needs) (λ c. search needs) (λ c. search needs) (λ c. search needs) (λ c. search needs) (λ c κs. search needs) (λ c. search needs) (λ c. search needs) (λ c. search needs) (λ c. search needs) (λ c κs. search needs) deliver-requires (λ c. search needs) (λ c. search needs) returns (λ c κs. search needs) (λ c. search needs) (λ c. search needs) returns-2)
+put-spec = tie.close
+    (tie.spec (λ c κs. search needs) (λ c. search needs) (λ c. search needs) (λ c. search needs) (λ c. search needs) (λ c. search needs) (λ c κs. search needs) (λ c. search needs) (λ c. search needs)
+    (λ c. search needs) (λ c. search needs) (λ c κs. search needs) deliver-requires (λ c. search needs) (λ c. search needs) returns (λ c κs. search needs) (λ c. search needs) (λ c. search needs)
+    returns-2)

@@ -38,4 +38,6 @@ returns c =
     (bytes, numbers)
 
 pub put-fragment-spec : {M : Type 1} → statement M
-put-fragment-spec = tie.close (tie.spec (λ c κs. search needs) mul-at (λ c κs. search needs) add-at (λ c. search needs) (λ c. search needs) (λ c. search needs) (λ c κs. search needs) (λ c κs. search needs) (λ c κs. search needs) (λ c. search needs) (λ c. search needs) (λ c κs. search needs) (λ c. search needs) (λ c. search needs) returns)
+put-fragment-spec = tie.close
+    (tie.spec (λ c κs. search needs) mul-at (λ c κs. search needs) add-at (λ c. search needs) (λ c. search needs) (λ c. search needs) (λ c κs. search needs) (λ c κs. search needs)
+    (λ c κs. search needs) (λ c. search needs) (λ c. search needs) (λ c κs. search needs) (λ c. search needs) (λ c. search needs) returns)

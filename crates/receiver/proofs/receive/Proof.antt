@@ -7,7 +7,8 @@ use Rattle.receiver.proofs.receive.Tie as tie
 plan-for-requires : tie.Need-plan-for-requires
 plan-for-requires c κs =
     let decided = c .before .before in
-    let args = decided .before .before .before .before .before .before .before .before .before .before .before .before .args in
+    let earlier = decided .before .before .before .before .before .before .before .before in
+    let args = earlier .before .before .before .before .args in
     (args .d .now, verdict-possible (args .state .now) (args .names .now) (args .store .now) (args .ledger .now) (args .sender) (args .d .now) (decided .decide .result) (decided .decide .ensures))
 
 store-in-requires : tie.Need-store-in-requires
@@ -22,9 +23,11 @@ store-in-requires c κs =
 
 settle-requires : tie.Need-settle-requires
 settle-requires c κs =
-    let planned = c .before .before .before .before .before .before .before .before .before .before .before .before .before in
+    let earlier = c .before .before .before .before .before .before .before .before in
+    let planned = earlier .before .before .before .before .before in
     let decided = planned .before .before .before in
-    let args = decided .before .before .before .before .before .before .before .before .before .before .before .before .args in
+    let earlier-2 = decided .before .before .before .before .before .before .before .before in
+    let args = earlier-2 .before .before .before .before .args in
     plan-able (args .state .now) (args .names .now) (args .store .now) (args .ledger .now) (args .sender) (args .d .now)
     (decided .decide .result) (planned .plan-for .result) (planned .plan-for .last .0) (planned .plan-for .last .1 .0) (decided .decide .ensures) (planned .plan-for .ensures)
 

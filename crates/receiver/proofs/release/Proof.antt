@@ -12,7 +12,8 @@ clear-block-requires c κs =
 
 clear-name-requires : tie.Need-clear-name-requires
 clear-name-requires c κs =
-    let start = c .before .before .before .before .before .before .before .before .before in
+    let earlier = c .before .before .before .before .before .before .before .before in
+    let start = earlier .before in
     omega (arith, start .pre .0, start .pre .1 .bytes)
 
 returns : tie.Need-returns

@@ -12,9 +12,10 @@ use Rattle.sorted_set.proofs.move_up.Tie as tie
 
 returns : tie.Need-returns
 returns c =
-    let a = c .before .before .before .before .before .before .before .before .before .before .args in
-    let zeros = replicate {A = ℕ} 256 0 in
-    let roomy : a .n ≤ length zeros = rw (length-replicate {A = ℕ} 256 0) (omega arith) in
+    let earlier = c .before .before .before .before .before .before .before .before in
+    let a = earlier .before .before .args in
+    let zeros = replicate {A = ℕ} 2048 0 in
+    let roomy : a .n ≤ length zeros = rw (length-replicate {A = ℕ} 2048 0) (omega arith) in
     let long : a .n ≤ length (drop (a .from) (a .w .now)) = rw (length-drop (a .from) (a .w .now)) (omega arith) in
     c .before .before .put-part2 .ensures
     ∙ (ap (λ (t : List ℕ). overlay (a .w .now) (a .from + 1) (take (a .n) (drop 0 t))) (c .before .before .before .before .before .before .put-part .ensures)

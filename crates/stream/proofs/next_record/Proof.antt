@@ -64,7 +64,8 @@ take-body-requires c κs =
 returns-4 : tie.Need-returns-4
 returns-4 c =
     let t = c .before .before in
-    let r = t .before .before .before .before .before .before .before .before .before in
+    let earlier = t .before .before .before .before .before .before .before .before in
+    let r = earlier .before in
     let w = r .before .before in
     let a = w .before .before .before .before .args in
     gives-before (a .kind) (w .within .ensures) (r .ready .ensures) (t .take-body .last .0) (t .take-body .result) (t .take-body .ensures)

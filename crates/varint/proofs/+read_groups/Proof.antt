@@ -83,7 +83,12 @@ read-groups-add-t21 : (t : ℕ) → read-groups-lts.Need-add-t21 (callees t) (re
 read-groups-add-t21 t c =
     let r = c .before .before .before .before in
     let s = r .before .before .before .before .before .before .before in
-    omega (arith, r .before .before .before .wide .ensures .1, lowest-fits (s .args .s .now) (s .args .at) (s .args .k) (λ i. r .before .before .before .before .shared-slice-known2 .given i .fits) (s .pre .1) (r .before .before .if2 .left) _ (r .read-groups .ensures) _ _ (c .before .before .high .given .1))
+    omega (
+      arith,
+      r .before .before .before .wide .ensures .1,
+      lowest-fits (s .args .s .now) (s .args .at) (s .args .k) (λ i. r .before .before .before .before .shared-slice-known2 .given i .fits)
+          (s .pre .1) (r .before .before .if2 .left) _ (r .read-groups .ensures) _ _ (c .before .before .high .given .1),
+    )
 
 read-groups-returns-6 : (t : ℕ) → read-groups-lts.Need-returns-6 (callees t) (read-groups-at t) read-groups.Post
 read-groups-returns-6 t c =

@@ -4,7 +4,7 @@ use Prim.Native.Nat.{_+_, _*_}
 use Rattle.datagram.specs.Limits.{maxFragments}
 use Rattle.slots.specs.Words.{blockAt, heldWord}
 use Rattle.steps.proofs.Branches.{step3-other, step3-again, step3-differs, step3-join, step3-clash}
-use Rattle.receiver_state.proofs.Cases.{held-lent, held-asked, other-size, other-count, same-both, agree-all}
+use Rattle.receiver_state.proofs.StepListCases.{held-lent, held-asked, other-size, other-count, same-both, agree-all}
 use Rattle.verdict.specs.Decided.{withHeader}
 use borrow.Author.Needs.{needs}
 use Rattle.verdict.proofs.at_open.Statement.{statement}
@@ -23,14 +23,16 @@ returns-2 : tie.Need-returns-2
 returns-2 c =
     let at-as-word2 = c .before in
     let at-word2 = at-as-word2 .before in
-    let start = at-word2 .before .before .before .before .before .before .before .before .before in
+    let earlier = at-word2 .before .before .before .before .before .before .before .before in
+    let start = earlier .before in
     let if2 = c .if2 in
     let args = start .args in
     ap (withHeader (args .h)) (sym (step3-other _ _ _ _ _ _ (other-count (args .state .now) (args .names .now) (args .s) (start .pre .0) (args .d .now) (args .h) (λ q. if2 .taken (at-word2 .word2 .ensures ∙ q ∙ sym (at-as-word2 .as-word2 .ensures))))))
 
 same-fragment-requires : tie.Need-same-fragment-requires
 same-fragment-requires c κs =
-    let pre = c .before .before .before .before .before .before .before .before .before .before .before .before .before .before .before .pre in
+    let earlier = c .before .before .before .before .before .before .before .before in
+    let pre = earlier .before .before .before .before .before .before .before .pre in
     (pre .0, pre .1, pre .2)
 
 returns-3 : tie.Need-returns-3

@@ -5,7 +5,7 @@ use Rattle.slots.specs.Words.{keyIn}
 use Rattle.receiver_state.specs.View.{view}
 use Rattle.receiver_state.proofs.Firsts.{optionOf, first-within}
 use Rattle.receiver_state.proofs.Remembers.{remembered-is}
-use Rattle.receiver_state.proofs.Cases.{decide-again, decide-small, decide-begin, decide-open}
+use Rattle.receiver_state.proofs.StepListCases.{decide-again, decide-small, decide-begin, decide-open}
 use Rattle.verdict.specs.Decided.{withHeader}
 use Rattle.verdict.proofs.Decides.{open-is, small-verdict}
 use borrow.Author.Needs.{needs}

@@ -14,7 +14,7 @@ use Rattle.datagram.specs.Said.{fragmentIn}
 use Rattle.steps.specs.Slots.{padded}
 use Rattle.receiver_state.specs.View.{roomWord, nameIn}
 use Rattle.receiver_state.proofs.Moves.{name-filled, name-long, place-small}
-use Rattle.receiver_state.proofs.Cases.{offset-is, length-is, same-offset, same-long, same-bytes, same-name}
+use Rattle.receiver_state.proofs.StepListCases.{offset-is, length-is, same-offset, same-long, same-bytes, same-name}
 use borrow.Author.Needs.{needs}
 use Rattle.verdict.proofs.same_fragment.Statement.{statement}
 use Rattle.verdict.proofs.same_fragment.Tie as tie
@@ -47,7 +47,8 @@ returns-2 c =
 
 mul-same-at : tie.Need-mul-same-at
 mul-same-at c =
-    let start = c .before .before .before .before .before .before .before .before .before .before .before .before .before in
+    let earlier = c .before .before .before .before .before .before .before .before in
+    let start = earlier .before .before .before .before .before in
     let word = c .word in
     let args = start .args in
     omega (arith, word .ensures, place-small (args .s) (word .result) (start .pre .0) (rw (word .ensures) (start .pre .1 .room)))
@@ -135,4 +136,7 @@ returns-5 c =
     ∙ sym (same-name (args .state .now) (args .names .now) (args .s) (start .pre .0) (getD (args .state .now) roomWord 0) (args .store .now) (args .ledger .now) (fragmentIn (args .d .now) (args .h)) o l b ∙ z)
 
 pub same-fragment-spec : {M : Type 1} → statement M
-same-fragment-spec = tie.close (tie.spec (λ c κs. search needs) (λ c κs. search needs) (λ c. search needs) (λ c. search needs) (λ c. search needs) (λ c κs. search needs) (λ c κs. search needs) returns (λ c. search needs) (λ c κs. search needs) returns-2 (λ c κs. search needs) mul-same-at add-same-at (λ c κs. search needs) returns-3 returns-4 (λ c κs. search needs) (λ c κs. search needs) (λ c. search needs) (λ c. search needs) (λ c κs. search needs) returns-5)
+same-fragment-spec = tie.close
+    (tie.spec (λ c κs. search needs) (λ c κs. search needs) (λ c. search needs) (λ c. search needs) (λ c. search needs) (λ c κs. search needs) (λ c κs. search needs) returns (λ c. search needs)
+    (λ c κs. search needs) returns-2 (λ c κs. search needs) mul-same-at add-same-at (λ c κs. search needs) returns-3 returns-4 (λ c κs. search needs) (λ c κs. search needs) (λ c. search needs)
+    (λ c. search needs) (λ c κs. search needs) returns-5)

@@ -34,7 +34,8 @@ enum-told c = search needs
 
 returns : tie.Need-returns
 returns c =
-    let o = c .before .before .before .before .before .before .before .before .before .before .before .before .before in
+    let earlier = c .before .before .before .before .before .before .before .before in
+    let o = earlier .before .before .before .before .before in
     let r = o .before .before in
     let a = r .before .before .before .before .before .before .before .before .args in
     let e = room-read (a .limits) (a .state .now) (a .d .now) _ _ _ (r .before .word .ensures) (r .read-within .ensures) (o .enum-told .given .1) in
@@ -51,9 +52,11 @@ returns-2 c =
 
 returns-3 : tie.Need-returns-3
 returns-3 c =
-    let f = c .before .before .before .before .before .before .before .before .before .before .before .before .before in
+    let earlier = c .before .before .before .before .before .before .before .before in
+    let f = earlier .before .before .before .before .before in
     let i = f .before in
-    let a = i .before .before .before .before .before .before .before .before .before .before .before .before .before .before .args in
+    let earlier-2 = i .before .before .before .before .before .before .before .before in
+    let a = earlier-2 .before .before .before .before .before .before .args in
     by-receive (a .limits) _ _ _ _ (a .sender) (a .d .now) (received-nine (a .limits) _ _ _ _ (a .sender) (a .d .now) (sym (i .is-ready .ensures) ∙ f .if1 .left)) (c .before .before .before .before .before .before .before .before .receive2 .ensures)
 
 pub receive-within-spec : {M : Type 1} → statement M

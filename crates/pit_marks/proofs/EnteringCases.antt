@@ -15,7 +15,8 @@ use Rattle.count_rules.specs.Marks.{Mark, at, markAt, marksIn}
 use Rattle.pit_marks.specs.declared.Sizes.{Sizes}
 use Rattle.pit_marks.specs.declared.Taken.{Taken}
 use Rattle.pit_marks.specs.declared.Taken.the-variants as taken
-use Rattle.pit_marks.specs.Enters.{keyIn, Pitted, pitted, sureEntered, pitEntered, EntersSure, enterPit, onward, followed, enterMarks, withTiles, withPits, withSure, Leaves, Listed, tileEntered, elementsOf, enterList, EntersList}
+use Rattle.pit_marks.specs.Enters.{keyIn, Pitted, pitted, sureEntered, pitEntered, enterPit, onward, followed, enterMarks, withTiles, withPits, withSure, Listed, tileEntered, elementsOf, enterList, EntersList}
+use Rattle.pit_marks.specs.Inside.{EntersSure, Leaves}
 use Rattle.pit_marks.specs.Sets.{Sets, setsOf}
 
 -- ---- a sure pit

@@ -29,7 +29,8 @@ use Rattle.pit_marks.proofs.Seen.{Judged, list-judged}
 use Rattle.pit_marks.proofs.Proper.{Proper, proper, improper}
 use Rattle.pit_payloads.specs.declared.Looked.the-variants as looked
 use Rattle.pit_payloads.specs.Looks.{Left, left, lookedBy, withList, inNumbers, inRead}
-use Rattle.pit_payloads.specs.Took.{faultIn, listsIn, sizesIn, faultOver, Took}
+use Rattle.pit_payloads.specs.Took.{faultIn, listsIn, sizesIn, faultOver}
+use Rattle.pit_payloads.specs.Inside.{Took}
 
 -- what sets hold fits them
 pub has-over : (x : Sets) (had : Sizes) (seen : List PitList) → Has x had seen → over (rooms x) seen ≡ 0

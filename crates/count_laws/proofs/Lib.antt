@@ -1,0 +1,4 @@
+pub mod Shown
+pub mod Losses
+pub mod Every
+pub mod Strangers

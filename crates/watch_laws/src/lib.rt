@@ -1,0 +1,1 @@
+// One watch for each sender: definitions in specs/, theorems in proofs/. No code.
