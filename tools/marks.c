@@ -1,33 +1,16 @@
-/* The marks of a flight. The count reads the same lists; here each of their marks is looked at. */
+/* The marks of a flight. The count reads the same lists, through a receiver that is lent as much; here each of their marks is looked at. */
 
 #include "marks.h"
+#include "receiver.h"
 
-/* As much as the count lends, so that both receive alike, and rows for as many marks as the longest list has: a mark is four numbers at least, so that 13
-   does not come. */
+/* Rows for as many marks as the longest list has: a mark is four numbers at least, so that 13 does not come. */
 enum { ROWS = QM_NUMBERS / 4 * QM_MARK };
 
-static qm_u64 state[QM_STATE];
-static qm_byte names[QM_NAMES];
-static qm_byte store[QM_STORE];
-static qm_u32 ledger[QM_LEDGER];
 static qm_i64 numbers[QM_NUMBERS];
 static qm_i64 rows[ROWS];
 
 void marks_begin(void) {
-    /* memory of the header's lengths: 9 does not come */
-    qm_open(state, QM_STATE, names, QM_NAMES, QM_STORE);
-}
-
-/* The payload that the datagram at hand completes, or none. */
-static const qm_byte *delivered(const struct walk *w, qm_size *length) {
-    qm_u64 told[QM_OUTCOME];
-    qm_byte name[QM_MAX_NAME];
-    qm_u32 refusal = qm_receive_within(state, QM_STATE, names, QM_NAMES, store, QM_STORE, ledger, QM_LEDGER, w->head[QM_LOG_PAYLOAD],
-                                       (qm_u32) w->head[QM_LOG_FRAGMENTS], w->entry[QM_SENDER], walk_datagram(w), w->entry[QM_ENTRY_LENGTH], told, QM_OUTCOME, name,
-                                       QM_MAX_NAME);
-    if (refusal != 0 || told[QM_ANSWER] != QM_ANSWER_DELIVERED) return 0;
-    *length = told[QM_PAYLOAD_LENGTH];
-    return (told[QM_WHERE] == QM_IN_STORE ? store : walk_datagram(w)) + told[QM_PAYLOAD_PLACE];
+    receiver_open();
 }
 
 static qm_u64 sequence_of(const struct walk *w) {
@@ -38,10 +21,10 @@ static qm_u64 sequence_of(const struct walk *w) {
 }
 
 int marks_take(const struct walk *w, struct listed *l) {
+    struct received r;
     qm_u64 read, told[QM_MARKS];
-    qm_size length;
-    const qm_byte *payload = delivered(w, &length);
-    if (!payload || qm_read_message(payload, length, numbers, QM_NUMBERS, &read, 1) != 0) return 0;
+    receiver_take(w, &r);
+    if (!is_delivered(&r) || qm_read_message(delivered_payload(w, &r), delivered_length(&r), numbers, QM_NUMBERS, &read, 1) != 0) return 0;
     if (qm_marks(numbers, read, rows, ROWS, told, QM_MARKS) != 0 || !told[QM_MARKS_LIST]) return 0;
     *l = (struct listed) {.tile = told[QM_MARKS_TILE], .sequence = sequence_of(w), .many = told[QM_MARKS_COUNT]};
     return 1;
