@@ -23,10 +23,13 @@ static void print_heads(void) {
 
 /* A value with a comma, a quote or an end of line stands in quotes, its quotes doubled. */
 static void print_value(const char *text) {
-    int quoted = text[strcspn(text, ",\"\r\n")] != 0;
-    if (quoted) printf("\"");
-    for (; *text; text++) printf(quoted && *text == '"' ? "\"\"" : "%c", *text);
-    if (quoted) printf("\"");
+    if (text[strcspn(text, ",\"\r\n")] == 0) {
+        printf("%s", text);
+        return;
+    }
+    printf("\"");
+    for (; *text; text++) printf(*text == '"' ? "\"\"" : "%c", *text);
+    printf("\"");
 }
 
 static void print_row(const struct mark *m, qm_u64 marks, const char *log) {
