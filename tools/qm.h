@@ -75,6 +75,7 @@ struct walk {
     qm_size next;             /* where the walk goes on: after the whole entries, where it has ended */
     qm_u32 refusal;           /* the number that ended the walk, or 0 */
     int shown;                /* the hundredth that standard error was told last; -1 where it is told nothing */
+    qm_size given;            /* so many bytes of a mapped log were given back to the system */
 };
 
 /* Maps a log and judges its head. DONE, or FAILED with the reason said; a refusal ends the walk at its first step. */
