@@ -164,7 +164,7 @@ static void move_field(u8 *d, u64 length) {
 }
 
 /* Takes a byte from the name of a fragment 0, or doubles one, so that one name begins with the other. */
-static u64 rename(u8 *d, u64 length) {
+static u64 other_name(u8 *d, u64 length) {
     if (length < 22 || ref_number(d + 16, 2) != 0) return length;
     if (chance(50)) {
         for (u64 i = 20; i + 1 < length; i++) d[i] = d[i + 1];
@@ -177,7 +177,7 @@ static u64 rename(u8 *d, u64 length) {
 /* Another datagram made from a lawful one. */
 static u64 damage(u8 *d, u64 length) {
     switch (below(11)) {
-    case 10: return rename(d, length);
+    case 10: return other_name(d, length);
     case 0: return below(length + 1);
     case 1: return length == 0 ? 0 : length - 1;
     case 2: d[length] = (u8) random_64(); return length + 1;
