@@ -6,7 +6,7 @@ import random
 from . import messages
 from .count import pits_message, read_payload, strangers
 from .log import entries_in, first_log_of, limits_in, log_of
-from .receiver import MAX_PAYLOAD, Receiver, cut, read, small
+from .receiver import MAX_PAYLOAD, Receiver, cut, read
 
 TILES = PITS = 65536  # what qm lends
 STORE = 8 * MAX_PAYLOAD
