@@ -16,7 +16,7 @@ enum {
 
 /* ---- how it is called */
 
-enum { LIST, REPLAY, GAPS, COUNT, PITS, STRAYS, INDEX, FIND, SHOW, TAKE, CUT, JOIN, KEEP, CHECK, COMMANDS };
+enum { LIST, REPLAY, GAPS, COUNT, PITS, STRAYS, INDEX, FIND, SHOW, TAKE, CUT, JOIN, KEEP, CHECK, IMPORT, COMMANDS };
 
 /* Options of its own and any number of logs: the command reads its words itself. */
 enum { ANY = -1 };
@@ -30,6 +30,8 @@ extern const struct command commands[COMMANDS];
 /* Writes how qm, or that command of it, is called; with DONE also what it does. Answers the status given. */
 int usage(FILE *to, int status);
 int command_usage(FILE *to, unsigned i, int status);
+/* Which qm this is. Answers the status. */
+int version(void);
 
 /* ---- files */
 
@@ -100,12 +102,12 @@ int is_number(const char *text, qm_u64 most, qm_u64 *number);
 
 int list_command(const char *path);
 int told_command(const char *path);
-int replay_command(const char *path, int large);
 int index_command(const char *path);
 int check_command(const char *path);
 int find_command(const char *path, qm_u64 sender, qm_u64 sequence);
 int show_command(const char *path, qm_u64 place);
 /* these read the words of the command line themselves, and say which is wrong */
+int replay_command(int words, char **word);
 int gaps_command(int words, char **word);
 int count_command(int words, char **word);
 int pits_command(int words, char **word);
@@ -114,5 +116,6 @@ int take_command(int words, char **word);
 int cut_command(int words, char **word);
 int join_command(int words, char **word);
 int keep_command(int words, char **word);
+int import_command(int words, char **word);
 
 #endif

@@ -1,9 +1,7 @@
-/* qm replay LOG: what a fresh receiver answers to each datagram of a log of any size, within the log's limits. It prints what the program replay_log prints,
-   which holds 4,194,304 bytes, and lends the store that that program has, unless slots of the largest payload are wanted. */
+/* qm replay LOG: what a fresh receiver answers to each datagram of a log of any size, within the log's limits. With the store of the program replay_log, which holds
+   4,194,304 bytes of a log, it prints what that prints. */
 
-#include "qm.h"
-
-enum { PROGRAM_STORE = 2097152 };
+#include "logs.h"
 
 static qm_u64 state[QM_STATE];
 static qm_byte names[QM_NAMES];
@@ -21,8 +19,7 @@ void print_emptied(qm_u32 refusal, const qm_u64 *told) {
     if (refusal == 0 && told[QM_EMPTIED]) printf(" emptied %llu %llu", told[QM_EMPTIED_SENDER], told[QM_EMPTIED_SEQUENCE]);
 }
 
-int replay_command(const char *path, int large) {
-    qm_size room = large ? QM_STORE : PROGRAM_STORE;
+static int replay(const char *path, qm_size room) {
     qm_u64 told[QM_OUTCOME];
     qm_byte name[QM_MAX_NAME];
     struct walk w;
@@ -39,4 +36,20 @@ int replay_command(const char *path, int large) {
         printf("\n");
     }
     return walk_end(&w);
+}
+
+int replay_command(int words, char **word) {
+    qm_u64 room = QM_STORE;
+    int at = 0;
+    while (at < words && is_option(word[at])) {
+        const char *option = word[at++];
+        /* what once asked for the slots that are lent now anyway */
+        if (strcmp(option, "--large") == 0) continue;
+        if (strcmp(option, "--store") != 0) return called_wrong("replay", option, "there is no such option");
+        if (at == words) return called_wrong("replay", option, "how many bytes is missing");
+        if (!is_number(word[at++], QM_STORE, &room)) return called_wrong("replay", word[at - 1], "--store takes a number of bytes, 8388608 at most");
+    }
+    if (at == words) return called_wrong("replay", "LOG", "no log is named");
+    if (words - at > 1) return called_wrong("replay", word[at + 1], is_option(word[at + 1]) ? "options stand before the log" : "one log is named already");
+    return replay(word[at], room);
 }

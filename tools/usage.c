@@ -5,13 +5,13 @@
 const struct command commands[COMMANDS] = {
     [LIST] = {"list", "[--told] LOG", "a line an entry: its sender, its arrival tick and its datagram's length", "--told",
               "Prints `1 sender 7 tick 99 length 23` for each entry, then `end N`; or `refused R after N`, the N entries before it being printed.\n"
-              "  --told  behind these all that is told of the entry: what a receiver with slots of the largest payload answers, as `qm replay --large`; where it is a datagram\n"
+              "  --told  behind these all that is told of the entry: what a receiver with slots of the largest payload answers, as `qm replay`; where it is a datagram\n"
               "          ` small` or ` fragment 3 of 17` and ` sequence 500`, with what the sequence watch notes, as `qm gaps`, or ` unwatched` of a 17th sender; and the key\n"
               "          that was given up: `2 sender 7 tick 99 length 738 kept fragment 3 of 17 sequence 500 forward 0 emptied 7 490`\n", 1},
-    [REPLAY] = {"replay", "[--large] LOG", "a line an entry: what a fresh receiver answers to its datagram", "--large",
+    [REPLAY] = {"replay", "[--store BYTES] LOG", "a line an entry: what a fresh receiver answers to its datagram", 0,
                 "Prints `1 kept`, `2 repeat`, `3 delivered 1845` or `4 refused 8` for each entry, with ` emptied SENDER SEQUENCE` where a message was given up for\n"
-                "another, then `end N` or `refused R after N`. The log's limits bind. The receiver's store has 2,097,152 bytes, as that of the program replay_log,\n"
-                "whose lines these are; with --large it has slots of the largest payload that there is, as `qm count` has.\n", 1},
+                "another, then `end N` or `refused R after N`. The log's limits bind. The receiver has eight slots of the largest payload that there is, as that of `qm count`.\n"
+                "  --store BYTES  slots of an eighth of so many bytes, 8,388,608 at most: with 2,097,152 the lines are those of the program replay_log\n", ANY},
     [GAPS] = {"gaps", "[--missing | --acks SENDER] LOG", "a line an entry: what the sequence watch notes of its sender's number; or the numbers that never came", 0,
               "Prints `1 first`, `2 forward 3` (so many numbers are missing before it), `3 same`, `4 late 2`, `5 restarted 7` or `6 refused 4` for each entry,\n"
               "then `end N` or `refused R after N`. The watch has room for 16 senders; those of a 17th are `refused 14`.\n"
@@ -90,6 +90,13 @@ const struct command commands[COMMANDS] = {
                "its name, `channel messages 12 bytes 8000 first T last U rate 1.250 name TILE`: the messages that a fresh receiver delivers, and how many of them come\n"
                "in 1,000 ticks, a second where ticks are milliseconds (0 where fragments came and no message was completed); and `refused 7 datagrams 3, MEANING` for each\n"
                "number by which the receiver has refused datagrams.\n", 1},
+    [IMPORT] = {"import", "[--port N] [--replace] -o LOG CAPTURE", "a log of the datagrams that tcpdump has captured", 0,
+                "CAPTURE is a file of tcpdump, Wireshark or dumpcap, pcap or pcapng: Ethernet, Linux cooked (the interface `any`) or bare IP, IPv4 and IPv6. Each UDP datagram to\n"
+                "the port, 7667 where --port says no other, is an entry of LOG; its tick is the time of its capture, in milliseconds since 1970. Pieces of IP datagrams are put\n"
+                "together; the entry is that of the last piece. Its sender is a number made of address and port. Prints `packets P`, `imported N`, `other O` that are none such,\n"
+                "`pieces Q` that found no whole, `cut C` that were captured in part, `broken B` whose lengths do not fit, and for each sender\n"
+                "`sender 3232235527500 datagrams 12 bytes 9000 first T last U port 7667 address 10.0.0.7`. LOG is LOG.part until it is whole; a file that is there is left alone,\n"
+                "unless --replace says otherwise. A capture that was cut off is imported up to there (status 3).\n", ANY},
 };
 
 static const char statuses[] = "Status: 0 done, 1 a file or the output failed, 2 called otherwise, 3 the log is refused.\n";
@@ -97,8 +104,13 @@ static const char statuses[] = "Status: 0 done, 1 a file or the output failed, 2
 int usage(FILE *to, int status) {
     fprintf(to, "usage: qm COMMAND LOG\n");
     for (unsigned i = 0; i < COMMANDS; i++) fprintf(to, "  qm %s %s\n      %s\n", commands[i].name, commands[i].takes, commands[i].does);
-    fprintf(to, "`qm COMMAND --help` says more. %s", statuses);
+    fprintf(to, "`qm COMMAND --help` says more; qm --version. %s", statuses);
     return status;
+}
+
+int version(void) {
+    printf("qm " QM_VERSION_TEXT "\n");
+    return printed("--version");
 }
 
 int command_usage(FILE *to, unsigned i, int status) {
