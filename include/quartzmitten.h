@@ -1,9 +1,9 @@
-/* Quartzmitten for a C host: the checksum, the datagram reader, the cutter, the receiver, the sequence watch, the log's writer and reader, and the
-   index and the count of a log, and of a season of logs.
+/* Quartzmitten for a C host: the checksum, the datagram reader, the cutter, the receiver, the sequence watch, the log's writer and reader, the
+   index of a log and the file that keeps it, and the count of a log, and of a season of logs.
 
    Link the archives libhost.a, libhost_state.a (qm_open, qm_forget, qm_lengths), libhost_receiver.a (qm_receive, qm_receive_within), libhost_flight.a
-   (qm_log_first, qm_log_next, qm_watch_see), libhost_index.a (qm_index, qm_find), libhost_index_file.a (qm_index_on,
-   qm_index_file_write, qm_index_file_head, qm_index_file_rows, qm_index_file_find), libhost_count.a (qm_count) and libhost_season.a (qm_count_on, qm_count_lines), or those whose functions are called: the
+   (qm_log_first, qm_log_next, qm_watch_see), libhost_index.a (qm_index, qm_find, qm_index_on, qm_index_file_write, qm_index_file_head,
+   qm_index_file_rows, qm_index_file_find), libhost_count.a (qm_count) and libhost_season.a (qm_count_on, qm_count_lines), or those whose functions are called: the
    toolchain's `rt staticlib host`, `rt staticlib host_state` and so on write them (x86-64 Linux). No other header is needed.
 
    What holds for all of them:

@@ -1,22 +1,19 @@
 -- The answers of the reader and the writer, and no second one. Assumes nothing.
 use mathlib.Core.Path.{_≡_, refl, sym, ap, _∙_}
-use mathlib.Core.Bool.{Bool, true, false, not, _&&_}
-use mathlib.Core.List.{List, [], _∷_, _++_}
+use mathlib.Core.Bool.{Bool, true, false, _&&_}
+use mathlib.Core.List.{List}
 use Prim.Native.Nat.{ℕ, _+_, _*_, _≤_, _<_}
 use native.Mathlib.Omega.{arith}
-use lib.Dec.{eqb, ltb}
+use lib.Dec.{ltb}
 use lib.ListN.{length}
 use borrow.Author.Tests.{lt-ltb, le-ltb}
-use Rattle.wire.specs.Choice.{pick}
 use Rattle.wire.specs.Overlay.{overlay}
-use Rattle.wire.proofs.Choices.{never}
 use Rattle.wire.proofs.Once.{one-answer}
 use Rattle.log_index.specs.Rows.{Row}
 use Rattle.log_index.specs.Words.{wordsOf, rowAt}
-use Rattle.index_file.specs.File.{fileOf, coveredIn, countIn, isFile, fileRow, firstRows, rowsOfFile, inOrder}
+use Rattle.index_file.specs.File.{fileOf, coveredIn, countIn, isFile, fileRow, firstRows, inOrder}
 use Rattle.index_file.specs.Files.{rowSaid, headIn, rowsAnswer, ReadsRows, fileAnswer, WritesFile}
 use Rattle.index_file.specs.declared.FileRow.{FileRow}
-use Rattle.index_file.specs.declared.Head.{Head}
 use Rattle.index_file.specs.declared.Head.the-variants.{Of, Refused}
 
 -- ---- the head

@@ -1,21 +1,21 @@
 -- Covered length and rows, and the file, determine each other: what is written is read, and what is read is written as it stood. Assumes nothing.
 use mathlib.Core.Path.{_≡_, refl, sym, ap, _∙_}
-use mathlib.Core.Bool.{true, false, _&&_}
+use mathlib.Core.Bool.{true}
 use mathlib.Core.List.{List, [], _∷_, _++_, append-assoc}
 use Prim.Native.Nat.{ℕ, zero, suc, _+_, _-_, _*_, _/_, _^_, _≤_, _<_}
 use native.Mathlib.Omega.{arith}
-use lib.Dec.{eqb, ltb}
+use lib.Dec.{eqb}
 use lib.ListN.{length, getD, take, drop, length-append, length-drop, take-append-drop}
 use lib.Seq.{drop-at, drop-cons, drop-drop, take-add, take-all}
 use borrow.Author.Tests.{eq-eqb, eqb-true, lt-ltb}
 use Rattle.wire.specs.Bytes.{be, bytes, Bytes}
-use Rattle.wire.proofs.Choices.{and-l, and-r, and-of}
+use Rattle.wire.proofs.Choices.{and-l, and-r}
 use Rattle.wire.proofs.Numbers.{length-bytes, be-bytes, be-lt, bytes-be, drop-bytes}
-use Rattle.log_index.specs.Rows.{Row, rowOf}
+use Rattle.log_index.specs.Rows.{Row}
 use Rattle.log_index.proofs.Sorts.{none, All, all-at}
 use Rattle.index_file.specs.File.{Fits, rowBytes, rowsBytes, headOf, fileOf, coveredIn, countIn, isFile, rowIn, fileRow, firstRows, rowsOfFile}
 use Rattle.index_file.proofs.Places.{first-length, first-list}
-use Rattle.index_file.proofs.RowBytes.{row-length, row-back, row-fits, row-again, rows-length, rows-append, rows-one, rows-drop}
+use Rattle.index_file.proofs.RowBytes.{row-back, row-again, rows-length, rows-append, rows-one, rows-drop}
 
 -- a file of so many rows
 pub file-size : (f : List ℕ) → isFile f ≡ true → length f ≡ 17 + 20 * countIn f

@@ -1,11 +1,11 @@
 -- What the functions do, a step at a time: a row is read, the head is judged, rows are copied and laid. Assumes nothing.
 use mathlib.Core.Path.{_≡_, refl, sym, ap, _∙_}
-use mathlib.Core.Bool.{true, false, _&&_}
+use mathlib.Core.Bool.{false, _&&_}
 use mathlib.Core.List.{List, [], _∷_, _++_}
 use Prim.Native.Nat.{ℕ, _+_, _-_, _*_, _/_, _%_, _≤_, _<_}
 use native.Mathlib.Omega.{arith}
 use lib.Dec.{eqb, ltb}
-use lib.ListN.{length, getD, drop, length-append}
+use lib.ListN.{length, getD}
 use lib.Seq.{drop-drop}
 use borrow.Author.Tests.{le-ltb, eq-eqb, ne-eqb}
 use Rattle.wire.specs.Bytes.{Number, be, bytes}
@@ -14,14 +14,13 @@ use Rattle.wire.proofs.Choices.{and-of, and-false}
 use Rattle.wire.proofs.Numbers.{length-bytes}
 use Rattle.wire.proofs.Overlays.{overlay-nil, overlay-append, overlay-next, length-overlay}
 use Rattle.log_index.specs.Rows.{Row, rowOf, earlier}
-use Rattle.log_index.specs.Words.{wordsOf, rowAt}
+use Rattle.log_index.specs.Words.{wordsOf}
 use Rattle.log_index.proofs.Wordings.{words-append, words-length}
-use Rattle.index_file.specs.File.{headLength, rowBytes, rowsBytes, headOf, fileOf, coveredIn, countIn, isFile, rowIn, fileRow, firstRows}
+use Rattle.index_file.specs.File.{rowBytes, rowsBytes, headOf, fileOf, countIn, isFile, fileRow, firstRows}
 use Rattle.index_file.specs.Files.{headIn}
-use Rattle.index_file.specs.declared.Head.{Head}
 use Rattle.index_file.specs.declared.Head.the-variants.{Of, Refused}
 use Rattle.index_file.proofs.Places.{first-length, first-next}
-use Rattle.index_file.proofs.RowBytes.{row-length, rows-length, rows-append, rows-one}
+use Rattle.index_file.proofs.RowBytes.{rows-length, rows-append, rows-one}
 use Rattle.index_file.proofs.Determines.{row-inside, head-size}
 use Rattle.index_file.proofs.Answers.{head-of, head-refused}
 

@@ -4,7 +4,7 @@ ghost use mathlib.Core.List.{[], _∷_};
 ghost use Prim.Native.Nat.{_+_, _*_, _≤_};
 ghost use lib.ListN.{length};
 ghost use Rattle.wire.specs.Overlay.{overlay};
-ghost use Rattle.log_index.specs.Rows.{rowOf, earlier};
+ghost use Rattle.log_index.specs.Rows.{earlier};
 ghost use Rattle.log_index.specs.Words.{wordsOf, rowAt};
 ghost use Rattle.index_file.specs.File.{headOf, rowBytes, rowsBytes, fileRow, firstRows, inOrder};
 ghost use Rattle.index_file.specs.Files.{rowSaid, headIn, ReadsRows, WritesFile};

@@ -1,5 +1,4 @@
 -- The length, the first byte, whole rows, and as many as the head says. Assumes nothing.
-use native.Mathlib.Omega.{arith}
 use Rattle.index_file.proofs.Steps.{head-short, head-other, head-odd, head-count, head-good}
 use borrow.Author.Needs.{needs}
 use Rattle.index_file.proofs.read_head.Statement.{statement}
