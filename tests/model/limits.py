@@ -138,8 +138,7 @@ def unmade_cases():
 
 
 def all_cases():
-    """Those that the program has calls for: not yet those of states that no calls make."""
-    return cases()
+    return cases() + unmade_cases()
 
 
 def stream():

@@ -1,4 +1,4 @@
--- Both ways in which a message and a tile's pits are told; no second answer. Assumes nothing.
+-- Both ways in which a message, a tile's pits and a list's marks are told; no second answer. Assumes nothing.
 use mathlib.Core.Path.{_≡_, refl, sym, ap, _∙_}
 use mathlib.Core.Logic.{inl, inr}
 use mathlib.Core.List.{List, [], _∷_}
@@ -20,7 +20,11 @@ use Rattle.tile_pits.specs.declared.Pits.{Pits}
 use Rattle.tile_pits.specs.declared.Pits.the-variants as given
 use Rattle.tile_pits.specs.Pits.{Map, GivesPits}
 use Rattle.tile_pits.proofs.Once.{pits-once}
-use Rattle.host_pits.specs.Told.{messageCode, messageNumbers, MessageTold, pitsCode, pitsNumbers, PitsTold}
+use Rattle.mark_rows.specs.declared.Rows.{Rows}
+use Rattle.mark_rows.specs.declared.Rows.the-variants as rows
+use Rattle.mark_rows.specs.Rows.{GivesRows}
+use Rattle.mark_rows.proofs.Once.{rows-once}
+use Rattle.host_pits.specs.Told.{messageCode, messageNumbers, MessageTold, pitsCode, pitsNumbers, PitsTold, marksCode, marksNumbers, MarksTold}
 
 -- a number told alone, and none
 one-told : (b b′ : List ℕ) (n : ℕ) → b′ ≡ set b 0 n → b′ ≡ overlay b 0 (n ∷ [])
@@ -89,4 +93,36 @@ module _ (x : Map) (t : ℕ) (n c b : List ℕ) where
         let v = q .written e in
         let o = pits-once (u .gives) (v .gives) in
         (u .gave ∙ (ap pitsCode (o .0) ∙ sym (v .gave)), (o .1 .0, (o .1 .1, u .list ∙ (ap (λ (r : Pits). overlay b 0 (pitsNumbers r)) (o .0) ∙ sym (v .list)))))
+  ]
+
+-- ---- the marks of a list
+
+module _ (l w : List ℤ) (b : List ℕ) where
+  pub not-marked : length b < 3 → MarksTold l w w (b ⇒ b) 13
+  not-marked h = record {
+    unread = λ e. record { gave = refl; stays = refl; nothing = refl };
+    marked = λ e. never (lt-ltb (length b) 3 h) e;
+  }
+
+  module _ (room : 3 ≤ length b) (r : Rows) (w′ : List ℤ) (g : GivesRows l w r w′) where
+    marked-so : (b′ : List ℕ) (answer : ℕ) → answer ≡ marksCode r → b′ ≡ overlay b 0 (marksNumbers r) → MarksTold l w w′ (b ⇒ b′) answer
+    marked-so b′ answer a e = record {
+      unread = λ u. never u (le-ltb (length b) 3 room);
+      marked = λ u. record { given = r; gives = g; gave = a; list = e };
+    }
+
+    pub marks-some : (s : Rows) → r ≡ s → marksCode s ≡ 0 → (b′ : List ℕ) → b′ ≡ overlay b 0 (marksNumbers s) → MarksTold l w w′ (b ⇒ b′) 0
+    marks-some s e z b′ q = marked-so b′ 0 (sym (ap marksCode e ∙ z)) (q ∙ sym (ap (λ (x : Rows). overlay b 0 (marksNumbers x)) e))
+
+    pub marks-refused : (k : ℕ) → r ≡ rows.Refused k → MarksTold l w w′ (b ⇒ b) k
+    marks-refused k e = marked-so b k (sym (ap marksCode e)) (sym (ap (λ (x : Rows). overlay b 0 (marksNumbers x)) e ∙ overlay-nil b 0))
+
+  pub marks-told-once : {w₁ w₂ : List ℤ} {b₁ b₂ : List ℕ} {x y : ℕ} → MarksTold l w w₁ (b ⇒ b₁) x → MarksTold l w w₂ (b ⇒ b₂) y → (x ≡ y) × ((w₁ ≡ w₂) × (b₁ ≡ b₂))
+  marks-told-once p q = elim (either (ltb (length b) 3)) [
+    | inl e ↦ let u = p .unread e in let v = q .unread e in (u .gave ∙ sym (v .gave), (u .stays ∙ sym (v .stays), u .nothing ∙ sym (v .nothing)))
+    | inr e ↦
+        let u = p .marked e in
+        let v = q .marked e in
+        let o = rows-once (u .gives) (v .gives) in
+        (u .gave ∙ (ap marksCode (o .0) ∙ sym (v .gave)), (o .1, u .list ∙ (ap (λ (r : Rows). overlay b 0 (marksNumbers r)) (o .0) ∙ sym (v .list))))
   ]

@@ -1,4 +1,4 @@
--- WHAT THE C HOST IS TOLD OF A MESSAGE AND OF A TILE'S PITS, for all that it may lend. Definitions only.
+-- WHAT THE C HOST IS TOLD OF A MESSAGE, OF A TILE'S PITS AND OF A LIST'S MARKS, for all that it may lend. Definitions only.
 use mathlib.Core.Path.{_≡_}
 use mathlib.Core.Bool.{Bool, true, false}
 use mathlib.Core.List.{List, [], _∷_}
@@ -15,6 +15,9 @@ use Rattle.lmcp.specs.Lists.{readList}
 use Rattle.tile_pits.specs.declared.Pits.{Pits}
 use Rattle.tile_pits.specs.declared.Pits.the-variants as given
 use Rattle.tile_pits.specs.Pits.{Map, GivesPits}
+use Rattle.mark_rows.specs.declared.Rows.{Rows}
+use Rattle.mark_rows.specs.declared.Rows.the-variants as rows
+use Rattle.mark_rows.specs.Rows.{GivesRows}
 
 -- no room for n numbers
 abbrev pub short : ℕ → List ℕ → Bool
@@ -73,3 +76,26 @@ pub record Written (x : Map) (t : ℕ) (number certain told : Buffer) (answer : 
 pub record PitsTold (x : Map) (t : ℕ) (number certain told : Buffer) (answer : ℕ) : Type 0 where
   pub unwritten : short 1 (told .before) ≡ true → Unwritten number certain told answer
   pub written : short 1 (told .before) ≡ false → Written x t number certain told answer
+
+-- ---- the marks of a list
+
+-- whether it is a PitList, its tile, how many rows
+abbrev pub marksCode : Rows → ℕ
+marksCode (rows.Of t n) = 0
+marksCode rows.Other = 0
+marksCode (rows.Refused e) = e
+
+abbrev pub marksNumbers : Rows → List ℕ
+marksNumbers (rows.Of t n) = 1 ∷ t ∷ n ∷ []
+marksNumbers rows.Other = 0 ∷ 0 ∷ 0 ∷ []
+marksNumbers (rows.Refused e) = []
+
+pub record Marked (l before after : List ℤ) (told : Buffer) (answer : ℕ) : Type 0 where
+  pub given : Rows
+  pub gives : GivesRows l before given after
+  pub gave : answer ≡ marksCode given
+  pub list : told .after ≡ overlay (told .before) 0 (marksNumbers given)
+
+pub record MarksTold (l before after : List ℤ) (told : Buffer) (answer : ℕ) : Type 0 where
+  pub unread : short 3 (told .before) ≡ true → Unread before after told answer
+  pub marked : short 3 (told .before) ≡ false → Marked l before after told answer
