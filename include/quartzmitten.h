@@ -1,9 +1,9 @@
 /* Quartzmitten for a C host: the checksum, the datagram reader, the cutter, the receiver, the sequence watch, the log's writer and reader, and the
-   index and the count of a log, and of a season of logs.
+   index and the count of a log, and of a season of logs; survey messages as numbers, and which pits a map has.
 
    Link the archives libhost.a, libhost_state.a (qm_open, qm_forget, qm_lengths), libhost_receiver.a (qm_receive, qm_receive_within), libhost_flight.a
-   (qm_log_first, qm_log_next, qm_watch_see), libhost_index.a (qm_index, qm_find), libhost_count.a (qm_count) and libhost_season.a (qm_count_on,
-   qm_count_lines), or those whose functions are called: the
+   (qm_log_first, qm_log_next, qm_watch_see), libhost_index.a (qm_index, qm_find), libhost_count.a (qm_count), libhost_season.a (qm_count_on,
+   qm_count_lines) and libhost_pits.a (qm_read_message, qm_pits, qm_marks), or those whose functions are called: the
    toolchain's `rt staticlib host`, `rt staticlib host_state` and so on write them (x86-64 Linux). No other header is needed.
 
    What holds for all of them:
@@ -47,6 +47,15 @@ typedef unsigned long long qm_size; /* a length, a place or a number of elements
 #define QM_NO_SUCH_DATAGRAM 12  /* the datagram asked for is not below the number of datagrams */
 #define QM_TOO_SHORT 13         /* output or list too short */
 #define QM_WATCH_FULL 14        /* a 17th sender at a watch, or a watch that claims more than 16 */
+#define QM_NOT_LMCP 20          /* a survey message of fewer than 12 bytes, or one that does not begin with "LMCP" */
+#define QM_MESSAGE_LENGTH 21    /* over 1,048,576 bytes, or not of the length that it says */
+#define QM_MESSAGE_SUM 22       /* a checksum that is neither zero nor right */
+#define QM_MESSAGE_BOOL 23      /* an existence byte or a bool that is not 0 or 1, or a root that is null */
+#define QM_MESSAGE_TYPE 24      /* series, type or version not in the table, not the declared type, or not the version of the message's root */
+#define QM_MESSAGE_CUT 25       /* the message ends inside a value */
+#define QM_MESSAGE_DEPTH 26     /* an object at depth 17 */
+#define QM_MESSAGE_CHAR 27      /* a char over 127 */
+#define QM_MESSAGE_LEFT 28      /* something left after the root */
 #define QM_EDITION 40           /* a log of no edition that is known: it begins with neither 1 nor 2 */
 #define QM_NOT_SHORTEST 41      /* a number of a log not in its shortest form, or a tenth byte above 1 */
 #define QM_KEPT_TOO_LONG 42     /* a datagram to keep, or kept, over 65,535 bytes */
@@ -388,6 +397,52 @@ qm_u32 qm_count_on(const qm_byte *log, qm_size length, qm_size place, qm_u64 mos
 qm_u32 qm_count_lines(qm_u64 *tile, qm_size tile_length, qm_u64 *pit, qm_size pit_length, qm_u64 *certain, qm_size certain_length,
                       const qm_u64 *tiles, qm_size tiles_length, const qm_u64 *pits, qm_size pits_length, const qm_u64 *sure,
                       qm_size sure_length, qm_size had_tiles, qm_size had_pits, qm_size had_sure);
+
+/* Survey messages as numbers, and which pits a map has: the numbers behind the tile lines. */
+
+/* Reads a survey message of `message_length` bytes, of either version, to the start of `numbers`: the version, then each object as its type, 0 for null,
+   and its fields in the order of the table; what stands in `numbers` after them stays. QM_NUMBERS numbers are enough for any message.
+
+   Answers 0 and writes to the first number of `told` how many numbers there are. Otherwise answers a refusal, and then nothing is written: 13 where `told` has
+   room for none; then 20 to 28, as the reader judges the bytes; then 13 where the numbers do not fit. */
+qm_u32 qm_read_message(const qm_byte *message, qm_size message_length, qm_i64 *numbers, qm_size numbers_length, qm_u64 *told, qm_size told_length);
+
+/* The pits of a tile out of a map, as qm_count_on fills it: their numbers, rising, to the start of `number`, and of each to the start of `certain` whether it is
+   sure, 1 or 0; what stands there after them stays. They are the pits that the tile's line counts: as many as qm_count_lines tells, and as many of them sure.
+
+   Answers 0 and writes to the first number of `told` how many there are. Otherwise 13, and writes nothing, where `number` or `certain` has fewer words than
+   there are pits, or `told` room for none. Sizes above what is lent count as what is lent. A tile that the map does not have has no pits. */
+qm_u32 qm_pits(qm_u64 tile, const qm_u64 *pits, qm_size pits_length, const qm_u64 *sure, qm_size sure_length, qm_size had_pits, qm_size had_sure,
+               qm_u64 *number, qm_size number_length, qm_u64 *certain, qm_size certain_length, qm_u64 *told, qm_size told_length);
+
+/* The places of the numbers of a mark. */
+enum {
+    QM_MARK_PIT,      /* the pit */
+    QM_MARK_SURE,     /* 1 where it is marked sure, else 0 */
+    QM_MARK_PLACED,   /* 1 where the mark has a place; else 0, as the next three */
+    QM_MARK_LAT,      /* where it lies, as the camera said it */
+    QM_MARK_LON,
+    QM_MARK_HEIGHT,
+    QM_MARK_MEASURED, /* 1 where it has a depth, as every mark of version 2 has; else 0, as the next one */
+    QM_MARK_DEPTH,    /* its depth, in centimetres */
+    QM_MARK           /* eight */
+};
+
+/* The places of the numbers that qm_marks writes to `told`. */
+enum {
+    QM_MARKS_LIST,    /* 1 where the numbers are those of a PitList; else 0, as the next two */
+    QM_MARKS_TILE,    /* its tile */
+    QM_MARKS_COUNT,   /* how many marks it has: null ones are skipped */
+    QM_MARKS          /* three */
+};
+
+/* The marks of a survey message that was read: `numbers` are those that qm_read_message wrote, and `numbers_length` is how many it told. Each mark is a row of
+   QM_MARK numbers, one behind the other, in the order of the list, at the start of `rows`; what stands there after them stays. Their pits and whether each is
+   sure are what the count enters.
+
+   Answers 0 and writes the three numbers above to the start of `told`. Otherwise 13, and writes nothing, where `rows` has room for fewer rows, or `told` for
+   fewer numbers. Of numbers that are no message it says what comes of them: past their end they are read as 0. */
+qm_u32 qm_marks(const qm_i64 *numbers, qm_size numbers_length, qm_i64 *rows, qm_size rows_length, qm_u64 *told, qm_size told_length);
 
 #ifdef __cplusplus
 }

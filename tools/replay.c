@@ -8,13 +8,15 @@ static qm_byte names[QM_NAMES];
 static qm_byte store[QM_STORE];
 static qm_u32 ledger[QM_LEDGER];
 
-static void print_answer(qm_u64 n, qm_u32 refusal, const qm_u64 *told) {
-    if (refusal != 0) printf("%llu refused %u", n, refusal);
-    else if (told[QM_ANSWER] == QM_ANSWER_KEPT) printf("%llu kept", n);
-    else if (told[QM_ANSWER] == QM_ANSWER_REPEAT) printf("%llu repeat", n);
-    else printf("%llu delivered %llu", n, told[QM_PAYLOAD_LENGTH]);
+void print_answer(qm_u32 refusal, const qm_u64 *told) {
+    if (refusal != 0) printf("refused %u", refusal);
+    else if (told[QM_ANSWER] == QM_ANSWER_KEPT) printf("kept");
+    else if (told[QM_ANSWER] == QM_ANSWER_REPEAT) printf("repeat");
+    else printf("delivered %llu", told[QM_PAYLOAD_LENGTH]);
+}
+
+void print_emptied(qm_u32 refusal, const qm_u64 *told) {
     if (refusal == 0 && told[QM_EMPTIED]) printf(" emptied %llu %llu", told[QM_EMPTIED_SENDER], told[QM_EMPTIED_SEQUENCE]);
-    printf("\n");
 }
 
 static int replay(const char *path, qm_size room) {
@@ -28,7 +30,10 @@ static int replay(const char *path, qm_size room) {
         qm_u32 refusal = qm_receive_within(state, QM_STATE, names, QM_NAMES, store, room, ledger, QM_LEDGER, w.head[QM_LOG_PAYLOAD],
                                            (qm_u32) w.head[QM_LOG_FRAGMENTS], w.entry[QM_SENDER], walk_datagram(&w), w.entry[QM_ENTRY_LENGTH], told, QM_OUTCOME,
                                            name, QM_MAX_NAME);
-        print_answer(w.entries, refusal, told);
+        printf("%llu ", w.entries);
+        print_answer(refusal, told);
+        print_emptied(refusal, told);
+        printf("\n");
     }
     return walk_end(&w);
 }

@@ -24,6 +24,7 @@ enum { WHOLE_BUFFERS = 0 };
 
 int strcmp(const char *a, const char *b);
 char *strchr(const char *text, int byte);
+unsigned long strcspn(const char *text, const char *bytes);
 char *strrchr(const char *text, int byte);
 char *strcpy(char *to, const char *from);
 unsigned long strlen(const char *text);
@@ -46,7 +47,7 @@ void *mmap(void *at, unsigned long length, int allowed, int flags, int file, lon
 int munmap(void *at, unsigned long length);
 int mprotect(void *at, unsigned long length, int allowed);
 int madvise(void *at, unsigned long length, int advice);
-enum { MAY_NOTHING = 0, MAY_READ = 1, MAY_READ_AND_WRITE = 3, OF_A_FILE = 2, OF_NO_FILE = 0x22, IN_ORDER = 2 };
+enum { MAY_NOTHING = 0, MAY_READ = 1, MAY_READ_AND_WRITE = 3, OF_A_FILE = 2, OF_NO_FILE = 0x22, IN_ORDER = 2, NOT_NEEDED = 4 };
 
 /* ---- files by name */
 

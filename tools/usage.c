@@ -3,8 +3,11 @@
 #include "qm.h"
 
 const struct command commands[COMMANDS] = {
-    [LIST] = {"list", "LOG", "a line an entry: its sender, its arrival tick and its datagram's length", 0,
-              "Prints `1 sender 7 tick 99 length 23` for each entry, then `end N`; or `refused R after N`, the N entries before it being printed.\n", 1},
+    [LIST] = {"list", "[--told] LOG", "a line an entry: its sender, its arrival tick and its datagram's length", "--told",
+              "Prints `1 sender 7 tick 99 length 23` for each entry, then `end N`; or `refused R after N`, the N entries before it being printed.\n"
+              "  --told  behind these all that is told of the entry: what a receiver with slots of the largest payload answers, as `qm replay`; where it is a datagram\n"
+              "          ` small` or ` fragment 3 of 17` and ` sequence 500`, with what the sequence watch notes, as `qm gaps`, or ` unwatched` of a 17th sender; and the key\n"
+              "          that was given up: `2 sender 7 tick 99 length 738 kept fragment 3 of 17 sequence 500 forward 0 emptied 7 490`\n", 1},
     [REPLAY] = {"replay", "[--store BYTES] LOG", "a line an entry: what a fresh receiver answers to its datagram", 0,
                 "Prints `1 kept`, `2 repeat`, `3 delivered 1845` or `4 refused 8` for each entry, with ` emptied SENDER SEQUENCE` where a message was given up for\n"
                 "another, then `end N` or `refused R after N`. The log's limits bind. The receiver has eight slots of the largest payload that there is, as that of `qm count`.\n"
@@ -27,6 +30,18 @@ const struct command commands[COMMANDS] = {
                "  --forget-at SENDER:ENTRY\n"
                "                 of one log: the sender is forgotten right before that entry, the first being 1, since it began anew there\n"
                "Where a camera began anew under old numbers, its tiles are taken for late copies: standard error says how many, and `qm strays` lists them.\n", ANY},
+    [PITS] = {"pits", "[--marks | --csv | --geojson] [--from SENDER].. LOG..",
+              "a line a pit, of one flight or of a season: where it lies, how deep it is, and who said so last", 0,
+              "The pits are those that `qm count` counts. Prints `tile 9 pit 4 sure 1 marks 3 lat 1 lon -2 height 3 depth 45 sender 7 sequence 500 tick 99 log LOG` for each,\n"
+              "by rising tile, then pit. It is sure (1) where any of its marks says so; the rest is of its last mark, in the order of logs and deliveries: its place, where it\n"
+              "has one; its depth, where the list has depths; sender and sequence of the list, and the tick of the entry that completed it. Latitude and longitude are\n"
+              "ten-millionths of a degree, the height is in metres, the depth in centimetres.\n"
+              "A log that is not whole is read up to the entry that is refused, and standard error says so. Where there are more than 65,536 tiles or pits, the one line is\n"
+              "`refused 60` or `refused 61`, in every form.\n"
+              "  --marks        a line for each mark of each list, in the order of logs and deliveries, without `marks`\n"
+              "  --csv          comma-separated values, for a spreadsheet: a line of heads, then a line a pit, empty where a line would leave something out\n"
+              "  --geojson      a FeatureCollection for a map program, a point for each pit that has a place, in degrees\n"
+              "  --from SENDER  the entries of this sender alone, or of these, where it stands more than once\n", ANY},
     [STRAYS] = {"strays", "LOG..", "repeats that are no copies: what a camera sent after it began anew under old numbers, and nobody counted", 0,
                 "Prints `log LOG sender 7 entry 120 tick 99 sequence 500` for each entry that a fresh receiver answers Repeat, though no earlier entry of that sender in\n"
                 "that log has its bytes; then `end N`, over all logs. A log that is not whole is looked through up to the entry that is refused.\n"

@@ -22,6 +22,16 @@ static void wipe(void) {
     fprintf(stderr, "\r\33[K");
 }
 
+/* What was walked over is given back in such pieces, so that a long log does not fill the memory. Who looks back has it from the disk again. */
+enum { PIECE = 1 << 26 };
+
+static void give_back(struct walk *w) {
+    qm_size whole = w->at / PIECE * PIECE;
+    if (whole == w->given) return;
+    madvise((void *) (w->log.bytes + w->given), whole - w->given, NOT_NEEDED);
+    w->given = whole;
+}
+
 /* Once for each hundredth. */
 static void show(struct walk *w) {
     int hundredth = (int) (w->next / (w->log.length / 100));
@@ -53,6 +63,7 @@ int walk_on(struct walk *w) {
     w->entries++;
     w->at = w->next;
     w->next = w->entry[QM_NEXT_PLACE];
+    give_back(w);
     if (w->shown >= 0) show(w);
     return 1;
 }

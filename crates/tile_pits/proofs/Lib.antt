@@ -1,0 +1,4 @@
+pub mod Gives
+pub mod Means
+pub mod Once
+pub mod Parts
