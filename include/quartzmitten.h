@@ -1,9 +1,10 @@
-/* Quartzmitten for a C host: the checksum, the datagram reader, the cutter, the receiver, the sequence watch, the log's writer and reader, and the
-   index and the count of a log, and of a season of logs; survey messages as numbers, and which pits a map has.
+/* Quartzmitten for a C host: the checksum, the datagram reader, the cutter, the receiver, the sequence watch, the log's writer and reader, the
+   index of a log and the file that keeps it, and the count of a log, and of a season of logs; survey messages as numbers, and which pits a map has.
 
    Link the archives libhost.a, libhost_state.a (qm_open, qm_forget, qm_lengths), libhost_receiver.a (qm_receive, qm_receive_within), libhost_flight.a
-   (qm_log_first, qm_log_next, qm_watch_see), libhost_index.a (qm_index, qm_find), libhost_count.a (qm_count), libhost_season.a (qm_count_on,
-   qm_count_lines) and libhost_pits.a (qm_read_message, qm_pits, qm_marks), or those whose functions are called: the
+   (qm_log_first, qm_log_next, qm_watch_see), libhost_index.a (qm_index, qm_find, qm_index_on, qm_index_file_write, qm_index_file_head,
+   qm_index_file_rows, qm_index_file_find), libhost_count.a (qm_count), libhost_season.a (qm_count_on, qm_count_lines) and libhost_pits.a
+   (qm_read_message, qm_pits, qm_marks), or those whose functions are called: the
    toolchain's `rt staticlib host`, `rt staticlib host_state` and so on write them (x86-64 Linux). No other header is needed.
 
    What holds for all of them:
@@ -61,8 +62,10 @@ typedef unsigned long long qm_size; /* a length, a place or a number of elements
 #define QM_NOT_SHORTEST 41      /* a number of a log not in its shortest form, or a tenth byte above 1 */
 #define QM_KEPT_TOO_LONG 42     /* a datagram to keep, or kept, over 65,535 bytes */
 #define QM_LOG_CUT 43           /* a log that is empty, or ends inside an entry */
-#define QM_INDEX_FULL 44        /* an index of more than 4,096 entries */
+#define QM_INDEX_FULL 44        /* an index of more than 4,096 entries; of qm_index_on, one of more than are asked for or lent */
 #define QM_LOG_LIMIT 45         /* a log's payload limit over 1,048,576 */
+#define QM_NOT_AN_INDEX 46      /* not an index file: another first byte, a length that is not that of its rows, or rows not sorted */
+#define QM_OTHER_LOG 47         /* an index file of another log: it covers more bytes than the log has, or a row leads to an entry of another key */
 #define QM_TOO_MANY_TILES 60    /* a 257th tile; of qm_count_on, one more than words are lent */
 #define QM_TOO_MANY_PITS 61     /* an 8,193rd pit, over all tiles; of qm_count_on, a pit or a sure pit more than words are lent */
 #define QM_TOO_MANY_ENTRIES 62  /* a log of more than 4,096 entries */
@@ -195,6 +198,59 @@ enum {
 
    Answers 0 and writes the two numbers above to the start of `place`; what stands after them stays. Otherwise 13, and writes nothing, where fewer fit. */
 qm_u32 qm_find(const qm_u64 *index, qm_size index_length, qm_size rows, qm_u64 sender, qm_u32 sequence, qm_u64 *place, qm_size place_length);
+
+/* Works out what the entries of a log of `length` bytes from a place on add to an index, and adds it. The first `rows` rows of `index` are the index before, and
+   `from` is how many bytes of the log it covers: the length that the log had then. 0 rows and the place 0 give the index of the whole log, as any place below the
+   first entry does. What an index is extended to over any number of such calls is the index worked out afresh. At most `most` rows; a million rows in any order
+   take some seconds.
+
+   Answers 2^32 + (number of rows), those before among them, and leaves them sorted at the start of `index`; what stands after them stays. Otherwise answers a
+   refusal, which is below 2^32 as no other answer is, and then nothing is written: the log's own, of its head and from the place on, 43, 40, 41, 42, 45 in byte order;
+   then 44 where there are more than `most` rows, or more than `index` has room for. Of numbers that are no index it says what comes of them. */
+qm_u64 qm_index_on(const qm_byte *log, qm_size length, qm_size from, qm_u64 *index, qm_size index_length, qm_size rows, qm_u32 most);
+
+/* An index file: an index that is kept beside its log. The byte 1, how many bytes of the log it covers (8 bytes), how many rows it has (8 bytes), and the rows, of 20
+   bytes each: sender (8), sequence (4), place (8), sorted as an index is. All numbers are big-endian. */
+
+/* How many bytes an index file of so many rows has. */
+#define QM_INDEX_FILE_HEAD 17
+#define QM_INDEX_FILE_ROW 20
+#define QM_INDEX_FILE(rows) (QM_INDEX_FILE_HEAD + QM_INDEX_FILE_ROW * (qm_size) (rows))
+
+/* Writes the index file of the first `rows` rows of `index` to the start of `file`, QM_INDEX_FILE(rows) bytes; what stands after them stays. `covered` is the length of
+   the log that they are the index of. Of a sequence the low 32 bits are written. Whether the rows are sorted is not asked.
+
+   Answers 0. Otherwise 13, and writes nothing, where `index` has fewer rows or `file` fewer bytes. */
+qm_u32 qm_index_file_write(const qm_u64 *index, qm_size index_length, qm_size rows, qm_u64 covered, qm_byte *file, qm_size file_length);
+
+/* The places of the numbers that qm_index_file_head writes. */
+enum {
+    QM_COVERED,       /* how many bytes of the log the index covers */
+    QM_FILE_ROWS,     /* how many rows it has */
+    QM_FILE_NUMBERS   /* two */
+};
+
+/* Reads the head of an index file. `length` is that of the whole file, whose rows are not looked at.
+
+   Answers 0 and writes the two numbers above to the start of `head`; what stands after them stays. Otherwise 13 where `head` has room for fewer; then 46 where the first
+   byte is not 1 or the file has not the length of its rows; then nothing is written. */
+qm_u32 qm_index_file_head(const qm_byte *file, qm_size length, qm_u64 *head, qm_size head_length);
+
+/* Reads the rows of an index file to the start of `index`, three numbers a row as qm_index lays them; what stands after them stays. Each row is looked at.
+
+   Answers 0. Otherwise 46 where it is no index file: the two of qm_index_file_head, and rows that are not sorted; then 13 where `index` has room for fewer numbers; then
+   nothing is written. */
+qm_u32 qm_index_file_rows(const qm_byte *file, qm_size length, qm_u64 *index, qm_size index_length);
+
+/* Looks up a key in an index file by halving, and then at the log: some twenty rows and at most three entries are read, however long both are. It answers for the
+   bytes that the file covers; where the log has grown, the rest is asked of qm_index_on from QM_COVERED on with 0 rows, and qm_find.
+
+   Answers 0 and writes the two numbers of qm_find to the start of `place`; what stands after them stays. Otherwise 13 where `place` has room for fewer; then 46 as
+   qm_index_file_head; then 47 where the file is not of this log: it covers more bytes than the log has, or the entry at the place of its first row, its last row or the
+   row found has not that row's sender and sequence; then nothing is written. Whether the rows between are sorted is not asked: of rows that are not, the
+   answer is what halving comes to, a place whose entry has the key all the same. */
+qm_u32 qm_index_file_find(const qm_byte *log, qm_size length, const qm_byte *file, qm_size file_length, qm_u64 sender, qm_u32 sequence, qm_u64 *place,
+                          qm_size place_length);
 
 /* The receiver: fragments of messages joined in lent memory, each message delivered once.
 

@@ -100,7 +100,6 @@ int is_number(const char *text, qm_u64 most, qm_u64 *number);
 
 /* ---- the commands: each prints what it has to say and answers the status */
 
-int list_command(const char *path);
 int told_command(const char *path);
 int index_command(const char *path);
 int check_command(const char *path);
@@ -108,6 +107,7 @@ int find_command(const char *path, qm_u64 sender, qm_u64 sequence);
 int show_command(const char *path, qm_u64 place);
 /* these read the words of the command line themselves, and say which is wrong */
 int replay_command(int words, char **word);
+int list_command(int words, char **word);
 int gaps_command(int words, char **word);
 int count_command(int words, char **word);
 int pits_command(int words, char **word);

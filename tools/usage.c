@@ -3,11 +3,11 @@
 #include "qm.h"
 
 const struct command commands[COMMANDS] = {
-    [LIST] = {"list", "[--told] LOG", "a line an entry: its sender, its arrival tick and its datagram's length", "--told",
+    [LIST] = {"list", "[--told] LOG", "a line an entry: its sender, its arrival tick and its datagram's length", 0,
               "Prints `1 sender 7 tick 99 length 23` for each entry, then `end N`; or `refused R after N`, the N entries before it being printed.\n"
               "  --told  behind these all that is told of the entry: what a receiver with slots of the largest payload answers, as `qm replay`; where it is a datagram\n"
               "          ` small` or ` fragment 3 of 17` and ` sequence 500`, with what the sequence watch notes, as `qm gaps`, or ` unwatched` of a 17th sender; and the key\n"
-              "          that was given up: `2 sender 7 tick 99 length 738 kept fragment 3 of 17 sequence 500 forward 0 emptied 7 490`\n", 1},
+              "          that was given up: `2 sender 7 tick 99 length 738 kept fragment 3 of 17 sequence 500 forward 0 emptied 7 490`\n", ANY},
     [REPLAY] = {"replay", "[--store BYTES] LOG", "a line an entry: what a fresh receiver answers to its datagram", 0,
                 "Prints `1 kept`, `2 repeat`, `3 delivered 1845` or `4 refused 8` for each entry, with ` emptied SENDER SEQUENCE` where a message was given up for\n"
                 "another, then `end N` or `refused R after N`. The log's limits bind. The receiver has eight slots of the largest payload that there is, as that of `qm count`.\n"
