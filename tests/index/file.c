@@ -8,9 +8,9 @@
 #include "../../include/quartzmitten.h"
 #include "../reference/reference.h"
 
-enum { INPUT = 1 << 26, MOST = 1 << 20 };
+enum { ALL_INPUT = 1 << 26, MOST = 1 << 20 };
 
-static u8 input[INPUT], file[QM_INDEX_FILE(MOST)];
+static u8 input[ALL_INPUT], file[QM_INDEX_FILE(MOST)];
 static u64 rows[(u64) MOST * QM_ROW], at;
 
 static u64 next(void) {
