@@ -1,4 +1,4 @@
-/* What the exported calls make of an index file, for tests/index/run. Input, all numbers of eight bytes, big-endian:
+/* What the exported calls make of index files, for tests/index/run. Input, one case after another, all numbers of eight bytes, big-endian:
 
      log length, log, file length, file, number of places, places, number of keys, keys (sender, sequence)
 
@@ -40,6 +40,7 @@ static u64 grown(const u8 *log, u64 places) {
             return 0;
         }
         count = QM_INDEX_ROWS(answer);
+        if (count > 0 && qm_index_on(log, covers, 0, rows, count * QM_ROW - 1, 0, MOST) != QM_INDEX_FULL) return 0;
         length = QM_INDEX_FILE(count);
         file[length] = 0x5a;
         if (qm_index_file_write(rows, count * QM_ROW, count, covers, file, length - 1) != QM_TOO_SHORT) return 0;
@@ -48,11 +49,8 @@ static u64 grown(const u8 *log, u64 places) {
     return length;
 }
 
-int main(void) {
-    u64 length = 0, head[QM_FILE_NUMBERS] = {7, 7}, place[QM_FIND] = {7, 7};
-    long got;
-    while ((got = read(0, input + length, sizeof input - length)) > 0) length += (u64) got;
-    u64 log_length = next();
+static void one_case(void) {
+    u64 head[QM_FILE_NUMBERS] = {7, 7}, place[QM_FIND] = {7, 7}, log_length = next();
     const u8 *log = bytes(log_length);
     u64 file_length = next();
     const u8 *given = bytes(file_length);
@@ -70,10 +68,19 @@ int main(void) {
         answer = qm_index_file_find(log, log_length, given, file_length, sender, (u32) sequence, place, QM_FIND);
         printf("find %u %llu %llu\n", answer, place[0], place[1]);
     }
+    u64 end = at;
     at = first;
-    length = grown(log, places);
+    u64 length = grown(log, places);
+    at = end;
     printf("file %llu ", length);
     for (u64 i = 0; i < length; i++) printf("%02x", file[i]);
     printf("\n");
+}
+
+int main(void) {
+    u64 length = 0;
+    long got;
+    while ((got = read(0, input + length, sizeof input - length)) > 0) length += (u64) got;
+    while (at < length) one_case();
     return 0;
 }
