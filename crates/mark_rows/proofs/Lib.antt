@@ -4,4 +4,4 @@ pub mod Laid
 pub mod Lengths
 pub mod Once
 pub mod Trips
-pub mod Walks
+pub mod RowTurn

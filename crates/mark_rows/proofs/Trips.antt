@@ -18,7 +18,7 @@ use Rattle.count_rules.proofs.Spells.{past-is, list-is}
 use Rattle.mark_rows.specs.Placed.{PlacedMark, unmeasured, measured, placedAt, placedIn, placedOf}
 use Rattle.mark_rows.specs.Rows.{rowsOf}
 use Rattle.mark_rows.specs.Spelled.{elementRow, RowsAsSpelled}
-use Rattle.mark_rows.proofs.Walks.{placed-none}
+use Rattle.mark_rows.proofs.RowTurn.{placed-none}
 use Rattle.mark_rows.proofs.Counted.{marksOf}
 
 module _ (two : Bool) where

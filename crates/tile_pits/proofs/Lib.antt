@@ -1,4 +1,4 @@
-pub mod Gives
+pub mod TileGiven
 pub mod Means
 pub mod Once
 pub mod Parts

@@ -5,7 +5,7 @@ use native.Mathlib.Omega.{arith}
 use lib.ListN.{length, drop}
 use Rattle.mark_rows.specs.InsideRows.{placedFrom}
 use Rattle.mark_rows.proofs.Laid.{at-most-one}
-use Rattle.mark_rows.proofs.Walks.{goes-on, turn-long, end-long}
+use Rattle.mark_rows.proofs.RowTurn.{goes-on, turn-long, end-long}
 use borrow.Author.Needs.{needs}
 use Rattle.mark_rows.proofs.count_marks.Statement.{statement}
 use Rattle.mark_rows.proofs.count_marks.Tie as tie

@@ -9,7 +9,7 @@ use Rattle.mark_rows.specs.Placed.{PlacedMark, placedAt}
 use Rattle.mark_rows.specs.Rows.{rowsOf}
 use Rattle.mark_rows.specs.InsideRows.{placedFrom}
 use Rattle.mark_rows.proofs.Laid.{then-laid}
-use Rattle.mark_rows.proofs.Walks.{placed-turn, placed-end, goes-on, turn-long}
+use Rattle.mark_rows.proofs.RowTurn.{placed-turn, placed-end, goes-on, turn-long}
 use borrow.Author.Needs.{needs}
 use Rattle.mark_rows.proofs.put_rows.Statement.{statement}
 use Rattle.mark_rows.proofs.put_rows.Tie as tie

@@ -1,7 +1,7 @@
 -- By whether there is room for the pits. Assumes nothing.
 use native.Mathlib.Omega.{arith}
 use Rattle.tile_pits.specs.Pits.{mapOf}
-use Rattle.tile_pits.proofs.Gives.{part-inside, short-numbers, short-certain, given}
+use Rattle.tile_pits.proofs.TileGiven.{part-inside, short-numbers, short-certain, given}
 use borrow.Author.Needs.{needs}
 use Rattle.tile_pits.proofs.pits_from.Statement.{statement}
 use Rattle.tile_pits.proofs.pits_from.Tie as tie

@@ -1,5 +1,5 @@
 -- At its place, or nowhere. Assumes nothing.
-use Rattle.tile_pits.proofs.Gives.{stands-yes, stands-no, stands-out}
+use Rattle.tile_pits.proofs.TileGiven.{stands-yes, stands-no, stands-out}
 use borrow.Author.Needs.{needs}
 use Rattle.tile_pits.proofs.stands.Statement.{statement}
 use Rattle.tile_pits.proofs.stands.Tie as tie

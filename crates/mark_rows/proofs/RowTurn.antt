@@ -12,7 +12,7 @@ use lib.Seq.{drop-drop}
 use borrow.Author.Tests.{ltb-true, ltb-false}
 use Rattle.wire.proofs.Choices.{either}
 use Rattle.count_rules.specs.Marks.{markLength, markAt}
-use Rattle.pit_marks.proofs.Walks.{takes-one}
+use Rattle.pit_marks.proofs.ElementTurn.{takes-one}
 use Rattle.mark_rows.specs.Placed.{PlacedMark, placedAt, placedIn}
 use Rattle.mark_rows.specs.InsideRows.{placedFrom}
 
