@@ -30,7 +30,6 @@ static int run_find(char **word) {
 static int run(unsigned i, char **word) {
     qm_u64 place;
     switch (i) {
-    case INDEX: return index_command(word[0]);
     case SHOW: return is_number(word[1], ~0ull, &place) ? show_command(word[0], place) : wrong(i, word[1], "PLACE is a number of 64 bits, in decimal");
     case CHECK: return check_command(word[0]);
     default: return run_find(word);
@@ -57,6 +56,7 @@ static int run_any(unsigned i, int words, char **word) {
     case LIST: status = list_command(words, word); break;
     case GAPS: status = gaps_command(words, word); break;
     case COUNT: status = count_command(words, word); break;
+    case INDEX: status = index_command(words, word); break;
     case PITS: status = pits_command(words, word); break;
     case TAKE: status = take_command(words, word); break;
     case CUT: status = cut_command(words, word); break;

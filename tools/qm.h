@@ -101,7 +101,6 @@ int is_number(const char *text, qm_u64 most, qm_u64 *number);
 /* ---- the commands: each prints what it has to say and answers the status */
 
 int told_command(const char *path);
-int index_command(const char *path);
 int check_command(const char *path);
 int find_command(const char *path, qm_u64 sender, qm_u64 sequence);
 int show_command(const char *path, qm_u64 place);
@@ -112,6 +111,7 @@ int gaps_command(int words, char **word);
 int count_command(int words, char **word);
 int pits_command(int words, char **word);
 int strays_command(int words, char **word);
+int index_command(int words, char **word);
 int take_command(int words, char **word);
 int cut_command(int words, char **word);
 int join_command(int words, char **word);

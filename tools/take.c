@@ -109,7 +109,7 @@ static void tell_missing(const struct partial *p) {
 static void tell_partial(const struct asked *a, const struct partial *p) {
     fprintf(stderr, "qm take: %s: sender %llu sequence %llu: ", a->log, a->sender, a->sequence);
     if (p->entries == 0) fprintf(stderr, "no entry has this key\n");
-    else if (p->count == 0) fprintf(stderr, "all of its %llu entries are refused: `qm replay --large` says by what\n", p->entries);
+    else if (p->count == 0) fprintf(stderr, "all of its %llu entries are refused: `qm replay` says by what\n", p->entries);
     else {
         fprintf(stderr, "not complete: of fragments 0 to %u missing are ", p->count - 1);
         tell_missing(p);

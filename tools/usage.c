@@ -46,11 +46,16 @@ const struct command commands[COMMANDS] = {
                 "Prints `log LOG sender 7 entry 120 tick 99 sequence 500` for each entry that a fresh receiver answers Repeat, though no earlier entry of that sender in\n"
                 "that log has its bytes; then `end N`, over all logs. A log that is not whole is looked through up to the entry that is refused.\n"
                 "`qm count --forget-at 7:120 LOG` counts such a flight with the sender forgotten right before that entry.\n", ANY},
-    [INDEX] = {"index", "LOG", "a line for each entry that has a key: sender, sequence, and its place in the log, sorted", 0,
-               "Prints `sender 7 sequence 12 place 1` for each entry that the datagram reader accepts within the log's limits, sorted by sender, sequence and\n"
-               "place, then `end N`; or the one line `refused R`. The place is that of the entry's first byte.\n", 1},
+    [INDEX] = {"index", "[--print | --check] LOG", "keeps beside a log which entries have which key, in LOG.index, so that `qm find` need not read the log", 0,
+               "Writes LOG.index, or extends it by what was added to the log since, reading nothing else of it. Prints `indexed N` once it has N rows, one for each entry that\n"
+               "the datagram reader accepts within the log's limits. A log that is not whole is indexed up to the entry that is refused (status 3). A LOG.index that is none, or\n"
+               "not of this log, is told, and written anew.\n"
+               "  --print  writes nothing, and prints `sender 7 sequence 12 place 1` for each row, sorted by sender, sequence and place, then `end N`. The place is that of the\n"
+               "           entry's first byte\n"
+               "  --check  writes nothing, works out afresh what LOG.index covers, and prints `same N`, or `other` (status 3)\n", ANY},
     [FIND] = {"find", "LOG SENDER SEQUENCE", "where the first entry of a key begins", 0,
-              "Prints `place 1`, `none`, or the line `refused R` of `qm index`. SENDER is a number of 64 bits and SEQUENCE one of 32, in decimal.\n", 3},
+              "Prints `place 1` or `none`. Where there is a LOG.index it goes by that, and by what was added to the log since; else it works the index out. An index that is none,\n"
+              "or that leads to an entry of another key, is told and not believed; `qm index --check` decides. SENDER is a number of 64 bits and SEQUENCE one of 32, in decimal.\n", 3},
     [SHOW] = {"show", "LOG PLACE", "the entry that begins at a place, and what its datagram says", 0,
               "Prints `sender 7 tick 99 length 738`, then `small sequence 500 name TILE payload 12`, `fragment 3 of 17 sequence 500 offset 900 data 300 payload 5000`, with\n"
               "` name TILE` behind fragment 0, or `refused 7`, as the datagram reader says within the log's limits. PLACE is one that `qm find` or `qm index` prints. Of a\n"
@@ -70,7 +75,7 @@ const struct command commands[COMMANDS] = {
               "Writes OUT, with the largest payload limit of the logs. Where some are of edition 1 and others not, OUT is of edition 2, and standard error names them, since its\n"
               "limits are wider than theirs. Prints `entries N` once OUT has them. One log is one flight: what two flights sent under one key is there taken for copies, so\n"
               "`qm count LOG..` counts them without joining them. OUT and logs that are not whole as in `qm cut`.\n", ANY},
-    [KEEP] = {"keep", "[--sync] [--quiet] [--repair] [--new] [--every 3600s|500MB] LOG < RECORDS", "appends records to a log as they come, and says of each when it is kept", 0,
+    [KEEP] = {"keep", "[--sync] [--quiet] [--repair] [--new] [--every 3600s|500MB] [--index] LOG < RECORDS", "appends records to a log as they come, and says of each when it is kept", 0,
               "A record is an 8-byte sender, an 8-byte tick and a 2-byte length, big-endian, and the datagram. Once its entry was written to the file, the line\n"
               "`kept N` says that the log has N entries now: they stay when qm is killed at any moment. A log that is not there is begun, of edition 2 with the\n"
               "limit 1,048,576. One that ends inside an entry, since its writing was cut off, goes on after its last whole entry; the bytes of the cut one go into\n"
@@ -83,7 +88,8 @@ const struct command commands[COMMANDS] = {
               "  --new     begins a log under the next number: of FLIGHT.log FLIGHT-0001.log, FLIGHT-0002.log and so on. The line `log FLIGHT-0002.log` says which\n"
               "  --every 3600s, --every 500MB\n"
               "            goes on in the last of these, or the first, and begins the next one at the first record after so many seconds, or before it has more\n"
-              "            than so many million bytes\n", ANY},
+              "            than so many million bytes\n"
+              "  --index   at its end does what `qm index` does, for each log that it has kept to: `indexed N`\n", ANY},
     [CHECK] = {"check", "LOG", "is a log whole, who is in it, on which channels, and what was refused", 0,
                "Prints `whole`, or `refused R after N`; then of the N entries: `entries N`, `bytes B` of their datagrams, `limit L`, the largest payload that the log takes,\n"
                "`first T last U`, the ticks of its first and its last entry; `sender 7 datagrams 12 bytes 9000 first T last U` for each sender, rising; for each channel, by\n"

@@ -184,7 +184,7 @@ static void try_pits(void) {
 }
 
 int main(void) {
-    for (int i = 0; i < 20000; i++) {
+    for (int i = 0; i < 5000; i++) {
         draw();
         try_read();
         try_marks();
