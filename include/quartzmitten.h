@@ -1,15 +1,15 @@
 /* Quartzmitten for a C host: the checksum, the datagram reader, the cutter, the receiver, the sequence watch, the log's writer and reader, the
    index of a log and the file that keeps it, and the count of a log, and of a season of logs; survey messages as numbers, and which pits a map has.
 
-   Link the archives libhost.a, libhost_state.a (qm_open, qm_forget, qm_lengths), libhost_receiver.a (qm_receive, qm_receive_within), libhost_flight.a
+   Link libquartzmitten.a, which tools/install lays down beside this header with a file for pkg-config; or, out of the tree, the archives libhost.a, libhost_state.a (qm_open, qm_forget, qm_lengths), libhost_receiver.a (qm_receive, qm_receive_within), libhost_flight.a
    (qm_log_first, qm_log_next, qm_watch_see), libhost_index.a (qm_index, qm_find, qm_index_on, qm_index_file_write, qm_index_file_head,
    qm_index_file_rows, qm_index_file_find), libhost_count.a (qm_count), libhost_season.a (qm_count_on, qm_count_lines) and libhost_pits.a
    (qm_read_message, qm_pits, qm_marks), or those whose functions are called: the
    toolchain's `rt staticlib host`, `rt staticlib host_state` and so on write them (x86-64 Linux). No other header is needed.
 
    What holds for all of them:
-   - They end for any bytes and any lengths, keep no state of their own, ask the system for nothing, and may be called from any thread; qm_count and qm_count_on need
-     QM_COUNT_STACK bytes of its stack, the others at most half of that.
+   - They end for any bytes and any lengths, keep no state of their own, ask the system for nothing, and may be called from any thread. qm_count
+     needs QM_COUNT_STACK bytes of its stack, since the receiver that it counts with stands there; the others need 16 KiB at most.
    - They read and write only the memory lent in the call. A refusal writes nothing, but for what qm_count and qm_count_on say
      of three of their own.
    - Lent memory is a pointer and how many elements stand there. The pointer is never null, also where the length is 0, and
@@ -367,7 +367,7 @@ qm_u32 qm_lengths(qm_u64 *lengths, qm_size lengths_length);
 #define QM_MAX_MESSAGE 1048576
 #define QM_NUMBERS QM_MAX_MESSAGE
 
-/* The stack that qm_count needs, in bytes: a thread has as much, or it dies. */
+/* The stack that qm_count needs, in bytes: a thread that has less dies. qm_count_on counts the same and needs none of it. */
 #define QM_COUNT_STACK (192 * 1024)
 
 #define QM_MAX_TILES 256
