@@ -3,13 +3,18 @@ use mathlib.Core.Path.{_≡_, refl, sym, ap, _∙_, subst}
 use mathlib.Core.Logic.{inl, inr, _↔_}
 use mathlib.Core.Bool.{Bool, true, false}
 use mathlib.Core.List.{List, [], _∷_}
-use Prim.Native.Nat.{ℕ, zero, suc, _%_, _<_}
+use Prim.Native.Nat.{ℕ, zero, suc, _%_, _≤_, _<_}
 use native.Mathlib.Omega.{arith}
-use lib.ListN.{length}
-use borrow.Author.Tests.{eq-eqb}
+use lib.Dec.{ltb}
+use lib.ListN.{length, take}
+use borrow.Author.Tests.{ltb-false, eq-eqb}
 use Rattle.wire.specs.Choice.{pick}
-use Rattle.wire.proofs.Choices.{either}
+use Rattle.wire.specs.Overlay.{overlay}
+use Rattle.wire.specs.Slices.{_⇒_}
+use Rattle.wire.proofs.Overlays.{overlay-at}
+use Rattle.wire.proofs.Choices.{either, or-l, or-r}
 use Rattle.words.specs.Builds.{build}
+use Rattle.words.proofs.Builds.{length-build}
 use Rattle.sorted_set.specs.Lists.{In, gather, rising, Rising}
 use Rattle.sorted_set.specs.Halving.{isThere}
 use Rattle.sorted_set.proofs.Members.{gather-in, gather-from, Source}
@@ -24,8 +29,9 @@ use Rattle.count_rules.proofs.Keys.{pits-end, sure-end}
 use Rattle.count_rules.proofs.Under.{only, Taken, taken-from, taken-in}
 use Rattle.pit_marks.specs.declared.Sizes.{Sizes}
 use Rattle.pit_marks.specs.Sets.{Sets, Has}
-use Rattle.tile_pits.specs.Pits.{manyIn, keyAt, numbersIn, certainIn}
-use Rattle.tile_pits.specs.Meaning.{pitsOf, chosen, Shows}
+use Rattle.tile_pits.specs.declared.Pits.the-variants.{Many}
+use Rattle.tile_pits.specs.Pits.{Map, manyIn, keyAt, numbersIn, certainIn, lacking, pitsGiven, GivesPits}
+use Rattle.tile_pits.specs.Meaning.{pitsOf, chosen, Shows, Called}
 use Rattle.tile_pits.proofs.Parts.{there-in, in-there, key-is, to-keys, from-keys, numbers-are, many-are}
 
 -- ---- those with a 1 beside them
@@ -121,3 +127,36 @@ module _ (ls : List PitList) (x : Sets) (had : Sizes) (h : Has x had ls) (t : �
     line = ap (λ (l : List ℕ). length l) the-numbers ∙ sym (many-are pitOf ls P (x .pits) (had .pits) (h .the-pits) (pits-end ls (h .within)) t small);
     line-sure = ap (λ (l : List ℕ). length l) the-sure-ones ∙ sym (many-are pitIfSure ls S (x .sure) (had .sure) (h .the-sure) (sure-end ls (h .within)) t small);
   }
+
+  -- ---- the same of a call: what the outputs then begin with
+
+  abbrev M : Map
+  M = pitsOf x had
+
+  numbers-long : length (numbersIn M t) ≡ manyIn M t
+  unfolding numbersIn
+  numbers-long = length-build (manyIn M t) (λ i. keyAt M t i % span)
+
+  certain-long : length (certainIn M t) ≡ manyIn M t
+  unfolding certainIn
+  certain-long = length-build (manyIn M t) (λ i. pick (isThere (x .sure) (had .sure) (keyAt M t i)) 1 0)
+
+  front : (d s d′ : List ℕ) (n : ℕ) → n ≡ length s → n ≤ length d → d′ ≡ overlay d 0 s → take n d′ ≡ s
+  front d s d′ n e h f = (λ i. take (e i) (f i)) ∙ overlay-at d 0 s (omega arith)
+
+  pub pits-called : {a a′ b b′ : List ℕ} (n : ℕ) → GivesPits M t (a ⇒ a′) (b ⇒ b′) (Many n) → Called ls t n a′ b′
+  pits-called {a} {a′} {b} {b′} n g = go (lacking (manyIn M t) a b) refl (g .gave) (g .numbers) (g .sureness)
+    where
+      go : (l : Bool) → lacking (manyIn M t) a b ≡ l → Many n ≡ pitsGiven l (manyIn M t) → a′ ≡ pick l a (overlay a 0 (numbersIn M t)) → b′ ≡ pick l b (overlay b 0 (certainIn M t)) → Called ls t n a′ b′
+      go true q e f k = absurd (let z : _≡_ {A = ℕ} 0 1 = cc in let o : ⊥ = omega arith in o)
+      go false q e f k =
+          let m : n ≡ manyIn M t = cc in
+          let u : manyIn M t ≤ length a = ltb-false (length a) (manyIn M t) (or-l (ltb (length a) (manyIn M t)) (ltb (length b) (manyIn M t)) q) in
+          let v : manyIn M t ≤ length b = ltb-false (length b) (manyIn M t) (or-r (ltb (length a) (manyIn M t)) (ltb (length b) (manyIn M t)) q) in
+          let c : take n a′ ≡ numbersIn M t = front a (numbersIn M t) a′ n (m ∙ sym numbers-long) (omega arith) f in
+          let d : take n b′ ≡ certainIn M t = front b (certainIn M t) b′ n (m ∙ sym certain-long) (omega arith) k in
+          record {
+            many = m ∙ (sym numbers-long ∙ ap (λ (l : List ℕ). length l) the-numbers);
+            numbers = c ∙ the-numbers;
+            sureness = (λ i. chosen (c i) (d i)) ∙ the-sure-ones;
+          }

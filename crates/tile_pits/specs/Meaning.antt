@@ -1,10 +1,10 @@
--- What the pits of a tile mean, in the request's words, over sets that hold the marks of lists. Its proof is `pits-mean` of proofs/Means. Definitions only.
+-- What the pits of a tile mean, in the request's words, over sets that hold the marks of lists. Its proofs are `pits-mean` and, of a call, `pits-called` of proofs/Means. Definitions only.
 use mathlib.Core.Path.{_≡_}
 use mathlib.Core.Logic.{_↔_}
 use mathlib.Core.List.{List, [], _∷_}
 use Prim.Native.Nat.{ℕ}
 use lib.Dec.{eqb}
-use lib.ListN.{length}
+use lib.ListN.{length, take}
 use Rattle.wire.specs.Choice.{pick}
 use Rattle.sorted_set.specs.Lists.{In, Rising}
 use Rattle.count_rules.specs.Marks.{PitList}
@@ -35,3 +35,9 @@ pub record Shows (ls : List PitList) (x : Sets) (had : Sizes) (t : ℕ) (numbers
   pub reported-sure : chosen numbers certain ≡ surePits ls t
   pub line : length numbers ≡ pitsIn (x .pits) (had .pits) t
   pub line-sure : length (chosen numbers certain) ≡ pitsIn (x .sure) (had .sure) t
+
+-- what the two outputs of a call that answered n begin with
+pub record Called (ls : List PitList) (t n : ℕ) (number certain : List ℕ) : Type 0 where
+  pub many : n ≡ length (pits ls t)
+  pub numbers : take n number ≡ pits ls t
+  pub sureness : chosen (take n number) (take n certain) ≡ surePits ls t
