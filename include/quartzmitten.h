@@ -1,13 +1,15 @@
-/* Quartzmitten for a C host: the checksum, the datagram reader, the cutter, the receiver, the sequence watch, the log's writer and reader, and the
-   index and the count of a log, and of a season of logs.
+/* Quartzmitten for a C host: the checksum, the datagram reader, the cutter, the receiver, the sequence watch, the log's writer and reader, the
+   index of a log and the file that keeps it, and the count of a log, and of a season of logs; survey messages as numbers, and which pits a map has.
 
-   Link the archives libhost.a, libhost_state.a (qm_open, qm_forget, qm_lengths), libhost_receiver.a (qm_receive, qm_receive_within), libhost_flight.a
-   (qm_log_first, qm_log_next, qm_watch_see), libhost_index.a (qm_index, qm_find), libhost_count.a (qm_count) and libhost_season.a (qm_count_on,
-   qm_count_lines), or those whose functions are called: the
+   Link libquartzmitten.a, which tools/install lays down beside this header with a file for pkg-config; or, out of the tree, the archives libhost.a, libhost_state.a (qm_open, qm_forget, qm_lengths), libhost_receiver.a (qm_receive, qm_receive_within), libhost_flight.a
+   (qm_log_first, qm_log_next, qm_watch_see), libhost_index.a (qm_index, qm_find, qm_index_on, qm_index_file_write, qm_index_file_head,
+   qm_index_file_rows, qm_index_file_find), libhost_count.a (qm_count), libhost_season.a (qm_count_on, qm_count_lines) and libhost_pits.a
+   (qm_read_message, qm_pits, qm_marks), or those whose functions are called: the
    toolchain's `rt staticlib host`, `rt staticlib host_state` and so on write them (x86-64 Linux). No other header is needed.
 
    What holds for all of them:
-   - They end for any bytes and any lengths, keep no state of their own, ask the system for nothing, and may be called from any thread.
+   - They end for any bytes and any lengths, keep no state of their own, ask the system for nothing, and may be called from any thread. qm_count
+     needs QM_COUNT_STACK bytes of its stack, since the receiver that it counts with stands there; the others need 16 KiB at most.
    - They read and write only the memory lent in the call. A refusal writes nothing, but for what qm_count and qm_count_on say
      of three of their own.
    - Lent memory is a pointer and how many elements stand there. The pointer is never null, also where the length is 0, and
@@ -21,6 +23,10 @@
 #ifdef __cplusplus
 extern "C" {
 #endif
+
+/* Which header this is. */
+#define QM_VERSION 100
+#define QM_VERSION_TEXT "1.0"
 
 typedef unsigned char qm_byte;
 typedef unsigned int qm_u32;
@@ -43,12 +49,23 @@ typedef unsigned long long qm_size; /* a length, a place or a number of elements
 #define QM_NO_SUCH_DATAGRAM 12  /* the datagram asked for is not below the number of datagrams */
 #define QM_TOO_SHORT 13         /* output or list too short */
 #define QM_WATCH_FULL 14        /* a 17th sender at a watch, or a watch that claims more than 16 */
+#define QM_NOT_LMCP 20          /* a survey message of fewer than 12 bytes, or one that does not begin with "LMCP" */
+#define QM_MESSAGE_LENGTH 21    /* over 1,048,576 bytes, or not of the length that it says */
+#define QM_MESSAGE_SUM 22       /* a checksum that is neither zero nor right */
+#define QM_MESSAGE_BOOL 23      /* an existence byte or a bool that is not 0 or 1, or a root that is null */
+#define QM_MESSAGE_TYPE 24      /* series, type or version not in the table, not the declared type, or not the version of the message's root */
+#define QM_MESSAGE_CUT 25       /* the message ends inside a value */
+#define QM_MESSAGE_DEPTH 26     /* an object at depth 17 */
+#define QM_MESSAGE_CHAR 27      /* a char over 127 */
+#define QM_MESSAGE_LEFT 28      /* something left after the root */
 #define QM_EDITION 40           /* a log of no edition that is known: it begins with neither 1 nor 2 */
 #define QM_NOT_SHORTEST 41      /* a number of a log not in its shortest form, or a tenth byte above 1 */
 #define QM_KEPT_TOO_LONG 42     /* a datagram to keep, or kept, over 65,535 bytes */
 #define QM_LOG_CUT 43           /* a log that is empty, or ends inside an entry */
-#define QM_INDEX_FULL 44        /* an index of more than 4,096 entries */
+#define QM_INDEX_FULL 44        /* an index of more than 4,096 entries; of qm_index_on, one of more than are asked for or lent */
 #define QM_LOG_LIMIT 45         /* a log's payload limit over 1,048,576 */
+#define QM_NOT_AN_INDEX 46      /* not an index file: another first byte, a length that is not that of its rows, or rows not sorted */
+#define QM_OTHER_LOG 47         /* an index file of another log: it covers more bytes than the log has, or a row leads to an entry of another key */
 #define QM_TOO_MANY_TILES 60    /* a 257th tile; of qm_count_on, one more than words are lent */
 #define QM_TOO_MANY_PITS 61     /* an 8,193rd pit, over all tiles; of qm_count_on, a pit or a sure pit more than words are lent */
 #define QM_TOO_MANY_ENTRIES 62  /* a log of more than 4,096 entries */
@@ -58,16 +75,16 @@ qm_u32 qm_checksum(const qm_byte *bytes, qm_size length);
 
 /* The places of the ten numbers that qm_read_datagram writes. */
 enum {
-    QM_KIND,          /* 1 a small message, 2 a fragment */
-    QM_SEQUENCE,      /* the sequence number */
-    QM_SIZE,          /* the payload size P of the whole message; of a small message its data length */
-    QM_OFFSET,        /* where the data begins in the payload; of a small message 0 */
-    QM_NUMBER,        /* the fragment's number k, from 0; of a small message 0 */
-    QM_COUNT,         /* the number n of fragments; of a small message 1 */
-    QM_NAME_PLACE,    /* where the name begins in the datagram: 8 in a small message, 20 in a fragment */
-    QM_NAME_LENGTH,   /* 1 to 63, in bytes; 0 in a fragment with a number above 0, which has no name */
-    QM_DATA_PLACE,    /* where the data begins in the datagram */
-    QM_DATA_LENGTH,   /* how many bytes of data it carries */
+    QM_FIELD_KIND,    /* 1 a small message, 2 a fragment */
+    QM_FIELD_SEQUENCE, /* the sequence number */
+    QM_FIELD_SIZE,    /* the payload size P of the whole message; of a small message its data length */
+    QM_FIELD_OFFSET,  /* where the data begins in the payload; of a small message 0 */
+    QM_FIELD_NUMBER,  /* the fragment's number k, from 0; of a small message 0 */
+    QM_FIELD_COUNT,   /* the number n of fragments; of a small message 1 */
+    QM_FIELD_NAME_PLACE, /* where the name begins in the datagram: 8 in a small message, 20 in a fragment */
+    QM_FIELD_NAME_LENGTH, /* 1 to 63, in bytes; 0 in a fragment with a number above 0, which has no name */
+    QM_FIELD_DATA_PLACE, /* where the data begins in the datagram */
+    QM_FIELD_DATA_LENGTH, /* how many bytes of data it carries */
     QM_FIELDS         /* ten */
 };
 
@@ -119,9 +136,9 @@ qm_u64 qm_log_append(qm_byte *out, qm_size out_length, qm_size at, qm_u64 sender
 
 /* The places of the numbers that qm_log_first writes. */
 enum {
-    QM_FIRST_PLACE,   /* where the first entry begins */
-    QM_LOG_PAYLOAD,   /* the largest payload of the log's fragmented messages: in edition 1 262,144, in edition 2 what the log says */
-    QM_LOG_FRAGMENTS, /* the most fragments of one: 256, or 1,024 */
+    QM_HEAD_FIRST_PLACE, /* where the first entry begins */
+    QM_HEAD_PAYLOAD,  /* the largest payload of the log's fragmented messages: in edition 1 262,144, in edition 2 what the log says */
+    QM_HEAD_FRAGMENTS, /* the most fragments of one: 256, or 1,024 */
     QM_HEAD           /* three */
 };
 
@@ -131,16 +148,16 @@ qm_u32 qm_log_first(const qm_byte *log, qm_size length, qm_u64 *head, qm_size he
 
 /* The places of the numbers that qm_log_next writes. */
 enum {
-    QM_FOUND,         /* 1 an entry, 0 the end of the log: then sender, tick and length are 0, and both places are the one asked for */
-    QM_SENDER,        /* the entry's sender */
-    QM_TICK,          /* its arrival tick */
+    QM_ENTRY_FOUND,   /* 1 an entry, 0 the end of the log: then sender, tick and length are 0, and both places are the one asked for */
+    QM_ENTRY_SENDER,  /* the entry's sender */
+    QM_ENTRY_TICK,    /* its arrival tick */
     QM_ENTRY_PLACE,   /* where its datagram begins in the log */
     QM_ENTRY_LENGTH,  /* how many bytes the datagram has */
-    QM_NEXT_PLACE,    /* where the next entry begins */
+    QM_ENTRY_NEXT_PLACE, /* where the next entry begins */
     QM_ENTRY          /* six */
 };
 
-/* Reads the entry at the place `at`: that of qm_log_first, and then each QM_NEXT_PLACE. Any place may be given; at or past the log's length is its end.
+/* Reads the entry at the place `at`: that of qm_log_first, and then each QM_ENTRY_NEXT_PLACE. Any place may be given; at or past the log's length is its end.
 
    Answers 0 and writes the six numbers above to the start of `entry`; what stands after them stays. Otherwise 13 where `entry` has room for fewer; then,
    in byte order, 43 where the log ends inside the entry, 41, 42; then nothing is written. */
@@ -171,8 +188,8 @@ qm_u64 qm_index(const qm_byte *log, qm_size length, qm_u64 *index, qm_size index
 
 /* The places of the numbers that qm_find writes. */
 enum {
-    QM_KNOWN,         /* 1 where the log has the key, else 0 */
-    QM_PLACE,         /* where the first entry of the key begins in the log, else 0 */
+    QM_FIND_KNOWN,    /* 1 where the log has the key, else 0 */
+    QM_FIND_PLACE,    /* where the first entry of the key begins in the log, else 0 */
     QM_FIND           /* two */
 };
 
@@ -181,6 +198,59 @@ enum {
 
    Answers 0 and writes the two numbers above to the start of `place`; what stands after them stays. Otherwise 13, and writes nothing, where fewer fit. */
 qm_u32 qm_find(const qm_u64 *index, qm_size index_length, qm_size rows, qm_u64 sender, qm_u32 sequence, qm_u64 *place, qm_size place_length);
+
+/* Works out what the entries of a log of `length` bytes from a place on add to an index, and adds it. The first `rows` rows of `index` are the index before, and
+   `from` is how many bytes of the log it covers: the length that the log had then. 0 rows and the place 0 give the index of the whole log, as any place below the
+   first entry does. What an index is extended to over any number of such calls is the index worked out afresh. At most `most` rows; a million rows in any order
+   take some seconds.
+
+   Answers 2^32 + (number of rows), those before among them, and leaves them sorted at the start of `index`; what stands after them stays. Otherwise answers a
+   refusal, which is below 2^32 as no other answer is, and then nothing is written: the log's own, of its head and from the place on, 43, 40, 41, 42, 45 in byte order;
+   then 44 where there are more than `most` rows, or more than `index` has room for. Of numbers that are no index it says what comes of them. */
+qm_u64 qm_index_on(const qm_byte *log, qm_size length, qm_size from, qm_u64 *index, qm_size index_length, qm_size rows, qm_u32 most);
+
+/* An index file: an index that is kept beside its log. The byte 1, how many bytes of the log it covers (8 bytes), how many rows it has (8 bytes), and the rows, of 20
+   bytes each: sender (8), sequence (4), place (8), sorted as an index is. All numbers are big-endian. */
+
+/* How many bytes an index file of so many rows has. */
+#define QM_INDEX_FILE_HEAD 17
+#define QM_INDEX_FILE_ROW 20
+#define QM_INDEX_FILE(rows) (QM_INDEX_FILE_HEAD + QM_INDEX_FILE_ROW * (qm_size) (rows))
+
+/* Writes the index file of the first `rows` rows of `index` to the start of `file`, QM_INDEX_FILE(rows) bytes; what stands after them stays. `covered` is the length of
+   the log that they are the index of. Of a sequence the low 32 bits are written. Whether the rows are sorted is not asked.
+
+   Answers 0. Otherwise 13, and writes nothing, where `index` has fewer rows or `file` fewer bytes. */
+qm_u32 qm_index_file_write(const qm_u64 *index, qm_size index_length, qm_size rows, qm_u64 covered, qm_byte *file, qm_size file_length);
+
+/* The places of the numbers that qm_index_file_head writes. */
+enum {
+    QM_COVERED,       /* how many bytes of the log the index covers */
+    QM_FILE_ROWS,     /* how many rows it has */
+    QM_FILE_NUMBERS   /* two */
+};
+
+/* Reads the head of an index file. `length` is that of the whole file, whose rows are not looked at.
+
+   Answers 0 and writes the two numbers above to the start of `head`; what stands after them stays. Otherwise 13 where `head` has room for fewer; then 46 where the first
+   byte is not 1 or the file has not the length of its rows; then nothing is written. */
+qm_u32 qm_index_file_head(const qm_byte *file, qm_size length, qm_u64 *head, qm_size head_length);
+
+/* Reads the rows of an index file to the start of `index`, three numbers a row as qm_index lays them; what stands after them stays. Each row is looked at.
+
+   Answers 0. Otherwise 46 where it is no index file: the two of qm_index_file_head, and rows that are not sorted; then 13 where `index` has room for fewer numbers; then
+   nothing is written. */
+qm_u32 qm_index_file_rows(const qm_byte *file, qm_size length, qm_u64 *index, qm_size index_length);
+
+/* Looks up a key in an index file by halving, and then at the log: some twenty rows and at most three entries are read, however long both are. It answers for the
+   bytes that the file covers; where the log has grown, the rest is asked of qm_index_on from QM_COVERED on with 0 rows, and qm_find.
+
+   Answers 0 and writes the two numbers of qm_find to the start of `place`; what stands after them stays. Otherwise 13 where `place` has room for fewer; then 46 as
+   qm_index_file_head; then 47 where the file is not of this log: it covers more bytes than the log has, or the entry at the place of its first row, its last row or the
+   row found has not that row's sender and sequence; then nothing is written. Whether the rows between are sorted is not asked: of rows that are not, the
+   answer is what halving comes to, a place whose entry has the key all the same. */
+qm_u32 qm_index_file_find(const qm_byte *log, qm_size length, const qm_byte *file, qm_size file_length, qm_u64 sender, qm_u32 sequence, qm_u64 *place,
+                          qm_size place_length);
 
 /* The receiver: fragments of messages joined in lent memory, each message delivered once.
 
@@ -213,14 +283,14 @@ qm_u32 qm_open(qm_u64 *state, qm_size state_length, qm_byte *names, qm_size name
 
 /* The places of the numbers that qm_receive writes. */
 enum {
-    QM_ANSWER,            /* QM_ANSWER_KEPT, QM_ANSWER_REPEAT or QM_ANSWER_DELIVERED */
-    QM_WHERE,             /* of a delivered message: QM_IN_DATAGRAM or QM_IN_STORE; else 0, as the next two */
-    QM_PAYLOAD_PLACE,     /* where its payload begins there */
-    QM_PAYLOAD_LENGTH,    /* how many bytes it has */
-    QM_EMPTIED,           /* 1 where an open message was given up for this one, else 0, as the next two */
-    QM_EMPTIED_SENDER,    /* whose it was */
-    QM_EMPTIED_SEQUENCE,  /* and its sequence number */
-    QM_OUTCOME            /* seven */
+    QM_TOLD_ANSWER,       /* QM_ANSWER_KEPT, QM_ANSWER_REPEAT or QM_ANSWER_DELIVERED */
+    QM_TOLD_WHERE,        /* of a delivered message: QM_IN_DATAGRAM or QM_IN_STORE; else 0, as the next two */
+    QM_TOLD_PAYLOAD_PLACE, /* where its payload begins there */
+    QM_TOLD_PAYLOAD_LENGTH, /* how many bytes it has */
+    QM_TOLD_EMPTIED,      /* 1 where an open message was given up for this one, else 0, as the next two */
+    QM_TOLD_EMPTIED_SENDER, /* whose it was */
+    QM_TOLD_EMPTIED_SEQUENCE, /* and its sequence number */
+    QM_TOLD               /* seven */
 };
 
 enum { QM_ANSWER_KEPT = 1, QM_ANSWER_REPEAT, QM_ANSWER_DELIVERED };
@@ -230,7 +300,7 @@ enum { QM_IN_DATAGRAM = 1, QM_IN_STORE };
 
    Answers 0 and writes the seven numbers above to the start of `told` and QM_MAX_NAME bytes to the start of `name`: a delivered message's name with zeros
    after it, else zeros. The payload stays where it is until the next call. Otherwise answers a refusal, and then nothing at all was written: 13 where `told`
-   has room for fewer than QM_OUTCOME numbers or `name` for fewer than QM_MAX_NAME bytes; then 9; then the datagram reader's, 3, 1, 2, 5, 6, 4, 7,
+   has room for fewer than QM_TOLD numbers or `name` for fewer than QM_MAX_NAME bytes; then 9; then the datagram reader's, 3, 1, 2, 5, 6, 4, 7,
    6 by the slot size; then 8. */
 qm_u32 qm_receive(qm_u64 *state, qm_size state_length, qm_byte *names, qm_size names_length, qm_byte *store, qm_size store_length, qm_u32 *ledger,
                   qm_size ledger_length, qm_u64 sender, const qm_byte *datagram, qm_size length, qm_u64 *told, qm_size told_length, qm_byte *name,
@@ -297,22 +367,25 @@ qm_u32 qm_lengths(qm_u64 *lengths, qm_size lengths_length);
 #define QM_MAX_MESSAGE 1048576
 #define QM_NUMBERS QM_MAX_MESSAGE
 
+/* The stack that qm_count needs, in bytes: a thread that has less dies. qm_count_on counts the same and needs none of it. */
+#define QM_COUNT_STACK (192 * 1024)
+
 #define QM_MAX_TILES 256
 #define QM_REFUSALS 10
 
 /* The places of the numbers of a report. */
 enum {
-    QM_ENTRIES,                             /* entries of the log: the sum of the next three and of the ten refusals */
-    QM_KEPT,                                /* how many were answered Kept */
-    QM_REPEATED,                            /* Repeat */
-    QM_DELIVERED,                           /* Delivered */
-    QM_REFUSED,                             /* ten numbers: refused by 0 (never), by 1, and so on to 9 */
-    QM_LISTS = QM_REFUSED + QM_REFUSALS,    /* how many delivered payloads were an accepted PitList, of either version */
-    QM_TILES,                               /* how many tiles these name */
-    QM_TILE,                                /* the tiles' numbers, rising; after the last one zeros up to 256 */
-    QM_PITS = QM_TILE + QM_MAX_TILES,       /* of each tile, in the same order, how many distinct pits its lists mark */
-    QM_SURE = QM_PITS + QM_MAX_TILES,       /* and how many of these are sure in any of its lists */
-    QM_REPORT = QM_SURE + QM_MAX_TILES      /* 784 numbers */
+    QM_REPORT_ENTRIES,                      /* entries of the log: the sum of the next three and of the ten refusals */
+    QM_REPORT_KEPT,                         /* how many were answered Kept */
+    QM_REPORT_REPEATED,                     /* Repeat */
+    QM_REPORT_DELIVERED,                    /* Delivered */
+    QM_REPORT_REFUSED,                      /* ten numbers: refused by 0 (never), by 1, and so on to 9 */
+    QM_REPORT_LISTS = QM_REPORT_REFUSED + QM_REFUSALS, /* how many delivered payloads were an accepted PitList, of either version */
+    QM_REPORT_TILES,                        /* how many tiles these name */
+    QM_REPORT_TILE,                         /* the tiles' numbers, rising; after the last one zeros up to 256 */
+    QM_REPORT_PITS = QM_REPORT_TILE + QM_MAX_TILES, /* of each tile, in the same order, how many distinct pits its lists mark */
+    QM_REPORT_SURE = QM_REPORT_PITS + QM_MAX_TILES, /* and how many of these are sure in any of its lists */
+    QM_REPORT = QM_REPORT_SURE + QM_MAX_TILES      /* 784 numbers */
 };
 
 /* Goes through a log of `length` bytes, which may have been mapped from a file, with a receiver of its own, fresh, over the lent store and
@@ -384,6 +457,191 @@ qm_u32 qm_count_on(const qm_byte *log, qm_size length, qm_size place, qm_u64 mos
 qm_u32 qm_count_lines(qm_u64 *tile, qm_size tile_length, qm_u64 *pit, qm_size pit_length, qm_u64 *certain, qm_size certain_length,
                       const qm_u64 *tiles, qm_size tiles_length, const qm_u64 *pits, qm_size pits_length, const qm_u64 *sure,
                       qm_size sure_length, qm_size had_tiles, qm_size had_pits, qm_size had_sure);
+
+/* Survey messages as numbers, and which pits a map has: the numbers behind the tile lines. */
+
+/* Reads a survey message of `message_length` bytes, of either version, to the start of `numbers`: the version, then each object as its type, 0 for null,
+   and its fields in the order of the table; what stands in `numbers` after them stays. QM_NUMBERS numbers are enough for any message.
+
+   Answers 0 and writes to the first number of `told` how many numbers there are. Otherwise answers a refusal, and then nothing is written: 13 where `told` has
+   room for none; then 20 to 28, as the reader judges the bytes; then 13 where the numbers do not fit. */
+qm_u32 qm_read_message(const qm_byte *message, qm_size message_length, qm_i64 *numbers, qm_size numbers_length, qm_u64 *told, qm_size told_length);
+
+/* The pits of a tile out of a map, as qm_count_on fills it: their numbers, rising, to the start of `number`, and of each to the start of `certain` whether it is
+   sure, 1 or 0; what stands there after them stays. They are the pits that the tile's line counts: as many as qm_count_lines tells, and as many of them sure.
+
+   Answers 0 and writes to the first number of `told` how many there are. Otherwise 13, and writes nothing, where `number` or `certain` has fewer words than
+   there are pits, or `told` room for none. Sizes above what is lent count as what is lent. A tile that the map does not have has no pits. */
+qm_u32 qm_pits(qm_u64 tile, const qm_u64 *pits, qm_size pits_length, const qm_u64 *sure, qm_size sure_length, qm_size had_pits, qm_size had_sure,
+               qm_u64 *number, qm_size number_length, qm_u64 *certain, qm_size certain_length, qm_u64 *told, qm_size told_length);
+
+/* The places of the numbers of a mark. */
+enum {
+    QM_MARK_PIT,      /* the pit */
+    QM_MARK_SURE,     /* 1 where it is marked sure, else 0 */
+    QM_MARK_PLACED,   /* 1 where the mark has a place; else 0, as the next three */
+    QM_MARK_LAT,      /* where it lies, as the camera said it */
+    QM_MARK_LON,
+    QM_MARK_HEIGHT,
+    QM_MARK_MEASURED, /* 1 where it has a depth, as every mark of version 2 has; else 0, as the next one */
+    QM_MARK_DEPTH,    /* its depth, in centimetres */
+    QM_MARK           /* eight */
+};
+
+/* The places of the numbers that qm_marks writes to `told`. */
+enum {
+    QM_MARKS_LIST,    /* 1 where the numbers are those of a PitList; else 0, as the next two */
+    QM_MARKS_TILE,    /* its tile */
+    QM_MARKS_COUNT,   /* how many marks it has: null ones are skipped */
+    QM_MARKS          /* three */
+};
+
+/* The marks of a survey message that was read: `numbers` are those that qm_read_message wrote, and `numbers_length` is how many it told. Each mark is a row of
+   QM_MARK numbers, one behind the other, in the order of the list, at the start of `rows`; what stands there after them stays. Their pits and whether each is
+   sure are what the count enters.
+
+   Answers 0 and writes the three numbers above to the start of `told`. Otherwise 13, and writes nothing, where `rows` has room for fewer rows, or `told` for
+   fewer numbers. Of numbers that are no message it says what comes of them: past their end they are read as 0. */
+qm_u32 qm_marks(const qm_i64 *numbers, qm_size numbers_length, qm_i64 *rows, qm_size rows_length, qm_u64 *told, qm_size told_length);
+
+/* ---- hard to misuse: the same calls with memory of the right lengths
+
+   What stands above takes every part of the lent memory with its length. A host in C is easier to get right with these: the lengths are those of this header, and
+   `qm_lengths` tells whether the archive has the same. They add nothing to what the calls answer. */
+
+/* A receiver: some 8.5 MB, so it stands in static memory or comes from malloc, never on a stack. qm_receiver_open makes it one. */
+struct qm_receiver {
+    qm_u64 state[QM_STATE];
+    qm_u32 ledger[QM_LEDGER];
+    qm_byte names[QM_NAMES];
+    qm_byte store[QM_STORE];
+};
+
+/* What a receiver said of a datagram. */
+struct qm_outcome {
+    qm_u64 told[QM_TOLD];
+    char name[QM_MAX_NAME + 1];   /* of a delivered message, with a zero byte behind it; else empty. No name has a zero byte of its own */
+    const qm_byte *payload;       /* of a delivered message, until the receiver's next call; else null */
+    qm_size length;               /* how many bytes it has */
+};
+
+/* A fresh receiver. Answers 0. */
+static inline qm_u32 qm_receiver_open(struct qm_receiver *r) {
+    return qm_open(r->state, QM_STATE, r->names, QM_NAMES, QM_STORE);
+}
+
+/* A sender began anew: right before its first new datagram is taken, so that this is no late copy of an old one. See qm_host_take. */
+static inline qm_u32 qm_receiver_forget(struct qm_receiver *r, qm_u64 sender) {
+    return qm_forget(r->state, QM_STATE, r->names, QM_NAMES, sender);
+}
+
+/* Takes a datagram, as qm_receive_within: `payload` and `fragments` are the log's, of qm_log_first, or QM_MAX_PAYLOAD and QM_MAX_FRAGMENTS. Answers 0 and what it
+   said in `o`, or the refusal, and then `o` says nothing. */
+static inline qm_u32 qm_receiver_take_within(struct qm_receiver *r, qm_size payload, qm_u32 fragments, qm_u64 sender, const qm_byte *datagram, qm_size length,
+                                             struct qm_outcome *o) {
+    qm_u32 i;
+    for (i = 0; i < QM_TOLD; i++) o->told[i] = 0;
+    for (i = 0; i <= QM_MAX_NAME; i++) o->name[i] = 0;
+    o->payload = 0;
+    o->length = 0;
+    i = qm_receive_within(r->state, QM_STATE, r->names, QM_NAMES, r->store, QM_STORE, r->ledger, QM_LEDGER, payload, fragments, sender, datagram, length,
+                          o->told, QM_TOLD, (qm_byte *) o->name, QM_MAX_NAME);
+    if (i != 0 || o->told[QM_TOLD_ANSWER] != QM_ANSWER_DELIVERED) return i;
+    o->payload = (o->told[QM_TOLD_WHERE] == QM_IN_STORE ? (const qm_byte *) r->store : datagram) + o->told[QM_TOLD_PAYLOAD_PLACE];
+    o->length = o->told[QM_TOLD_PAYLOAD_LENGTH];
+    return 0;
+}
+
+static inline qm_u32 qm_receiver_take(struct qm_receiver *r, qm_u64 sender, const qm_byte *datagram, qm_size length, struct qm_outcome *o) {
+    return qm_receiver_take_within(r, QM_MAX_PAYLOAD, QM_MAX_FRAGMENTS, sender, datagram, length, o);
+}
+
+/* A receiver with a watch: what a van has. Zeros are a watch that has seen nobody; the receiver is opened by qm_receiver_open. */
+struct qm_host {
+    struct qm_receiver receiver;
+    qm_u64 senders[QM_WATCH];
+    qm_u32 lasts[QM_WATCH_SENDERS];
+};
+
+/* Takes a datagram, and forgets its sender first where the datagram shows that it began anew: its number lies behind the sender's last by more than 1,024. `seen`
+   is what the watch says, as qm_watch_see answers; 0 where the datagram is refused for form. Of a sender past QM_WATCH_SENDERS it is 14, and that sender is
+   taken without a watch. Answers as qm_receiver_take. */
+static inline qm_u32 qm_host_take(struct qm_host *h, qm_u64 sender, const qm_byte *datagram, qm_size length, struct qm_outcome *o, qm_u64 *seen) {
+    qm_u32 fields[QM_FIELDS];
+    *seen = 0;
+    if (qm_read_datagram(datagram, length, fields, QM_FIELDS) == 0) {
+        *seen = qm_watch_see(h->senders, QM_WATCH, h->lasts, QM_WATCH_SENDERS, sender, fields[QM_FIELD_SEQUENCE]);
+        if (QM_WATCH_KIND(*seen) == QM_WATCH_RESTARTED) qm_receiver_forget(&h->receiver, sender);
+    }
+    return qm_receiver_take(&h->receiver, sender, datagram, length, o);
+}
+
+/* A season's map: three lists that the host lends, with how many words each has, and how many numbers stand in it, 0 at first. */
+struct qm_map {
+    qm_u64 *tiles, *pits, *sure;
+    qm_size tiles_room, pits_room, sure_room;
+    qm_size had_tiles, had_pits, had_sure;
+};
+
+/* Counts a log from `place` on, as qm_count_on, and keeps the map's sizes. `numbers` has QM_NUMBERS numbers, `told` QM_STRETCH. */
+static inline qm_u32 qm_map_count(struct qm_map *m, struct qm_receiver *r, const qm_byte *log, qm_size length, qm_size place, qm_u64 most, qm_i64 *numbers,
+                                  qm_u64 *told) {
+    qm_u32 refusal = qm_count_on(log, length, place, most, r->state, QM_STATE, r->names, QM_NAMES, r->store, QM_STORE, r->ledger, QM_LEDGER, numbers, QM_NUMBERS,
+                                 m->tiles, m->tiles_room, m->pits, m->pits_room, m->sure, m->sure_room, m->had_tiles, m->had_pits, m->had_sure, told, QM_STRETCH);
+    if (refusal != 0) return refusal;
+    m->had_tiles = told[QM_ON_TILES];
+    m->had_pits = told[QM_ON_PITS];
+    m->had_sure = told[QM_ON_SURE];
+    return 0;
+}
+
+/* The tile lines of a map, as qm_count_lines: `tile`, `pit` and `certain` have as many words as the map has tiles. */
+static inline qm_u32 qm_map_lines(const struct qm_map *m, qm_u64 *tile, qm_u64 *pit, qm_u64 *certain) {
+    return qm_count_lines(tile, m->had_tiles, pit, m->had_tiles, certain, m->had_tiles, m->tiles, m->tiles_room, m->pits, m->pits_room, m->sure, m->sure_room,
+                          m->had_tiles, m->had_pits, m->had_sure);
+}
+
+/* ---- the names that these numbers had before 1.0: they go with the next version */
+
+#ifndef QM_NO_OLD_NAMES
+#define QM_KIND QM_FIELD_KIND
+#define QM_SEQUENCE QM_FIELD_SEQUENCE
+#define QM_SIZE QM_FIELD_SIZE
+#define QM_OFFSET QM_FIELD_OFFSET
+#define QM_NUMBER QM_FIELD_NUMBER
+#define QM_COUNT QM_FIELD_COUNT
+#define QM_NAME_PLACE QM_FIELD_NAME_PLACE
+#define QM_NAME_LENGTH QM_FIELD_NAME_LENGTH
+#define QM_DATA_PLACE QM_FIELD_DATA_PLACE
+#define QM_DATA_LENGTH QM_FIELD_DATA_LENGTH
+#define QM_FIRST_PLACE QM_HEAD_FIRST_PLACE
+#define QM_LOG_PAYLOAD QM_HEAD_PAYLOAD
+#define QM_LOG_FRAGMENTS QM_HEAD_FRAGMENTS
+#define QM_FOUND QM_ENTRY_FOUND
+#define QM_SENDER QM_ENTRY_SENDER
+#define QM_TICK QM_ENTRY_TICK
+#define QM_NEXT_PLACE QM_ENTRY_NEXT_PLACE
+#define QM_KNOWN QM_FIND_KNOWN
+#define QM_PLACE QM_FIND_PLACE
+#define QM_ANSWER QM_TOLD_ANSWER
+#define QM_WHERE QM_TOLD_WHERE
+#define QM_PAYLOAD_PLACE QM_TOLD_PAYLOAD_PLACE
+#define QM_PAYLOAD_LENGTH QM_TOLD_PAYLOAD_LENGTH
+#define QM_EMPTIED QM_TOLD_EMPTIED
+#define QM_EMPTIED_SENDER QM_TOLD_EMPTIED_SENDER
+#define QM_EMPTIED_SEQUENCE QM_TOLD_EMPTIED_SEQUENCE
+#define QM_OUTCOME QM_TOLD
+#define QM_ENTRIES QM_REPORT_ENTRIES
+#define QM_KEPT QM_REPORT_KEPT
+#define QM_REPEATED QM_REPORT_REPEATED
+#define QM_DELIVERED QM_REPORT_DELIVERED
+#define QM_REFUSED QM_REPORT_REFUSED
+#define QM_LISTS QM_REPORT_LISTS
+#define QM_TILES QM_REPORT_TILES
+#define QM_TILE QM_REPORT_TILE
+#define QM_PITS QM_REPORT_PITS
+#define QM_SURE QM_REPORT_SURE
+#endif
 
 #ifdef __cplusplus
 }

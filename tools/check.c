@@ -2,11 +2,7 @@
 
 #include "logs.h"
 #include "met.h"
-
-static qm_u64 state[QM_STATE];
-static qm_byte names[QM_NAMES];
-static qm_byte store[QM_STORE];
-static qm_u32 ledger[QM_LEDGER];
+#include "receiver.h"
 
 struct checked {
     struct met senders, channels;
@@ -15,11 +11,9 @@ struct checked {
 };
 
 /* A message was delivered: its channel was met with its fragment 0. */
-static int note_message(struct checked *c, const struct walk *w, const qm_byte *name, const qm_u64 *told) {
-    qm_size length = 0;
-    while (length < QM_MAX_NAME && name[length] != 0) length++;
-    struct met_row *row = met_channel(&c->channels, name, length);
-    if (row) met_again(row, told[QM_PAYLOAD_LENGTH], w->entry[QM_TICK]);
+static int note_message(struct checked *c, const struct walk *w, const struct received *r) {
+    struct met_row *row = met_channel(&c->channels, r->name, delivered_name_length(r));
+    if (row) met_again(row, delivered_length(r), w->entry[QM_TICK]);
     return row != 0;
 }
 
@@ -32,33 +26,20 @@ static int note_name(struct checked *c, const struct walk *w) {
 
 /* The entry at hand. Answers whether there was memory. */
 static int note(struct checked *c, const struct walk *w) {
-    qm_u64 told[QM_OUTCOME];
-    qm_byte name[QM_MAX_NAME];
+    struct received r;
     struct met_row *sender = met_sender(&c->senders, w->entry[QM_SENDER]);
     if (!sender) return 0;
     met_again(sender, w->entry[QM_ENTRY_LENGTH], w->entry[QM_TICK]);
     met_again(&c->all, w->entry[QM_ENTRY_LENGTH], w->entry[QM_TICK]);
-    qm_u32 refusal = qm_receive_within(state, QM_STATE, names, QM_NAMES, store, QM_STORE, ledger, QM_LEDGER, w->head[QM_LOG_PAYLOAD],
-                                       (qm_u32) w->head[QM_LOG_FRAGMENTS], w->entry[QM_SENDER], walk_datagram(w), w->entry[QM_ENTRY_LENGTH], told, QM_OUTCOME, name,
-                                       QM_MAX_NAME);
-    if (refusal != 0) {
-        c->refused[refusal < QM_REFUSALS ? refusal : 0]++;
+    receiver_take(w, &r);
+    if (r.refusal != 0) {
+        c->refused[r.refusal < QM_REFUSALS ? r.refusal : 0]++;
         return 1;
     }
-    if (!note_name(c, w)) return 0;
-    return told[QM_ANSWER] != QM_ANSWER_DELIVERED || note_message(c, w, name, told);
+    return note_name(c, w) && (!is_delivered(&r) || note_message(c, w, &r));
 }
 
 /* ---- the lines */
-
-/* Bytes outside 32 to 126 as \x and two digits, a backslash as two: what a stranger sends reaches no terminal as it is. */
-static void print_channel_name(const struct met_row *row) {
-    for (qm_size i = 0; i < row->number; i++) {
-        if (row->name[i] < 32 || row->name[i] > 126) printf("\\x%02x", row->name[i]);
-        else if (row->name[i] == '\\') printf("\\\\");
-        else printf("%c", row->name[i]);
-    }
-}
 
 static void print_channel(const struct met_row *row) {
     printf("channel messages %llu bytes %llu", row->times, row->bytes);
@@ -68,7 +49,7 @@ static void print_channel(const struct met_row *row) {
         printf(" rate %llu.%03u", (qm_u64) (thousandths / 1000), (unsigned) (thousandths % 1000));
     }
     printf(" name ");
-    print_channel_name(row);
+    print_name(stdout, row->name, row->number);
     printf("\n");
 }
 
@@ -94,8 +75,7 @@ static int check_log(struct checked *c, const char *path) {
     struct walk w;
     int good = 1;
     if (walk_begin(&w, "check", path) != DONE) return FAILED;
-    /* memory of the header's lengths: 9 does not come */
-    qm_open(state, QM_STATE, names, QM_NAMES, QM_STORE);
+    receiver_open();
     while (good && walk_on(&w)) good = note(c, &w);
     if (!good) return failed("check", path);
     print_checked(c, &w);

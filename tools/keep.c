@@ -1,6 +1,7 @@
 /* qm keep LOG < RECORDS: appends datagrams to a log as they come. Each goes to the file as one whole entry before it is acknowledged, so that whoever kills
    this program at any moment leaves whole entries and at most one that is cut; the next start puts that one aside. */
 
+#include "index.h"
 #include "kept.h"
 #include "logs.h"
 #include "numbered.h"
@@ -14,10 +15,11 @@ static qm_byte input[1 << 20], entry[KEPT_ENTRY];
 
 struct keeper {
     const char *given;                  /* LOG, as it was named */
-    int quiet, synced, repaired, begun_anew;
+    int quiet, synced, repaired, begun_anew, indexed;
     qm_u64 every_seconds, every_bytes;  /* how long a log is kept, and how large; 0 without end */
     struct kept log;                    /* the one that is kept now */
     qm_u64 number;                      /* and its number; 0 where it is LOG itself */
+    qm_u64 first;                       /* the number of the first that this run has kept */
     long begun;                         /* the second when it was opened */
     qm_u64 acknowledged;                /* how many entries of it were, or were there before */
     qm_size unsynced;                   /* bytes since */
@@ -130,6 +132,7 @@ static int open_first(struct keeper *k) {
     int status = numbered ? numbered_last("keep", k->given, &number) : DONE;
     if (status == DONE && numbered && (k->begun_anew || number == 0)) status = begin_next(k, &log, &number);
     else if (status == DONE) status = open_log(k, number, KEPT_ANY, &log);
+    k->first = number;
     if (status == DONE) take_log(k, log, number);
     else close_log(&log);
     if (status == DONE) tell_limits(k);
@@ -258,6 +261,18 @@ static void widen_pipe(void) {
     for (int size = (int) sizeof input; size > 1 << 16 && fcntl(0, PIPE_SIZE, size) < 0; size /= 2) continue;
 }
 
+/* Each log that this run has kept gets its index, or has it extended. */
+static int index_kept(const struct keeper *k) {
+    int status = DONE;
+    for (qm_u64 number = k->first; number <= k->number; number++) {
+        char *path = numbered_path(k->given, number);
+        int one = path ? index_log("keep", path) : failed("keep", k->given);
+        if (one != DONE) status = one;
+        free(path);
+    }
+    return status;
+}
+
 /* ---- the command line */
 
 /* How long, 3600s, or how large, 500MB. */
@@ -287,6 +302,7 @@ static int read_option(struct keeper *k, int words, char **word, int *at) {
     else if (strcmp(option, "--quiet") == 0) k->quiet = 1;
     else if (strcmp(option, "--repair") == 0) k->repaired = 1;
     else if (strcmp(option, "--new") == 0) k->begun_anew = 1;
+    else if (strcmp(option, "--index") == 0) k->indexed = 1;
     else return called_wrong("keep", option, "there is no such option");
     return DONE;
 }
@@ -302,7 +318,12 @@ int keep_command(int words, char **word) {
     hold_signals();
     widen_pipe();
     int status = open_first(&k);
-    if (status == DONE) status = keep_all(&k);
+    if (status != DONE) {
+        close_log(&k.log);
+        return status;
+    }
+    status = keep_all(&k);
     close_log(&k.log);
-    return status;
+    int indexed = k.indexed ? index_kept(&k) : DONE;
+    return status == DONE ? indexed : status;
 }

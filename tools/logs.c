@@ -33,3 +33,10 @@ int called_wrong(const char *command, const char *word, const char *why) {
 int is_option(const char *word) {
     return word[0] == '-';
 }
+
+int logs_named(const char *command, int words, char **word) {
+    if (words == 0) return called_wrong(command, "LOG", "no log is named");
+    for (int i = 0; i < words; i++)
+        if (is_option(word[i])) return called_wrong(command, word[i], "options stand before the logs");
+    return DONE;
+}

@@ -21,6 +21,9 @@ int logs_ended(const struct walk *w, const char *done);
 /* Says on standard error which word of the command line is wrong, and why. Answers USAGE. */
 int called_wrong(const char *command, const char *word, const char *why);
 
+/* The words behind the options: logs, one at least. Answers DONE, or USAGE with the reason said. */
+int logs_named(const char *command, int words, char **word);
+
 /* Whether a word is meant as an option: it begins with a dash. A log of such a name is given as ./-NAME. */
 int is_option(const char *word);
 

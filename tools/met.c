@@ -66,8 +66,12 @@ static int by_key(const void *a, const void *b) {
 
 void met_sort(struct met *m) {
     qm_size to = 0;
-    for (qm_size i = 0; i < m->room; i++)
-        if (m->rows[i].used) m->rows[to++] = m->rows[i];
+    for (qm_size i = 0; i < m->room; i++) {
+        if (!m->rows[i].used) continue;
+        struct met_row row = m->rows[i];
+        m->rows[i].used = 0;
+        m->rows[to++] = row;
+    }
     if (to > 0) qsort(m->rows, to, sizeof *m->rows, by_key);
 }
 

@@ -16,7 +16,7 @@ enum {
 
 /* ---- how it is called */
 
-enum { LIST, REPLAY, GAPS, COUNT, STRAYS, INDEX, FIND, SHOW, TAKE, CUT, JOIN, KEEP, CHECK, COMMANDS };
+enum { LIST, REPLAY, GAPS, COUNT, PITS, STRAYS, INDEX, FIND, SHOW, TAKE, CUT, JOIN, KEEP, CHECK, IMPORT, COMMANDS };
 
 /* Options of its own and any number of logs: the command reads its words itself. */
 enum { ANY = -1 };
@@ -30,6 +30,8 @@ extern const struct command commands[COMMANDS];
 /* Writes how qm, or that command of it, is called; with DONE also what it does. Answers the status given. */
 int usage(FILE *to, int status);
 int command_usage(FILE *to, unsigned i, int status);
+/* Which qm this is. Answers the status. */
+int version(void);
 
 /* ---- files */
 
@@ -56,6 +58,10 @@ const char *meaning(qm_u32 number);
 /* Says on standard error what a refusal means. Answers REFUSED. */
 int refused(const char *command, const char *path, qm_u32 number);
 
+/* What a receiver answered, as the words of a line; and the key that was given up for it, where there is one. */
+void print_answer(qm_u32 refusal, const qm_u64 *told);
+void print_emptied(qm_u32 refusal, const qm_u64 *told);
+
 /* A channel's name, bytes outside 32 to 126 as \x and two hexadecimal digits, a backslash as two: what a stranger sends reaches no terminal as it is. */
 void print_name(FILE *to, const qm_byte *name, qm_size length);
 
@@ -71,6 +77,7 @@ struct walk {
     qm_size next;             /* where the walk goes on: after the whole entries, where it has ended */
     qm_u32 refusal;           /* the number that ended the walk, or 0 */
     int shown;                /* the hundredth that standard error was told last; -1 where it is told nothing */
+    qm_size given;            /* so many bytes of a mapped log were given back to the system */
 };
 
 /* Maps a log and judges its head. DONE, or FAILED with the reason said; a refusal ends the walk at its first step. */
@@ -93,19 +100,22 @@ int is_number(const char *text, qm_u64 most, qm_u64 *number);
 
 /* ---- the commands: each prints what it has to say and answers the status */
 
-int list_command(const char *path);
-int replay_command(const char *path, int large);
-int index_command(const char *path);
+int told_command(const char *path);
 int check_command(const char *path);
 int find_command(const char *path, qm_u64 sender, qm_u64 sequence);
 int show_command(const char *path, qm_u64 place);
 /* these read the words of the command line themselves, and say which is wrong */
+int replay_command(int words, char **word);
+int list_command(int words, char **word);
 int gaps_command(int words, char **word);
 int count_command(int words, char **word);
+int pits_command(int words, char **word);
 int strays_command(int words, char **word);
+int index_command(int words, char **word);
 int take_command(int words, char **word);
 int cut_command(int words, char **word);
 int join_command(int words, char **word);
 int keep_command(int words, char **word);
+int import_command(int words, char **word);
 
 #endif

@@ -28,7 +28,9 @@ const char *meaning(qm_u32 number) {
     case QM_KEPT_TOO_LONG: return "an entry's datagram is over 65,535 bytes: damaged on disk";
     case QM_LOG_CUT: return "empty, or it ends inside an entry: the writing was cut off";
     case QM_LOG_LIMIT: return "its payload limit is over 1,048,576: damaged on disk, or from a newer program";
-    case QM_INDEX_FULL: return "more than 4,096 entries with a key: an index takes no more";
+    case QM_INDEX_FULL: return "more entries with a key than an index takes";
+    case QM_NOT_AN_INDEX: return "not an index file: cut, damaged, or of another program";
+    case QM_OTHER_LOG: return "not of this log: it covers more bytes than the log has, or leads to an entry of another key";
     default: return "docs/REFUSALS.md says why";
     }
 }

@@ -44,8 +44,46 @@ void totals_add(struct totals *sum, const struct totals *more) {
     for (unsigned n = 0; n < QM_REFUSALS; n++) sum->refused[n] += more->refused[n];
 }
 
+/* The tiles of all flights, and of each how many pits it has, and how many of them are sure. */
+static qm_u64 tile[SEASON_TILES], tile_pits[SEASON_TILES], tile_sure[SEASON_TILES];
+
+static void tell_tiles(void) {
+    qm_count_lines(tile, SEASON_TILES, tile_pits, SEASON_TILES, tile_sure, SEASON_TILES, tiles, SEASON_TILES, pits, SEASON_PITS, sure, SEASON_PITS, has_tiles, has_pits, has_sure);
+}
+
 void season_print(void) {
-    static qm_u64 tile[SEASON_TILES], pit[SEASON_TILES], certain[SEASON_TILES];
-    qm_count_lines(tile, SEASON_TILES, pit, SEASON_TILES, certain, SEASON_TILES, tiles, SEASON_TILES, pits, SEASON_PITS, sure, SEASON_PITS, has_tiles, has_pits, has_sure);
-    for (qm_size i = 0; i < has_tiles; i++) printf("tile %llu pits %llu sure %llu\n", tile[i], pit[i], certain[i]);
+    tell_tiles();
+    for (qm_size i = 0; i < has_tiles; i++) printf("tile %llu pits %llu sure %llu\n", tile[i], tile_pits[i], tile_sure[i]);
+}
+
+qm_size season_pits(void) {
+    return has_pits;
+}
+
+/* The sets rise, and a pit is kept in them under its tile: by halving. */
+qm_size season_find(qm_u64 tile, qm_u64 pit) {
+    qm_u64 number = tile << 32 | pit;
+    qm_size low = 0, high = has_pits;
+    while (low < high) {
+        qm_size middle = low + (high - low) / 2;
+        if (pits[middle] < number) low = middle + 1;
+        else high = middle;
+    }
+    return low < has_pits && pits[low] == number ? low : has_pits;
+}
+
+int season_next(struct season_tile *t) {
+    static qm_u64 number[SEASON_PITS], certain[SEASON_PITS];
+    if (t->told == 0) tell_tiles();
+    if (t->told == has_tiles) return 0;
+    qm_size i = t->told++;
+    t->first += t->many;
+    t->first_sure += t->many_sure;
+    t->tile = tile[i];
+    t->pit = number;
+    t->sure = certain;
+    t->many_sure = tile_sure[i];
+    /* a tile's pits stand together, so that its own part of the sets is all that has to be looked at */
+    qm_pits(tile[i], pits + t->first, tile_pits[i], sure + t->first_sure, tile_sure[i], tile_pits[i], tile_sure[i], number, SEASON_PITS, certain, SEASON_PITS, &t->many, 1);
+    return 1;
 }

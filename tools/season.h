@@ -24,4 +24,20 @@ void totals_add(struct totals *sum, const struct totals *more);
 /* A line a tile of all flights, rising. */
 void season_print(void);
 
+/* How many pits all flights have. They stand in one order, by rising tile, then pit. */
+qm_size season_pits(void);
+/* The place of a pit in that order, from 0, or their number where it is none of them. */
+qm_size season_find(qm_u64 tile, qm_u64 pit);
+
+/* A tile: its pits, rising, and of each whether it is sure. */
+struct season_tile {
+    qm_u64 tile;
+    const qm_u64 *pit, *sure;
+    qm_size many, many_sure;
+    qm_size told, first, first_sure;   /* how many tiles were told, with this one, and where its pits and its sure pits begin among all */
+};
+
+/* Whether there is one more tile, rising; it is then the one told. Zeros are a beginning. */
+int season_next(struct season_tile *t);
+
 #endif

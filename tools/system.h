@@ -24,6 +24,7 @@ enum { WHOLE_BUFFERS = 0 };
 
 int strcmp(const char *a, const char *b);
 char *strchr(const char *text, int byte);
+unsigned long strcspn(const char *text, const char *bytes);
 char *strrchr(const char *text, int byte);
 char *strcpy(char *to, const char *from);
 unsigned long strlen(const char *text);
@@ -46,14 +47,14 @@ void *mmap(void *at, unsigned long length, int allowed, int flags, int file, lon
 int munmap(void *at, unsigned long length);
 int mprotect(void *at, unsigned long length, int allowed);
 int madvise(void *at, unsigned long length, int advice);
-enum { MAY_NOTHING = 0, MAY_READ = 1, MAY_READ_AND_WRITE = 3, OF_A_FILE = 2, OF_NO_FILE = 0x22, IN_ORDER = 2 };
+enum { MAY_NOTHING = 0, MAY_READ = 1, MAY_READ_AND_WRITE = 3, OF_A_FILE = 2, OF_NO_FILE = 0x22, ANYWHERE = 1, IN_ORDER = 2, NOT_NEEDED = 4 };
 
 /* ---- files by name */
 
 int rename(const char *from, const char *to);
 int unlink(const char *path);
 int mkdir(const char *path, unsigned mode);
-enum { FOR_ALL_TO_ENTER = 0755 };
+enum { FOR_ALL_TO_ENTER = 0755, NOT_THERE = 2 };
 
 /* What statx tells of a file; every processor has it in this order. */
 struct facts {
@@ -78,7 +79,6 @@ long lseek(int file, long by, int from);
 int ftruncate(int file, long length);
 int fdatasync(int file);
 int fsync(int file);
-int unlink(const char *path);
 int flock(int file, int how);
 int fcntl(int file, int what, ...);
 int isatty(int file);

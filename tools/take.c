@@ -67,6 +67,14 @@ struct partial {
     qm_byte held[QM_MAX_FRAGMENTS];
 };
 
+static void note(struct partial *p, const struct received *r, const qm_u32 *fields) {
+    p->entries++;
+    if (r->refusal != 0) p->refused++;
+    if (!is_kept(r)) return;
+    p->count = fields[QM_COUNT];
+    p->held[fields[QM_NUMBER]] = 1;
+}
+
 /* A replay of the whole log; with `alone` of the key's entries only. Prints the first message of the key that is delivered, and answers whether there is one;
    the walk goes on to the log's end. */
 static int replay(const struct asked *a, struct walk *w, struct mapped log, struct partial *alone) {
@@ -76,18 +84,10 @@ static int replay(const struct asked *a, struct walk *w, struct mapped log, stru
     walk_over(w, "take", a->log, log);
     receiver_open();
     while (walk_on(w)) {
-        if (found) continue;
-        int ours = is_of_key(a, w, fields);
-        if (alone && !ours) continue;
+        int ours = !found && is_of_key(a, w, fields);
+        if (found || (alone && !ours)) continue;
         receiver_take(w, &r);
-        if (alone) {
-            alone->entries++;
-            if (r.refusal != 0) alone->refused++;
-            if (is_kept(&r)) {
-                alone->count = fields[QM_COUNT];
-                alone->held[fields[QM_NUMBER]] = 1;
-            }
-        }
+        if (alone) note(alone, &r, fields);
         found = ours && is_delivered(&r);
         if (found) print_delivered(a, w, &r);
     }
@@ -109,7 +109,7 @@ static void tell_missing(const struct partial *p) {
 static void tell_partial(const struct asked *a, const struct partial *p) {
     fprintf(stderr, "qm take: %s: sender %llu sequence %llu: ", a->log, a->sender, a->sequence);
     if (p->entries == 0) fprintf(stderr, "no entry has this key\n");
-    else if (p->count == 0) fprintf(stderr, "all of its %llu entries are refused: `qm index --print` and `qm show` tell of entries\n", p->entries);
+    else if (p->count == 0) fprintf(stderr, "all of its %llu entries are refused: `qm replay` says by what\n", p->entries);
     else {
         fprintf(stderr, "not complete: of fragments 0 to %u missing are ", p->count - 1);
         tell_missing(p);

@@ -3,12 +3,15 @@
 #include "qm.h"
 
 const struct command commands[COMMANDS] = {
-    [LIST] = {"list", "LOG", "a line an entry: its sender, its arrival tick and its datagram's length", 0,
-              "Prints `1 sender 7 tick 99 length 23` for each entry, then `end N`; or `refused R after N`, the N entries before it being printed.\n", 1},
-    [REPLAY] = {"replay", "[--large] LOG", "a line an entry: what a fresh receiver answers to its datagram", "--large",
+    [LIST] = {"list", "[--told] LOG", "a line an entry: its sender, its arrival tick and its datagram's length", 0,
+              "Prints `1 sender 7 tick 99 length 23` for each entry, then `end N`; or `refused R after N`, the N entries before it being printed.\n"
+              "  --told  behind these all that is told of the entry: what a receiver with slots of the largest payload answers, as `qm replay`; where it is a datagram\n"
+              "          ` small` or ` fragment 3 of 17` and ` sequence 500`, with what the sequence watch notes, as `qm gaps`, or ` unwatched` of a 17th sender; and the key\n"
+              "          that was given up: `2 sender 7 tick 99 length 738 kept fragment 3 of 17 sequence 500 forward 0 emptied 7 490`\n", ANY},
+    [REPLAY] = {"replay", "[--store BYTES] LOG", "a line an entry: what a fresh receiver answers to its datagram", 0,
                 "Prints `1 kept`, `2 repeat`, `3 delivered 1845` or `4 refused 8` for each entry, with ` emptied SENDER SEQUENCE` where a message was given up for\n"
-                "another, then `end N` or `refused R after N`. The log's limits bind. The receiver's store has 2,097,152 bytes, as that of the program replay_log,\n"
-                "whose lines these are; with --large it has slots of the largest payload that there is, as `qm count` has.\n", 1},
+                "another, then `end N` or `refused R after N`. The log's limits bind. The receiver has eight slots of the largest payload that there is, as that of `qm count`.\n"
+                "  --store BYTES  slots of an eighth of so many bytes, 8,388,608 at most: with 2,097,152 the lines are those of the program replay_log\n", ANY},
     [GAPS] = {"gaps", "[--missing | --acks SENDER] LOG", "a line an entry: what the sequence watch notes of its sender's number; or the numbers that never came", 0,
               "Prints `1 first`, `2 forward 3` (so many numbers are missing before it), `3 same`, `4 late 2`, `5 restarted 7` or `6 refused 4` for each entry,\n"
               "then `end N` or `refused R after N`. The watch has room for 16 senders; those of a 17th are `refused 14`.\n"
@@ -27,15 +30,32 @@ const struct command commands[COMMANDS] = {
                "  --forget-at SENDER:ENTRY\n"
                "                 of one log: the sender is forgotten right before that entry, the first being 1, since it began anew there\n"
                "Where a camera began anew under old numbers, its tiles are taken for late copies: standard error says how many, and `qm strays` lists them.\n", ANY},
+    [PITS] = {"pits", "[--marks | --csv | --geojson] [--from SENDER].. LOG..",
+              "a line a pit, of one flight or of a season: where it lies, how deep it is, and who said so last", 0,
+              "The pits are those that `qm count` counts. Prints `tile 9 pit 4 sure 1 marks 3 lat 1 lon -2 height 3 depth 45 sender 7 sequence 500 tick 99 log LOG` for each,\n"
+              "by rising tile, then pit. It is sure (1) where any of its marks says so; the rest is of its last mark, in the order of logs and deliveries: its place, where it\n"
+              "has one; its depth, where the list has depths; sender and sequence of the list, and the tick of the entry that completed it. Latitude and longitude are\n"
+              "ten-millionths of a degree, the height is in metres, the depth in centimetres.\n"
+              "A log that is not whole is read up to the entry that is refused, and standard error says so. Where there are more than 65,536 tiles or pits, the one line is\n"
+              "`refused 60` or `refused 61`, in every form.\n"
+              "  --marks        a line for each mark of each list, in the order of logs and deliveries, without `marks`\n"
+              "  --csv          comma-separated values, for a spreadsheet: a line of heads, then a line a pit, empty where a line would leave something out\n"
+              "  --geojson      a FeatureCollection for a map program, a point for each pit that has a place, in degrees\n"
+              "  --from SENDER  the entries of this sender alone, or of these, where it stands more than once\n", ANY},
     [STRAYS] = {"strays", "LOG..", "repeats that are no copies: what a camera sent after it began anew under old numbers, and nobody counted", 0,
                 "Prints `log LOG sender 7 entry 120 tick 99 sequence 500` for each entry that a fresh receiver answers Repeat, though no earlier entry of that sender in\n"
                 "that log has its bytes; then `end N`, over all logs. A log that is not whole is looked through up to the entry that is refused.\n"
                 "`qm count --forget-at 7:120 LOG` counts such a flight with the sender forgotten right before that entry.\n", ANY},
-    [INDEX] = {"index", "LOG", "a line for each entry that has a key: sender, sequence, and its place in the log, sorted", 0,
-               "Prints `sender 7 sequence 12 place 1` for each entry that the datagram reader accepts within the log's limits, sorted by sender, sequence and\n"
-               "place, then `end N`; or the one line `refused R`. The place is that of the entry's first byte.\n", 1},
+    [INDEX] = {"index", "[--print | --check] LOG", "keeps beside a log which entries have which key, in LOG.index, so that `qm find` need not read the log", 0,
+               "Writes LOG.index, or extends it by what was added to the log since, reading nothing else of it. Prints `indexed N` once it has N rows, one for each entry that\n"
+               "the datagram reader accepts within the log's limits. A log that is not whole is indexed up to the entry that is refused (status 3). A LOG.index that is none, or\n"
+               "not of this log, is told, and written anew.\n"
+               "  --print  writes nothing, and prints `sender 7 sequence 12 place 1` for each row, sorted by sender, sequence and place, then `end N`. The place is that of the\n"
+               "           entry's first byte\n"
+               "  --check  writes nothing, works out afresh what LOG.index covers, and prints `same N`, or `other` (status 3)\n", ANY},
     [FIND] = {"find", "LOG SENDER SEQUENCE", "where the first entry of a key begins", 0,
-              "Prints `place 1`, `none`, or the line `refused R` of `qm index`. SENDER is a number of 64 bits and SEQUENCE one of 32, in decimal.\n", 3},
+              "Prints `place 1` or `none`. Where there is a LOG.index it goes by that, and by what was added to the log since; else it works the index out. An index that is none,\n"
+              "or that leads to an entry of another key, is told and not believed; `qm index --check` decides. SENDER is a number of 64 bits and SEQUENCE one of 32, in decimal.\n", 3},
     [SHOW] = {"show", "LOG PLACE", "the entry that begins at a place, and what its datagram says", 0,
               "Prints `sender 7 tick 99 length 738`, then `small sequence 500 name TILE payload 12`, `fragment 3 of 17 sequence 500 offset 900 data 300 payload 5000`, with\n"
               "` name TILE` behind fragment 0, or `refused 7`, as the datagram reader says within the log's limits. PLACE is one that `qm find` or `qm index` prints. Of a\n"
@@ -55,7 +75,7 @@ const struct command commands[COMMANDS] = {
               "Writes OUT, with the largest payload limit of the logs. Where some are of edition 1 and others not, OUT is of edition 2, and standard error names them, since its\n"
               "limits are wider than theirs. Prints `entries N` once OUT has them. One log is one flight: what two flights sent under one key is there taken for copies, so\n"
               "`qm count LOG..` counts them without joining them. OUT and logs that are not whole as in `qm cut`.\n", ANY},
-    [KEEP] = {"keep", "[--sync] [--quiet] [--repair] [--new] [--every 3600s|500MB] LOG < RECORDS", "appends records to a log as they come, and says of each when it is kept", 0,
+    [KEEP] = {"keep", "[--sync] [--quiet] [--repair] [--new] [--every 3600s|500MB] [--index] LOG < RECORDS", "appends records to a log as they come, and says of each when it is kept", 0,
               "A record is an 8-byte sender, an 8-byte tick and a 2-byte length, big-endian, and the datagram. Once its entry was written to the file, the line\n"
               "`kept N` says that the log has N entries now: they stay when qm is killed at any moment. A log that is not there is begun, of edition 2 with the\n"
               "limit 1,048,576. One that ends inside an entry, since its writing was cut off, goes on after its last whole entry; the bytes of the cut one go into\n"
@@ -68,13 +88,21 @@ const struct command commands[COMMANDS] = {
               "  --new     begins a log under the next number: of FLIGHT.log FLIGHT-0001.log, FLIGHT-0002.log and so on. The line `log FLIGHT-0002.log` says which\n"
               "  --every 3600s, --every 500MB\n"
               "            goes on in the last of these, or the first, and begins the next one at the first record after so many seconds, or before it has more\n"
-              "            than so many million bytes\n", ANY},
+              "            than so many million bytes\n"
+              "  --index   at its end does what `qm index` does, for each log that it has kept to: `indexed N`\n", ANY},
     [CHECK] = {"check", "LOG", "is a log whole, who is in it, on which channels, and what was refused", 0,
                "Prints `whole`, or `refused R after N`; then of the N entries: `entries N`, `bytes B` of their datagrams, `limit L`, the largest payload that the log takes,\n"
                "`first T last U`, the ticks of its first and its last entry; `sender 7 datagrams 12 bytes 9000 first T last U` for each sender, rising; for each channel, by\n"
                "its name, `channel messages 12 bytes 8000 first T last U rate 1.250 name TILE`: the messages that a fresh receiver delivers, and how many of them come\n"
                "in 1,000 ticks, a second where ticks are milliseconds (0 where fragments came and no message was completed); and `refused 7 datagrams 3, MEANING` for each\n"
                "number by which the receiver has refused datagrams.\n", 1},
+    [IMPORT] = {"import", "[--port N] [--replace] -o LOG CAPTURE", "a log of the datagrams that tcpdump has captured", 0,
+                "CAPTURE is a file of tcpdump, Wireshark or dumpcap, pcap or pcapng: Ethernet, Linux cooked (the interface `any`) or bare IP, IPv4 and IPv6. Each UDP datagram to\n"
+                "the port, 7667 where --port says no other, is an entry of LOG; its tick is the time of its capture, in milliseconds since 1970. Pieces of IP datagrams are put\n"
+                "together; the entry is that of the last piece. Its sender is a number made of address and port. Prints `packets P`, `imported N`, `other O` that are none such,\n"
+                "`pieces Q` that found no whole, `cut C` that were captured in part, `broken B` whose lengths do not fit, and for each sender\n"
+                "`sender 3232235527500 datagrams 12 bytes 9000 first T last U port 7667 address 10.0.0.7`. LOG is LOG.part until it is whole; a file that is there is left alone,\n"
+                "unless --replace says otherwise. A capture that was cut off is imported up to there (status 3).\n", ANY},
 };
 
 static const char statuses[] = "Status: 0 done, 1 a file or the output failed, 2 called otherwise, 3 the log is refused.\n";
@@ -82,8 +110,13 @@ static const char statuses[] = "Status: 0 done, 1 a file or the output failed, 2
 int usage(FILE *to, int status) {
     fprintf(to, "usage: qm COMMAND LOG\n");
     for (unsigned i = 0; i < COMMANDS; i++) fprintf(to, "  qm %s %s\n      %s\n", commands[i].name, commands[i].takes, commands[i].does);
-    fprintf(to, "`qm COMMAND --help` says more. %s", statuses);
+    fprintf(to, "`qm COMMAND --help` says more; qm --version. %s", statuses);
     return status;
+}
+
+int version(void) {
+    printf("qm " QM_VERSION_TEXT "\n");
+    return printed("--version");
 }
 
 int command_usage(FILE *to, unsigned i, int status) {

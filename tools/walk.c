@@ -5,13 +5,31 @@
 /* A log of fewer bytes is read before anybody waits. */
 enum { LONG = 1 << 24 };
 
-/* Told where standard error is a terminal and the lines go elsewhere. */
-static int is_told(qm_size length) {
-    return length >= LONG && isatty(2) && !isatty(1);
+/* Whether a command prints its lines while it reads. */
+static int prints_on_the_way(const char *command) {
+    static const char *const such[] = {"list", "replay", "gaps", "take", "strays", "pits"};
+    for (unsigned i = 0; i < sizeof such / sizeof *such; i++)
+        if (strcmp(command, such[i]) == 0) return 1;
+    return 0;
+}
+
+/* Told where standard error is a terminal, and no lines go there meanwhile. */
+static int is_told(const char *command, qm_size length) {
+    return length >= LONG && isatty(2) && !(isatty(1) && prints_on_the_way(command));
 }
 
 static void wipe(void) {
     fprintf(stderr, "\r\33[K");
+}
+
+/* What was walked over is given back in such pieces, so that a long log does not fill the memory. Who looks back has it from the disk again. */
+enum { PIECE = 1 << 26 };
+
+static void give_back(struct walk *w) {
+    qm_size whole = w->at / PIECE * PIECE;
+    if (whole == w->given) return;
+    madvise((void *) (w->log.bytes + w->given), whole - w->given, NOT_NEEDED);
+    w->given = whole;
 }
 
 /* Once for each hundredth. */
@@ -24,7 +42,7 @@ static void show(struct walk *w) {
 
 void walk_over(struct walk *w, const char *command, const char *path, struct mapped log) {
     *w = (struct walk) {.command = command, .path = path, .log = log, .shown = -1};
-    if (is_told(log.length)) w->shown = 0;
+    if (is_told(command, log.length)) w->shown = 0;
     w->refusal = qm_log_first(log.bytes, log.length, w->head, QM_HEAD);
     if (w->refusal == 0) w->next = w->head[QM_FIRST_PLACE];
 }
@@ -45,6 +63,7 @@ int walk_on(struct walk *w) {
     w->entries++;
     w->at = w->next;
     w->next = w->entry[QM_NEXT_PLACE];
+    give_back(w);
     if (w->shown >= 0) show(w);
     return 1;
 }
@@ -74,7 +93,7 @@ static void tell_seconds(int number) {
 }
 
 int working(const char *command, const char *path, qm_size length) {
-    if (!is_told(length)) return 0;
+    if (!is_told(command, length)) return 0;
     doing = command;
     whose = path;
     bytes = length;

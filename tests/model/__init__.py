@@ -1,4 +1,4 @@
 """The second opinion of the tests, in plain Python, written from the papers and not from the code: the receiver, the watch, the gauge, acknowledge blocks, survey
-messages, the log, its index and its count, each with what the programs over it print. `built` and `called` run what is built.
+messages, the log, its index and its count, a season and its pits, each with what the programs over it print. `built` and `called` run what is built.
 
 A test has it by one line: `sys.path.insert(0, tests)`, then `from model import ..`; a module here names another by `from .other import ..`."""

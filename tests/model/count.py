@@ -103,11 +103,12 @@ def count_pits(log):
 # ---- survey messages, as a camera or its partner makes them
 
 def mark(pit, sure, version=1, place=True):
-    """A PitMark's numbers; one without a pit is null."""
+    """A PitMark's numbers; one without a pit is null. Its place is a latitude, a longitude and a height, or one of ours (True), or none."""
     if pit is None:
         return [0]
-    at = [2, 519876543 + pit % 1000, -23456 - pit % 1000, 12] if place else [0]
-    return [4, pit, sure] + at + ([40 + pit % 90] if version == 2 else [])
+    if place is True:
+        place = 519876543 + pit % 1000, -23456 - pit % 1000, 12
+    return [4, pit, sure] + ([2, *place] if place else [0]) + ([40 + pit % 90] if version == 2 else [])
 
 
 def pits_message(tile, marks, version=1, calculate=True, place=lambda pit: pit % 5 != 3):
@@ -241,14 +242,15 @@ def two_cameras():
     return ticked(out)
 
 
-def world(seed):
-    """A small world in which everything comes often: few tiles and pits, both versions, lists lost, late, damaged and doubled."""
+def world(seed, make=None):
+    """A small world in which everything comes often: few tiles and pits, both versions, lists lost, late, damaged and doubled. The lists are `make`'s, where it is
+    given."""
     r = random.Random(seed)
     waiting, out = [], []
     for q in range(r.randrange(1, 60)):
         version, n = r.choice([1, 1, 2]), r.choice([0, 1, 3, 8, 30])
         marks = [NULL if r.random() < 0.15 else (r.randrange(14), r.randrange(2)) for _ in range(n)]
-        payload = pits_message(r.choice([0, 1, 2, 5, 5, 9, 2**32 - 1]), marks, version, r.random() < 0.8, lambda pit: r.random() < 0.7)
+        payload = make(r) if make else pits_message(r.choice([0, 1, 2, 5, 5, 9, 2**32 - 1]), marks, version, r.random() < 0.8, lambda pit: r.random() < 0.7)
         if r.random() < 0.2:
             payload = r.choice(others())
         if r.random() < 0.1:

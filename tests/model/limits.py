@@ -1,14 +1,16 @@
-"""Cases for the program limits, and what document 01 says of each: the cutter, the parts of a datagram, the watch, and what the receiver is lent."""
-from . import acks, messages, moss
+"""Cases for the program limit_cases, and what document 01 says of each: the cutter, the parts of a datagram, the watch, what the receiver is lent, and states that no calls make."""
 from .receiver import MAX_PAYLOAD, cut, name_in, read
+from .streams import case_lines, case_stream
 
-CUT, PARTS, WATCH, OPEN, RECEIVE, FORGET = range(1, 7)
+CUT, PARTS, WATCH, OPEN, RECEIVE, FORGET, TIED = range(1, 8)
 LEDGER = 16384
 MAX_FRAGMENTS = 1024
 STORE = 64
 FEW, RIGHT, MANY = range(3)  # words or bytes lent: one too few, as many as must be, one more
 NONE, SLOT_SIZE, SIZE, COUNT, KEYS = range(5)  # what a word of a state holds
-LAST = {5: KEYS, 6: SIZE, 7: COUNT}  # the same of the last sender and the last slot
+LAST_KEYS, LAST_SIZE, LAST_COUNT = range(5, 8)  # the same of the last sender and the last slot
+LAST = {LAST_KEYS: KEYS, LAST_SIZE: SIZE, LAST_COUNT: COUNT}
+SEQUENCE_WORD, SIZE_WORD, COUNT_WORD, TURN_WORD = range(1, 5)  # the words of a slot
 
 
 def cutter(letter, c, p, m, k, room):
@@ -69,7 +71,28 @@ def forget_line(words, names, a, x, b, y):
     return "refused 9" if any(unsound(words, names, a, x, b, y)[:2]) else "done"
 
 
-LINES = {CUT: cut_line, PARTS: parts_line, WATCH: watch_line, OPEN: open_line, RECEIVE: receive_line, FORGET: forget_line}
+def tied_line(*c):
+    """Eight messages are open, each of two fragments of a byte, the first one held. Of slots that are meant alike the lower counts, in any step."""
+    slots = [{SEQUENCE_WORD: i, SIZE_WORD: 2, COUNT_WORD: 2, TURN_WORD: i} for i in range(8)]
+    for slot, word, value in (c[0:3], c[3:6], c[6:9], c[9:12]):
+        if slot < 8:
+            slots[slot][word] = value
+    sequence, k, n = c[12:]
+    if any(s[COUNT_WORD] > 0 and s[SIZE_WORD] > STORE // 8 for s in slots):
+        return "refused 9"
+    same = [i for i, s in enumerate(slots) if s[COUNT_WORD] > 0 and s[SEQUENCE_WORD] == sequence]
+    if same:
+        s = slots[same[0]]
+        if (s[SIZE_WORD], s[COUNT_WORD]) != (n, n):
+            return "refused 8"
+        return "repeat" if k == 0 else f"delivered 2 store {STORE // 8 * same[0]}" if n == 2 else "kept"
+    free = [i for i, s in enumerate(slots) if s[COUNT_WORD] == 0]
+    at = free[0] if free else min(range(8), key=lambda i: slots[i][TURN_WORD])
+    told = f"delivered 1 store {STORE // 8 * at}" if n == 1 else "kept"
+    return told if free else f"{told} emptied {slots[at][SEQUENCE_WORD]}"
+
+
+LINES = {CUT: cut_line, PARTS: parts_line, WATCH: watch_line, OPEN: open_line, RECEIVE: receive_line, FORGET: forget_line, TIED: tied_line}
 
 
 def cases():
@@ -99,95 +122,6 @@ def cases():
     return d + [(FORGET, w, n) + none for w, n in [(FEW, RIGHT), (MANY, RIGHT), (RIGHT, FEW), (RIGHT, MANY)]]
 
 
-# ---- writers over little room, messages that are not there, and states that no calls make: calls that the program does not have yet, so cases() leaves them out
-
-LAID, NTH, ACKED, MADE, TIED = range(7, 12)
-# the output of these calls is as long as the longest datagram of the cutter, a packet's blocks 1,024 bytes
-OUTPUT = 65507
-LAST_KEYS, LAST_SIZE, LAST_COUNT = range(5, 8)  # the words of the last sender and the last slot, as KEYS, SIZE and COUNT are of the first
-SEQUENCE_WORD, SIZE_WORD, COUNT_WORD, TURN_WORD = range(1, 5)  # the words of a slot
-
-
-def front_line(b):
-    return f"bytes {len(b)}:{b[:64].hex()}"
-
-
-def laid_line(length, place, room):
-    """One message block at a place of an output: 51 over 65,535 bytes, then 55."""
-    if length > 65535:
-        return "refused 51"
-    return "refused 55" if place + 2 + length > min(room, OUTPUT) else front_line(moss.block(b"A" * length))
-
-
-def nth_line(kind, length, count, room, front, n):
-    """A packet of so many messages of one length, 55 last of all; then the n-th message of its front, 54 last of all."""
-    p = moss.write(b"G" * 10, 7, bytes([kind]), moss.block(b"A" * length) * count)
-    if isinstance(p, int) or len(p) > min(room, OUTPUT):
-        return f"refused {p if isinstance(p, int) else 55}"
-    r = moss.read(p[:front])
-    if isinstance(r, int) or n >= len(r[3]):
-        return f"refused {r if isinstance(r, int) else 54}"
-    return f"place {19 + 2 + n * (2 + length)} length {len(r[3][n])}"
-
-
-def acked_line(first, step, count, room):
-    """Blocks of numbers from the first on, each the step above the one before it: 75, 77, then 76."""
-    try:
-        b = acks.blocks_of([(first + step * i) % 2**64 for i in range(count)])
-    except acks.Refused as r:
-        return f"refused {r.args[0]}"
-    return "refused 76" if len(b) > min(room, OUTPUT) else front_line(b)
-
-
-def made_line(calculate, room, *numbers):
-    """A survey message: the walk's refusals, 28, then 13."""
-    try:
-        b = messages.write([n - 2**64 if n >= 2**63 else n for n in numbers], calculate != 0)
-    except messages.Refused as r:
-        return f"refused {r}"
-    return "refused 13" if len(b) > min(room, OUTPUT) else front_line(b)
-
-
-def tied_line(*c):
-    """Eight messages are open, each of two fragments of a byte, the first one held. Of slots that are meant alike the lower counts, in any step."""
-    slots = [{SEQUENCE_WORD: i, SIZE_WORD: 2, COUNT_WORD: 2, TURN_WORD: i} for i in range(8)]
-    for slot, word, value in (c[0:3], c[3:6], c[6:9], c[9:12]):
-        if slot < 8:
-            slots[slot][word] = value
-    sequence, k, n = c[12:]
-    if any(s[COUNT_WORD] > 0 and s[SIZE_WORD] > STORE // 8 for s in slots):
-        return "refused 9"
-    same = [i for i, s in enumerate(slots) if s[COUNT_WORD] > 0 and s[SEQUENCE_WORD] == sequence]
-    if same:
-        s = slots[same[0]]
-        if (s[SIZE_WORD], s[COUNT_WORD]) != (n, n):
-            return "refused 8"
-        return "repeat" if k == 0 else f"delivered 2 store {STORE // 8 * same[0]}" if n == 2 else "kept"
-    free = [i for i, s in enumerate(slots) if s[COUNT_WORD] == 0]
-    at = free[0] if free else min(range(8), key=lambda i: slots[i][TURN_WORD])
-    told = f"delivered 1 store {STORE // 8 * at}" if n == 1 else "kept"
-    return told if free else f"{told} emptied {slots[at][SEQUENCE_WORD]}"
-
-
-LINES |= {LAID: laid_line, NTH: nth_line, ACKED: acked_line, MADE: made_line, TIED: tied_line}
-
-
-def writer_cases():
-    """55 and 51 of a block, 54 and 55 of a packet, 76 of acknowledge blocks, 13 of a survey message, each at both sides and after what comes before it."""
-    u, h = ord("U"), ord("H")
-    d = [(LAID, m, at, room) for m, at, room in [(0, 0, 1), (0, 0, 2), (3, 0, 4), (3, 0, 5), (3, 7, 11), (3, 7, 12), (3, 12, 12), (3, 2**64 - 1, 12), (256, 0, 300), (65504, 0, 65507), (65505, 0, 65507), (65506, 0, 65507), (65535, 0, 65507), (65536, 0, 65507), (65536, 0, 0), (65536, 9, 5)]]
-    # packets: no room at all, one byte short, just room; 52 and 53 before 55; then each message, the first, the last and the one after it; 50, 51, 53 before 54
-    d += [(NTH, kind, m, count, room, 65507, 0) for kind, m, count, room in [(u, 3, 2, 0), (u, 3, 2, 28), (u, 3, 2, 29), (u, 0, 0, 18), (u, 0, 0, 19), (h, 0, 0, 18), (h, 0, 0, 19), (ord("u"), 3, 2, 5), (h, 3, 2, 5), (ord("E"), 3, 1, 40)]]
-    d += [(NTH, u, m, count, 65507, front, n) for m, count, front, n in [(3, 2, 65507, 1), (3, 2, 65507, 2), (3, 2, 65507, 2**64 - 1), (0, 3, 65507, 2), (0, 3, 65507, 3), (0, 0, 65507, 0), (300, 2, 65507, 1), (3, 2, 18, 5), (3, 2, 28, 5), (3, 2, 19, 0)]] + [(NTH, h, 0, 0, 65507, 65507, 0)]
-    # blocks: a lone number, a run, both, none; 75 and 77 before 76; 65,502 bytes fit the output, 65,529 do not
-    blocks = [(7, 2, 1, 8), (7, 2, 1, 9), (7, 2, 2, 17), (7, 2, 2, 18), (7, 1, 2, 16), (7, 1, 2, 17), (7, 1, 0, 0), (7, 0, 2, 0), (7, 0, 2, 65507), (2**64 - 1, 1, 2, 65507)]
-    blocks += [(7, 2, 7278, 65501), (7, 2, 7278, 65502), (7, 2, 7281, 65507), (7, 2, 7282, 65507), (7, 2, 7282, 0), (7, 1, 7282, 17)]
-    d += [(ACKED,) + b for b in blocks]
-    # messages: a Ping, with and without its sum, one byte short and just room; every other refusal before 13
-    d += [(MADE, c, room, 1, 1) for c in (0, 1) for room in (0, 12, 26, 27, 28)] + [(MADE, 1, 0) + l for l in [(), (3,), (1,), (1, 0), (1, 8), (1, 1, 1), (1, 6, 1, 128, 0), (1, 4, 1, 2), (1, 6, 0) + (6, 0) * 16]]
-    return d + [(MADE, 1, room, 2, 5, 9, 1, 4, 77, 1, 0, 40) for room in (57, 58, 59)]
-
-
 def unmade_cases():
     """States that no calls make: two slots with one key, two free, two of one turn, a free slot with an old key; and each word of refusal 9 at its last place."""
     none = (8, 0, 0)
@@ -203,10 +137,13 @@ def unmade_cases():
     return d + [(RECEIVE, RIGHT, RIGHT, STORE, LEDGER) + w for w in last] + [(FORGET, RIGHT, RIGHT) + w for w in last]
 
 
+def all_cases():
+    return cases() + unmade_cases()
+
+
 def stream():
-    return b"".join(bytes([c[0]]) + (len(c) - 1).to_bytes(4, "big") + b"".join(n.to_bytes(8, "big") for n in c[1:]) for c in cases())
+    return case_stream(all_cases())
 
 
 def lines():
-    answers = [LINES[c[0]](*c[1:]) for c in cases()]
-    return "".join(f"{i + 1} {a}\n" for i, a in enumerate(answers)) + f"end {len(answers)}\n"
+    return case_lines(LINES, all_cases())

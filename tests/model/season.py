@@ -4,9 +4,9 @@ refused counts up to there, and all lists go into the same sets."""
 import random
 
 from . import messages
-from .count import pits_message, read_payload, strangers, ticked
+from .count import pits_message, read_payload, strangers
 from .log import entries_in, first_log_of, limits_in, log_of
-from .receiver import MAX_PAYLOAD, Receiver, cut, read, small
+from .receiver import MAX_PAYLOAD, Receiver, cut, read
 
 TILES = PITS = 65536  # what qm lends
 STORE = 8 * MAX_PAYLOAD
@@ -29,6 +29,9 @@ class Season:
                 self.pits += 1
             known[pit] = known.get(pit, False) or sure == 1
 
+    def listed(self, payload, sender, tick, datagram):
+        """A list was entered: of this payload, completed by this entry."""
+
     def fly(self, log, only=None, forgets=()):
         """One flight through a fresh receiver. Its strays, each as sender, entry, tick and sequence."""
         receiver, seen, strays = Receiver(STORE, *limits_in(log)), set(), []
@@ -45,6 +48,7 @@ class Season:
             if found is not None:
                 self.enter(*found)
                 self.lists[sender] = self.lists.get(sender, 0) + 1
+                self.listed(receiver.payload, sender, tick, datagram)
             if answer == "repeat" and (sender, datagram) not in seen:
                 strays.append((sender, i, tick, read(datagram, MAX_PAYLOAD)["sequence"]))
             seen.add((sender, datagram))
@@ -103,12 +107,32 @@ def survey():
     return {tile: [(1000 * tile + k, r.random() < 0.6) for k in range(r.randrange(3, 14))] for tile in range(400, 418)}
 
 
+TILE_EAST, TILE_NORTH, COLUMNS = 120, 90, 6  # metres of a tile, and how many lie in a row
+CORNER = 519876543, -23456  # the south-west corner of the first row, in ten-millionths of a degree
+METRE_NORTH, METRE_EAST = 89.932, 146.03  # ten-millionths of a degree, at this latitude
+ASTRAY = 409001  # the partner's camera has this pit 70 metres off
+
+
+def on_ground(sender, pit, row, column):
+    """Where a camera sees a pit: on its tile, within a few metres. Every fifth one has no place."""
+    if pit % 5 == 3:
+        return None
+    r, seen = random.Random(pit), random.Random(f"{sender} {pit}")
+    east = TILE_EAST * (column + r.uniform(0.06, 0.94)) + seen.gauss(0, 1.5) + 70 * ((sender, pit) == (PARTNER, ASTRAY))
+    north = TILE_NORTH * (2 - row + r.uniform(0.06, 0.94)) + seen.gauss(0, 1.5)
+    return round(CORNER[0] + METRE_NORTH * north), round(CORNER[1] + METRE_EAST * east), 64 + round(north / 40) + seen.randrange(2)
+
+
+def where(sender, pit):
+    return on_ground(sender, pit, *divmod(pit // 1000 - 400, COLUMNS))
+
+
 def flown(r, sender, tiles, first, version=1, seen=1.0):
     """The datagrams of one camera over some tiles, numbered from the first, each tile's in any order and some of them late once more."""
     out, pits = [], survey()
     for i, tile in enumerate(tiles):
         marks = [(pit, sure and r.random() < 0.8) for pit, sure in pits[tile] if r.random() < seen]
-        sent = [(sender, d) for d in cut(first + i, b"TILE", pits_message(tile, marks, version), 300)]
+        sent = [(sender, d) for d in cut(first + i, b"TILE", pits_message(tile, marks, version, place=lambda pit: where(sender, pit)), 300)]
         r.shuffle(sent)
         out += sent + ([r.choice(sent)] if r.random() < 0.4 else [])
     return out
@@ -124,18 +148,29 @@ def mixed(r, *many):
 
 
 def stranger(first):
-    """Lists of a stranger on the same net: pits that nobody dug, one of them on a tile of ours."""
-    return [(STRANGER, d) for i, tile in enumerate((402, 9000)) for d in cut(first + i, b"TILE", pits_message(tile, [(1, 1), (2, 1), (3, 1)]), 300)]
+    """Lists of a stranger on the same net: pits that nobody dug, far away, one list of them on a tile of ours."""
+    marks, far = [(1, 1), (2, 1), (3, 1)], lambda pit: (522345678 + 900 * pit, 3456789, 12) if pit < 3 else None
+    return [(STRANGER, d) for i, tile in enumerate((402, 9000)) for d in cut(first + i, b"TILE", pits_message(tile, marks, place=far), 300)]
+
+
+def paced(r, datagrams, first):
+    """Entries as a flight of some minutes makes them."""
+    out, tick = [], first
+    for sender, d in datagrams:
+        tick += r.choice([40, 60, 900, 9000, 21000])
+        out.append((sender, tick, d))
+    return out
 
 
 def flights():
     """The first flight is one camera's. In the second both fly; the first camera reboots after six tiles and begins at 0 again, and the stranger is about.
     The third is the partner's alone, over tiles that were seen before, and the stranger again."""
     r = random.Random(3)
-    first = ticked(flown(r, CAMERA, range(400, 408), 5000, seen=0.8), 1_700_000_000_000)
+    first = flown(r, CAMERA, range(400, 408), 5000, seen=0.8)
     rebooted = flown(r, CAMERA, range(406, 412), 0) + flown(r, CAMERA, range(412, 416), 0)
-    second = ticked(mixed(r, rebooted, flown(r, PARTNER, range(408, 414), 100, 2), stranger(70) + [(STRANGER, d) for d in strangers()[:3]]), 1_700_086_400_000)
-    third = ticked(mixed(r, flown(r, PARTNER, [*range(400, 405), 416, 417], 0, 2), stranger(90)), 1_700_172_800_000)
+    second = mixed(r, rebooted, flown(r, PARTNER, range(408, 414), 100, 2), stranger(70) + [(STRANGER, d) for d in strangers()[:3]])
+    third = mixed(r, flown(r, PARTNER, [*range(400, 405), 416, 417], 0, 2), stranger(90))
+    first, second, third = (paced(r, one, 1_700_040_000_000 + 86_400_000 * i) for i, one in enumerate((first, second, third)))
     return [log_of(first), log_of(second), first_log_of(third)]
 
 

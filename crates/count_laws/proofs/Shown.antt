@@ -7,8 +7,9 @@ use Prim.Native.Nat.{ℕ, _≤_}
 use native.Mathlib.Omega.{arith}
 use lib.Dec.{eqb, ltb}
 use lib.ListN.{length}
-use borrow.Author.Tests.{le-ltb, ltb-false}
+use borrow.Author.Tests.{le-ltb, ltb-false, eqb-true, eq-eqb}
 use Rattle.wire.specs.Choice.{pick}
+use Rattle.wire.proofs.Choices.{never}
 use Rattle.steps.specs.Answers.{Reply}
 use Rattle.log.specs.Editions.{limitsIn}
 use Rattle.log.specs.Entries.{Entry}
@@ -22,6 +23,7 @@ use Rattle.count_rules.specs.Count.{maxEntries, firstFault, Report, reportOf, O
 use Rattle.count_rules.specs.Promise.{shownOf, shown}
 use Rattle.count_rules.proofs.Which.{same-report}
 use Rattle.count_rules.proofs.Totals.{delivered-payloads}
+use Rattle.host_count.specs.Told.{codeOf}
 use Rattle.count_laws.specs.Losses.{shownFrom}
 
 -- payloads with the same members and the same sums show the same
@@ -63,15 +65,28 @@ module _ (store ledger log : List ℕ) (es : List Entry) (reads : entriesIn log 
   -- of a report that is given
   pub record Given (r : Report) : Type 0 where
     pub few : length es ≤ maxEntries
+    pub passes : firstFault room [] payloadsIn ≡ 0
+    pub is : r ≡ reportOf es rs
     pub shows : shownOf r ≡ shownFrom payloadsIn
 
   pub given-by : (r : Report) → countLog room store ledger log ≡ reported r → Given r
-  given-by r e = go (ltb maxEntries (length es)) refl (eqb (firstFault room [] payloadsIn) 0) (sym count-is ∙ e)
+  given-by r e = go (ltb maxEntries (length es)) refl (eqb (firstFault room [] payloadsIn) 0) refl (sym count-is ∙ e)
     where
-      go : (a : Bool) → ltb maxEntries (length es) ≡ a → (b : Bool) → unlessOver a b ≡ reported r → Given r
-      go true p b q = no cc
-      go false p true q = let z : reportOf es rs ≡ r = cc in record { few = ltb-false maxEntries (length es) p; shows = ap shownOf (sym z) ∙ of-replies }
-      go false p false q = no cc
+      go : (a : Bool) → ltb maxEntries (length es) ≡ a → (b : Bool) → eqb (firstFault room [] payloadsIn) 0 ≡ b → unlessOver a b ≡ reported r → Given r
+      go true p b t q = no cc
+      go false p true t q =
+          let z : reportOf es rs ≡ r = cc in
+          record { few = ltb-false maxEntries (length es) p; passes = eqb-true (firstFault room [] payloadsIn) 0 t; is = sym z; shows = ap shownOf (sym z) ∙ of-replies }
+      go false p false t q = no cc
+
+  -- 0 is told of a report only
+  pub zero-given : codeOf (countLog room store ledger log) ≡ 0 → countLog room store ledger log ≡ reported (reportOf es rs)
+  zero-given e = go (ltb maxEntries (length es)) (eqb (firstFault room [] payloadsIn) 0) refl count-is
+    where
+      go : (a b : Bool) → eqb (firstFault room [] payloadsIn) 0 ≡ b → countLog room store ledger log ≡ unlessOver a b → countLog room store ledger log ≡ reported (reportOf es rs)
+      go true b t q = absurd (let z : 62 ≡ 0 = sym (ap codeOf q) ∙ e in let y : ⊥ = omega arith in y)
+      go false true t q = q
+      go false false t q = absurd (let z : firstFault room [] payloadsIn ≡ 0 = sym (ap codeOf q) ∙ e in never (eq-eqb (firstFault room [] payloadsIn) 0 z) t)
 
 -- a report is given of a log that is read whole only
 pub record ReadWhole (log : List ℕ) : Type 0 where

@@ -1,2 +1,4 @@
 pub mod Losses
 pub mod Every
+pub mod Calls
+pub mod Worked

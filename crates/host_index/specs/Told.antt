@@ -2,12 +2,11 @@
 use mathlib.Core.Path.{_≡_}
 use mathlib.Core.Option.{Option, none, some}
 use mathlib.Core.List.{List, [], _∷_}
-use Prim.Native.Nat.{ℕ, _+_, _%_, _^_, _≤_}
+use Prim.Native.Nat.{ℕ, _+_, _%_, _^_, _<_}
 use lib.Dec.{ltb}
 use lib.ListN.{length}
 use Rattle.wire.specs.Choice.{pick}
 use Rattle.wire.specs.Overlay.{overlay}
-use Rattle.log_index.specs.Limits.{maxIndex}
 use Rattle.log_index.specs.Index.{rowsIn, Answer, holds, refuses, answerOf}
 use Rattle.log_index.specs.Words.{foundIn}
 use Rattle.index_builder.specs.Adds.{indexWords}
@@ -22,9 +21,9 @@ indexCode (refuses k) = k
 abbrev pub indexRows : ℕ → ℕ
 indexRows answer = answer % 2 ^ 32
 
--- no more rows than an index has
+-- so few rows that the macro gives them back
 abbrev pub Few : Answer → Type 0
-Few (holds n) = n ≤ maxIndex
+Few (holds n) = n < 2 ^ 32
 Few (refuses k) = Unit
 
 pub record IndexTold (log w : List ℕ) (answer : ℕ) (w′ : List ℕ) : Type 0 where

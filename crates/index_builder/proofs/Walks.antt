@@ -14,10 +14,9 @@ use Rattle.wire.proofs.Overlays.{overlay-at}
 use Rattle.datagram.specs.declared.Read.{Read}
 use Rattle.datagram.specs.declared.Read.the-variants.{Good, Refused}
 use Rattle.datagram.specs.declared.Header.{Header}
-use Rattle.log_index.specs.Limits.{maxIndex, batchRows}
 use Rattle.log_index.specs.Rows.{Row, rowOf, sorted}
-use Rattle.log_index.specs.Index.{rowFor, Gathered, gathered, stopped, holds, refuses, noRoom}
-use Rattle.log_index.specs.Words.{wordsOf, rankIn, entered, enteredAll, merged, mergedRows, added}
+use Rattle.log_index.specs.Index.{rowFor, Gathered, gathered, stopped, holds, refuses, noRoomIn}
+use Rattle.log_index.specs.Words.{wordsOf, rankIn, entered, enteredAll, merged, mergedRows, addedIn}
 use Rattle.log_index.proofs.Sorts.{sorted-length}
 use Rattle.log_index.proofs.Wordings.{words-length}
 use Rattle.log_index.proofs.Fresh.{entered-sorted}
@@ -40,18 +39,18 @@ entered-length w n r = elim (either (ltb n (length w / 3))) [
 
 -- ---- the rows to come
 
-abbrev pub addedTo : List ℕ → ℕ → Gathered → List ℕ
-addedTo w n (gathered rs) = added w n rs
-addedTo w n (stopped k) = []
+abbrev pub addedTo : ℕ → List ℕ → ℕ → Gathered → List ℕ
+addedTo b w n (gathered rs) = addedIn b w n rs
+addedTo b w n (stopped k) = []
 
 total-ahead : (n : ℕ) (rs : List Row) (g : Gathered) → totalOf n (ahead rs g) ≡ totalOf (n + length rs) g
 total-ahead n rs (gathered more) = let e : n + length (rs ++ more) ≡ n + length rs + length more = omega (arith, length-append rs more) in ap holds e
 total-ahead n rs (stopped k) = refl
 
 -- a full batch and then the rest
-added-ahead : (w : List ℕ) (n : ℕ) (ps : List Row) (g : Gathered) → length ps ≡ batchRows → addedTo w n (ahead ps g) ≡ addedTo (mergedRows w n ps) (n + length ps) g
-added-ahead w n ps (gathered more) e = added-next w n ps more e
-added-ahead w n ps (stopped k) e = refl
+added-ahead : (b : ℕ) → 1 ≤ b → (w : List ℕ) (n : ℕ) (ps : List Row) (g : Gathered) → length ps ≡ b → addedTo b w n (ahead ps g) ≡ addedTo b (mergedRows w n ps) (n + length ps) g
+added-ahead b one w n ps (gathered more) e = added-next b one w n ps more e
+added-ahead b one w n ps (stopped k) e = refl
 
 -- ---- a batch
 
@@ -76,12 +75,12 @@ batch-merged w n batch ps e =
 pub record Going (w : List ℕ) (n : ℕ) (g : Gathered) (room : ℕ) (v : List ℕ) (rows : ℕ) (batch : List ℕ) (waiting : ℕ) (h : Gathered) : Type 0 where
   pub wait : List Row
   pub number : waiting ≡ length wait
-  pub few : length wait < batchRows
+  pub few : length wait ≤ room / 3 - 1
   pub total : totalOf (rows + waiting) h ≡ totalOf n g
   pub size : length v ≡ length w
   pub held : length batch ≡ room
-  pub sort : 3 * batchRows ≤ room → take (3 * length wait) batch ≡ wordsOf (sorted wait)
-  pub words : 3 * batchRows ≤ room → addedTo v rows (ahead wait h) ≡ addedTo w n g
+  pub sort : 1 ≤ room / 3 → take (3 * length wait) batch ≡ wordsOf (sorted wait)
+  pub words : 1 ≤ room / 3 → addedTo (room / 3) v rows (ahead wait h) ≡ addedTo (room / 3) w n g
 
 pub going-start : (w : List ℕ) (n : ℕ) (g : Gathered) (batch : List ℕ) → Going w n g (length batch) w n batch 0 g
 unfolding wordsOf sorted
@@ -93,7 +92,7 @@ going-start w n g batch = record {
   size = refl;
   held = refl;
   sort = λ h. refl;
-  words = λ h. ap (addedTo w n) (ahead-none g);
+  words = λ h. ap (addedTo (length batch / 3) w n) (ahead-none g);
 }
 
 module _ (w : List ℕ) (n : ℕ) (g : Gathered) (room : ℕ) (v : List ℕ) (rows : ℕ) (batch : List ℕ) (waiting : ℕ) (h : Gathered) (f : Going w n g room v rows batch waiting h) where
@@ -104,27 +103,30 @@ module _ (w : List ℕ) (n : ℕ) (g : Gathered) (room : ℕ) (v : List ℕ) (ro
     count : m ≡ length all
     count = t .next ∙ (let a = length-append (f .wait) rs in let b = f .number in omega (arith, a, b))
 
-    most : length all ≤ batchRows
+    most : length all ≤ room / 3 - 1 + 1
     most = let a = length-append (f .wait) rs in let b = f .few in let c = t .few in omega (arith, a, b, c)
+
+    held′ : length batch′ ≡ room
+    held′ = t .size ∙ f .held
 
     total′ : totalOf (rows′ + waiting′) k ≡ totalOf n g
     total′ =
         let i : rows′ + waiting′ ≡ rows + waiting + length rs = let a = s .sum in let b = t .next in omega (arith, a, b) in
         ap (λ (j : ℕ). totalOf j k) i ∙ sym (total-ahead (rows + waiting) rs k) ∙ ap (totalOf (rows + waiting)) (sym e) ∙ f .total
 
-    sort′ : 3 * batchRows ≤ room → take (3 * length all) batch′ ≡ wordsOf (sorted all)
+    sort′ : 1 ≤ room / 3 → take (3 * length all) batch′ ≡ wordsOf (sorted all)
     sort′ r =
         let d = f .held in
         let a = length-append (f .wait) rs in
         (λ j. take (3 * length all) ((t .words ∙ ap (λ (i : ℕ). enteredAll batch i rs) (f .number)) j))
-        ∙ batch-more batch (f .wait) rs (f .sort r) (omega (arith, a, d, most))
+        ∙ batch-more batch (f .wait) rs (f .sort r) (omega (arith, a, d, most, r))
 
-    words′ : 3 * batchRows ≤ room → addedTo v rows (ahead all k) ≡ addedTo w n g
-    words′ r = ap (addedTo v rows) (sym (ahead-both (f .wait) rs k) ∙ ap (ahead (f .wait)) (sym e)) ∙ f .words r
+    words′ : 1 ≤ room / 3 → addedTo (room / 3) v rows (ahead all k) ≡ addedTo (room / 3) w n g
+    words′ r = ap (addedTo (room / 3) v rows) (sym (ahead-both (f .wait) rs k) ∙ ap (ahead (f .wait)) (sym e)) ∙ f .words r
 
-    going-wait : m < batchRows → Going w n g room v′ rows′ batch′ waiting′ k
+    going-wait : m < room / 3 → Going w n g room v′ rows′ batch′ waiting′ k
     going-wait l =
-        let p = s .waits l in
+        let p = s .waits (let e = held′ in omega (arith, e, l)) in
         let i : rows′ ≡ rows = let a = s .sum in let b = p .0 in omega (arith, a, b) in
         record {
           wait = all;
@@ -132,31 +134,31 @@ module _ (w : List ℕ) (n : ℕ) (g : Gathered) (room : ℕ) (v : List ℕ) (ro
           few = omega (arith, count);
           total = total′;
           size = s .size ∙ f .size;
-          held = t .size ∙ f .held;
+          held = held′;
           sort = sort′;
-          words = λ r. (λ j. addedTo (p .1 j) (i j) (ahead all k)) ∙ words′ r;
+          words = λ r. (λ j. addedTo (room / 3) (p .1 j) (i j) (ahead all k)) ∙ words′ r;
         }
 
-    going-merge : batchRows ≤ m → Going w n g room v′ rows′ batch′ waiting′ k
+    going-merge : room / 3 ≤ m → Going w n g room v′ rows′ batch′ waiting′ k
     unfolding wordsOf sorted
     going-merge l =
-        let p = s .settles l in
-        let b : length all ≡ batchRows = omega (arith, count, most) in
+        let p = s .settles (let e = held′ in omega (arith, e, l)) in
+        let b : 1 ≤ room / 3 → length all ≡ room / 3 = λ r. omega (arith, count, most, r, l) in
         let i : rows′ ≡ rows + length all = let a = s .sum in let c = p .0 in omega (arith, a, c, count) in
-        let x : 3 * batchRows ≤ room → v′ ≡ mergedRows v rows all = λ r. p .1 ∙ ap (merged v rows batch′) count ∙ batch-merged v rows batch′ all (sort′ r) in
+        let x : 1 ≤ room / 3 → v′ ≡ mergedRows v rows all = λ r. p .1 ∙ ap (merged v rows batch′) count ∙ batch-merged v rows batch′ all (sort′ r) in
         record {
           wait = [];
           number = p .0;
           few = omega arith;
           total = total′;
           size = s .size ∙ f .size;
-          held = t .size ∙ f .held;
+          held = held′;
           sort = λ r. refl;
-          words = λ r. ap (addedTo v′ rows′) (ahead-none k) ∙ (λ j. addedTo (x r j) (i j) k) ∙ sym (added-ahead v rows all k b) ∙ words′ r;
+          words = λ r. ap (addedTo (room / 3) v′ rows′) (ahead-none k) ∙ (λ j. addedTo (room / 3) (x r j) (i j) k) ∙ sym (added-ahead (room / 3) r v rows all k (b r)) ∙ words′ r;
         }
 
     pub going-next : Going w n g room v′ rows′ batch′ waiting′ k
-    going-next = elim (decLe batchRows m) [ yes l ↦ going-merge l | no l ↦ going-wait (omega (arith, l)) ]
+    going-next = elim (decLe (room / 3) m) [ yes l ↦ going-merge l | no l ↦ going-wait (omega (arith, l)) ]
 
   pub going-refused : (k : ℕ) → h ≡ stopped k → refuses k ≡ totalOf n g
   going-refused k e = ap (totalOf (rows + waiting)) (sym e) ∙ f .total
@@ -175,11 +177,11 @@ module _ (w : List ℕ) (n : ℕ) (g : Gathered) (room : ℕ) (v : List ℕ) (ro
         d .words
         ∙ ap (merged v rows batch) (f .number)
         ∙ batch-merged v rows batch (f .wait) (f .sort o)
-        ∙ sym (added-last v rows (f .wait) (omega (arith, f .few)))
-        ∙ ap (added v rows) (sym (append-nil (f .wait)))
-        ∙ ap (λ (x : Gathered). addedTo v rows (ahead (f .wait) x)) (sym e)
+        ∙ sym (added-last (room / 3) o v rows (f .wait) (omega (arith, f .few)))
+        ∙ ap (addedIn (room / 3) v rows) (sym (append-nil (f .wait)))
+        ∙ ap (λ (x : Gathered). addedTo (room / 3) v rows (ahead (f .wait) x)) (sym e)
         ∙ f .words o
-        ∙ ap (addedTo w n) q;
+        ∙ ap (addedTo (room / 3) w n) q;
   }
 
 -- ---- the row of a datagram
@@ -194,12 +196,12 @@ take-one sender at w v n h r e d = rw e (record { few = omega arith; next = refl
 
 -- ---- room
 
-module _ (words n k : ℕ) where
-  pub full-before : maxIndex < n → true ≡ noRoom words (n + k)
-  full-before h = rw (lt-ltb maxIndex (n + k) (omega arith)) refl
+module _ (most words n k : ℕ) where
+  pub full-before : most < n → true ≡ noRoomIn most words (n + k)
+  full-before h = rw (lt-ltb most (n + k) (omega arith)) refl
 
-  pub full-then : n ≤ maxIndex → maxIndex - n < k → true ≡ noRoom words (n + k)
-  full-then g h = rw (lt-ltb maxIndex (n + k) (omega arith)) refl
+  pub full-then : n ≤ most → most - n < k → true ≡ noRoomIn most words (n + k)
+  full-then g h = rw (lt-ltb most (n + k) (omega arith)) refl
 
-  pub room-words : n ≤ maxIndex → k ≤ maxIndex - n → ltb words (3 * (n + k)) ≡ noRoom words (n + k)
-  room-words g h = rw (le-ltb maxIndex (n + k) (omega arith)) refl
+  pub room-words : n ≤ most → k ≤ most - n → ltb words (3 * (n + k)) ≡ noRoomIn most words (n + k)
+  room-words g h = rw (le-ltb most (n + k) (omega arith)) refl

@@ -2,12 +2,15 @@
 -- Definitions only.
 use mathlib.Core.Path.{_≡_}
 use mathlib.Core.List.{List}
-use Prim.Native.Nat.{ℕ, _*_}
+use Prim.Native.Nat.{ℕ, _-_, _*_, max}
 use lib.ListN.{length, take}
 use Rattle.wire.specs.Overlay.{overlay}
+use Rattle.wire.specs.Taken.{Taken, taken, refused}
+use Rattle.log.specs.Editions.{Edition, headIn, limitsOf}
+use Rattle.log_index.specs.Limits.{maxIndex, batchRows, largeBatch}
 use Rattle.log_index.specs.Rows.{Row, sorted}
-use Rattle.log_index.specs.Index.{Gathered, gathered, stopped, rowsIn, rowsAdded, Answer, holds, refuses, answerOf}
-use Rattle.log_index.specs.Words.{wordsOf, added}
+use Rattle.log_index.specs.Index.{Gathered, gathered, stopped, rowsFrom, rowsIn, rowsAdded, Answer, holds, refuses, answerIn}
+use Rattle.log_index.specs.Words.{wordsOf, addedIn}
 use Rattle.index_builder.specs.declared.Indexed.{Indexed}
 use Rattle.index_builder.specs.declared.Indexed.the-variants.{Entries, Refused}
 
@@ -23,9 +26,12 @@ indexWords (holds n) (gathered rs) w = overlay w 0 (wordsOf (sorted rs))
 indexWords (holds n) (stopped k) w = w
 indexWords (refuses k) g w = w
 
-pub record Indexes (log w : List ℕ) (r : Indexed) (w′ : List ℕ) : Type 0 where
-  pub answer : says r ≡ answerOf (length w) 0 (rowsIn log)
-  pub index : w′ ≡ indexWords (answerOf (length w) 0 (rowsIn log)) (rowsIn log) w
+pub record IndexesIn (most : ℕ) (log w : List ℕ) (r : Indexed) (w′ : List ℕ) : Type 0 where
+  pub answer : says r ≡ answerIn most (length w) 0 (rowsIn log)
+  pub index : w′ ≡ indexWords (answerIn most (length w) 0 (rowsIn log)) (rowsIn log) w
+
+abbrev pub Indexes : List ℕ → List ℕ → Indexed → List ℕ → Type 0
+Indexes log w r w′ = IndexesIn maxIndex log w r w′
 
 -- the first n rows of some words are the index of a log
 pub record IndexOf (log w : List ℕ) (n : ℕ) : Type 0 where
@@ -36,14 +42,30 @@ pub record IndexOf (log w : List ℕ) (n : ℕ) : Type 0 where
 
 -- ---- extended: to the first n rows of the lent words, whatever they are, those of the entries from a place on
 
-abbrev pub extendedWords : Answer → Gathered → List ℕ → ℕ → List ℕ
-extendedWords (holds m) (gathered rs) w n = added w n rs
-extendedWords (holds m) (stopped k) w n = w
-extendedWords (refuses k) g w n = w
+-- b rows a batch
+abbrev pub extendedIn : ℕ → Answer → Gathered → List ℕ → ℕ → List ℕ
+extendedIn b (holds m) (gathered rs) w n = addedIn b w n rs
+extendedIn b (holds m) (stopped k) w n = w
+extendedIn b (refuses k) g w n = w
 
-pub record Adds (g : Gathered) (w : List ℕ) (n : ℕ) (r : Indexed) (w′ : List ℕ) : Type 0 where
-  pub answer : says r ≡ answerOf (length w) n g
-  pub index : w′ ≡ extendedWords (answerOf (length w) n g) g w n
+pub record AddsIn (most b : ℕ) (g : Gathered) (w : List ℕ) (n : ℕ) (r : Indexed) (w′ : List ℕ) : Type 0 where
+  pub answer : says r ≡ answerIn most (length w) n g
+  pub index : w′ ≡ extendedIn b (answerIn most (length w) n g) g w n
+
+abbrev pub Adds : Gathered → List ℕ → ℕ → Indexed → List ℕ → Type 0
+Adds g w n r w′ = AddsIn maxIndex batchRows g w n r w′
 
 abbrev pub Extends : List ℕ → ℕ → List ℕ → ℕ → Indexed → List ℕ → Type 0
 Extends log from w n r w′ = Adds (rowsAdded log from) w n r w′
+
+-- ---- with the most rows that are asked for: from a place on, where any below the first entry is the first entry's
+
+abbrev pub rowsOnward : List ℕ → ℕ → Taken Edition → Gathered
+rowsOnward log from (taken v b) = rowsFrom (limitsOf v) log (max from (length log - length b))
+rowsOnward log from (refused n) = stopped n
+
+unfoldable pub rowsOn : List ℕ → ℕ → Gathered
+rowsOn log from = rowsOnward log from (headIn log)
+
+abbrev pub IndexesOn : List ℕ → ℕ → List ℕ → ℕ → ℕ → Indexed → List ℕ → Type 0
+IndexesOn log from w n most r w′ = AddsIn most largeBatch (rowsOn log from) w n r w′

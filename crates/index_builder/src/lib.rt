@@ -1,12 +1,11 @@
 // The index of a log: worked out afresh, or extended by the entries that were added. The log is gone over first to count and judge, and then to
 // enter, so that a refusal leaves the index.
 ghost use mathlib.Core.Path.{_≡_};
-ghost use Prim.Native.Nat.{_+_, _^_, _≤_, _<_};
+ghost use Prim.Native.Nat.{_+_, _/_, _^_, _≤_, _<_, max};
 ghost use lib.ListN.{length};
 ghost use Rattle.datagram.specs.Read.{readDatagram};
-ghost use Rattle.log_index.specs.Limits.{maxIndex};
-ghost use Rattle.log_index.specs.Index.{rowFor, rowsFrom, noRoom};
-ghost use Rattle.index_builder.specs.Adds.{Indexes, Adds, Extends};
+ghost use Rattle.log_index.specs.Index.{rowFor, rowsFrom, noRoomIn};
+ghost use Rattle.index_builder.specs.Adds.{Indexes, AddsIn, Adds, Extends, IndexesOn};
 ghost use Rattle.index_builder.specs.Walk.{Settles, Takes};
 ghost use Rattle.index_builder.specs.InsideWalk.{Walked, Finishes};
 use datagram::Read;
@@ -51,7 +50,7 @@ fn settle(index: &mut [u64], n: usize, batch: &[u64], m: usize) -> Held
     requires { ⌜ n + m < 2 ^ 64 ⌝ }
     ensures { λ r. ⌜ Settles (now (index .entry)) n (now (batch .entry)) m (r .rows) (r .waiting) (now (index .exit)) ⌝ }
 {
-    if m < log_index::BATCH {
+    if m < batch.len() / 3 {
         return Held {
             rows: n,
             waiting: m,
@@ -82,7 +81,7 @@ fn walk(
     n: usize,
     batch: &mut [u64],
 ) -> Indexed
-    requires { ⌜ n ≤ maxIndex ⌝ }
+    requires { ⌜ n < 2 ^ 32 ⌝ }
     ensures { λ r. ⌜ Walked (rowsFrom limits (now (log .entry)) from) (now (index .entry)) n (length (now (batch .entry))) r (now (index .exit)) ⌝ }
 {
     let mut at = from;
@@ -113,21 +112,31 @@ fn walk(
 }
 
 // The lent words have no room for n rows and k more, or an index has none.
-fn no_room(words: usize, n: usize, k: usize) -> bool
-    ensures { λ r. ⌜ r ≡ noRoom words (n + k) ⌝ }
+fn no_room(words: usize, n: usize, k: usize, most: usize) -> bool
+    requires { ⌜ most < 2 ^ 32 ⌝ }
+    ensures { λ r. ⌜ r ≡ noRoomIn most words (n + k) ⌝ }
 {
-    if log_index::MAX_INDEX < n {
+    if most < n {
         return true;
     }
-    if log_index::MAX_INDEX - n < k {
+    if most - n < k {
         return true;
     }
     words < 3 * (n + k)
 }
 
-// Counts the entries from a place on, and then enters them.
-fn add(log: &[u8], from: usize, limits: Limits, index: &mut [u64], n: usize) -> Indexed
-    ensures { λ r. ⌜ Adds (rowsFrom limits (now (log .entry)) from) (now (index .entry)) n r (now (index .exit)) ⌝ }
+// Counts the entries from a place on, and then enters them, as many rows a batch as it has words for.
+fn add_within(
+    log: &[u8],
+    from: usize,
+    limits: Limits,
+    index: &mut [u64],
+    n: usize,
+    most: usize,
+    batch: &mut [u64],
+) -> Indexed
+    requires { ⌜ (most < 2 ^ 32) × (1 ≤ length (now batch) / 3) ⌝ }
+    ensures { λ r. ⌜ AddsIn most (length (now (batch .entry)) / 3) (rowsFrom limits (now (log .entry)) from) (now (index .entry)) n r (now (index .exit)) ⌝ }
 {
     let mut none = [0u64; 1];
     let mut no_batch = [0u64; 1];
@@ -135,11 +144,33 @@ fn add(log: &[u8], from: usize, limits: Limits, index: &mut [u64], n: usize) -> 
     let Indexed::Entries(k) = counted else {
         return counted;
     };
-    if no_room(index.len(), n, k) {
+    if no_room(index.len(), n, k, most) {
         return Indexed::Refused(44);
     }
+    walk(log, from, limits, index, n, batch)
+}
+
+// With no more rows than L11 allows.
+fn add(log: &[u8], from: usize, limits: Limits, index: &mut [u64], n: usize) -> Indexed
+    ensures { λ r. ⌜ Adds (rowsFrom limits (now (log .entry)) from) (now (index .entry)) n r (now (index .exit)) ⌝ }
+{
     let mut batch = [0u64; 3 * log_index::BATCH];
-    walk(log, from, limits, index, n, &mut batch)
+    add_within(
+        log,
+        from,
+        limits,
+        index,
+        n,
+        log_index::MAX_INDEX,
+        &mut batch,
+    )
+}
+
+// The later of two places.
+fn later(a: usize, b: usize) -> usize
+    ensures { λ r. ⌜ r ≡ max a b ⌝ }
+{
+    if a < b { b } else { a }
 }
 
 // The index of a log, afresh.
@@ -160,6 +191,22 @@ pub fn extend(log: &[u8], from: usize, index: &mut [u64], n: usize) -> Indexed
     let first = log::first_entry(log);
     match first {
         First::At(_, limits) => add(log, from, limits, index, n),
+        First::Refused(number) => Indexed::Refused(number),
+    }
+}
+
+// An index of n rows, extended by the entries from a place of the log on, up to a most of the caller's own. Any place below the first entry is the first
+// entry's, so that no rows and the place 0 give the index of the whole log.
+pub fn index_on(log: &[u8], from: usize, index: &mut [u64], n: usize, most: u32) -> Indexed
+    ensures { λ r. ⌜ IndexesOn (now (log .entry)) from (now (index .entry)) n most r (now (index .exit)) ⌝ }
+{
+    let mut batch = [0u64; 3 * log_index::LARGE_BATCH];
+    let first = log::first_entry(log);
+    match first {
+        First::At(place, limits) => {
+            let start = later(from, place);
+            add_within(log, start, limits, index, n, most as usize, &mut batch)
+        }
         First::Refused(number) => Indexed::Refused(number),
     }
 }

@@ -17,14 +17,22 @@ fn name_bytes(case: &[u8]) -> usize {
     receiver::NAME_BYTES - 1 + wire::least(crate::number(case, 8), 2)
 }
 
+// The words before those of the last slot, and of the memory before its last sender's.
+const LAST_SLOT: usize = slots::HEAD + slots::BLOCK * (slots::SLOTS - 1);
+
+const LAST_SENDER: usize = receiver_state::MEMORY + memory::SENDERS_MOST - 1;
+
 // The word of a state that holds: 1 the slot size, 2 slot 0's P, 3 its n, 4 how many keys the memory's first sender has, which stands
-// after the senders. Any other: none.
+// after the senders; 5, 6 and 7 the keys of the last sender, and P and n of the last slot. Any other: none.
 fn spot(which: usize) -> usize {
     match which {
         1 => 1,
         2 => slots::HEAD + slots::SIZE,
         3 => slots::HEAD + slots::COUNT,
         4 => receiver_state::MEMORY + memory::SENDERS_MOST,
+        5 => LAST_SENDER + memory::SENDERS_MOST,
+        6 => LAST_SLOT + slots::SIZE,
+        7 => LAST_SLOT + slots::COUNT,
         _ => receiver::STATE_WORDS,
     }
 }

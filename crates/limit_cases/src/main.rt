@@ -7,6 +7,7 @@ ghost use Rattle.output.specs.Output.{lineLimit};
 
 mod cuts;
 mod lent;
+mod tied;
 mod watching;
 
 use stream::Input;
@@ -34,6 +35,7 @@ fn answer(
         4 => lent::opened(out, at, case),
         5 => lent::received(out, at, case),
         6 => lent::forgotten(out, at, case),
+        7 => tied::answered(out, at, case),
         _ => output::pour(out, at, b"no such call"),
     }
 }

@@ -2,7 +2,7 @@
 use mathlib.Core.Path.{_≡_, refl, sym, ap, _∙_}
 use mathlib.Core.Logic.{inl, inr}
 use mathlib.Core.List.{List, [], _∷_, _++_, append-assoc, append-nil}
-use Prim.Native.Nat.{ℕ, zero, suc, _+_, _*_, _/_, _≤_, _<_, min}
+use Prim.Native.Nat.{ℕ, zero, suc, _+_, _-_, _*_, _/_, _≤_, _<_, min}
 use native.Mathlib.Omega.{arith}
 use native.Mathlib.Decide.{decLe}
 use lib.ListN.{length, take, drop, length-append, length-take, length-drop, take-append-drop, drop-of-length-le}
@@ -10,9 +10,8 @@ use lib.Seq.{drop-drop, take-at, drop-at, take-all}
 use Rattle.wire.specs.Overlay.{overlay}
 use Rattle.wire.proofs.Choices.{either}
 use Rattle.wire.proofs.Overlays.{overlay-eq}
-use Rattle.log_index.specs.Limits.{batchRows}
 use Rattle.log_index.specs.Rows.{Row, earlier, put, sorted}
-use Rattle.log_index.specs.Words.{wordsOf, rowAt, rankIn, inserted, mergedBy, merged, mergedRows, addedBy, added}
+use Rattle.log_index.specs.Words.{wordsOf, rowAt, rankIn, inserted, mergedBy, merged, mergedRows, addedBy, addedIn}
 use Rattle.log_index.proofs.Sorts.{put-on, put-here, put-only, put-swap, putAll, added-sorted, sorted-ordered, sorted-length}
 use Rattle.log_index.proofs.Wordings.{words-length, row-words}
 use Rattle.log_index.proofs.Moves.{inserted-length}
@@ -82,29 +81,29 @@ one-batch xs bs t room =
     ∙ ap (λ (l : List Row). wordsOf (putAll (sorted xs) l) ++ tail) (take-all m (sorted bs) (omega (arith, sorted-length bs)))
     ∙ ap (λ (l : List Row). wordsOf l ++ tail) (puts-sorted (sorted xs) bs ∙ added-sorted xs bs)
 
-added-words : (k : ℕ) (xs ys : List Row) (t : List ℕ) → length ys ≤ k → 3 * length ys ≤ length t
-    → addedBy k (wordsOf (sorted xs) ++ t) (length xs) ys ≡ wordsOf (sorted (xs ++ ys)) ++ drop (3 * length ys) t
+added-words : (b : ℕ) → 1 ≤ b → (k : ℕ) (xs ys : List Row) (t : List ℕ) → length ys ≤ k → 3 * length ys ≤ length t
+    → addedBy b k (wordsOf (sorted xs) ++ t) (length xs) ys ≡ wordsOf (sorted (xs ++ ys)) ++ drop (3 * length ys) t
 unfolding addedBy
-added-words zero xs [] t h room = ap (λ (l : List Row). wordsOf (sorted l) ++ t) (sym (append-nil xs))
-added-words zero xs (y ∷ ys) t h room = absurd (let z : ⊥ = omega arith in z)
-added-words (suc k) xs ys t h room =
-    let bs : List Row = take batchRows ys in
-    let rest : List Row = drop batchRows ys in
-    let a : length bs + length rest ≡ length ys = sym (length-append bs rest) ∙ ap length (take-append-drop batchRows ys) in
-    let b = length-drop batchRows ys in
+added-words b one zero xs [] t h room = ap (λ (l : List Row). wordsOf (sorted l) ++ t) (sym (append-nil xs))
+added-words b one zero xs (y ∷ ys) t h room = absurd (let z : ⊥ = omega arith in z)
+added-words b one (suc k) xs ys t h room =
+    let bs : List Row = take b ys in
+    let rest : List Row = drop b ys in
+    let a : length bs + length rest ≡ length ys = sym (length-append bs rest) ∙ ap length (take-append-drop b ys) in
+    let l = length-drop b ys in
     let n : length xs + length bs ≡ length (xs ++ bs) = sym (length-append xs bs) in
     let d = length-drop (3 * length bs) t in
     let m : 3 * length bs + 3 * length rest ≡ 3 * length ys = omega (arith, a) in
-    (λ j. addedBy k (one-batch xs bs t (omega (arith, a)) j) (n j) rest)
-    ∙ added-words k (xs ++ bs) rest (drop (3 * length bs) t) (omega (arith, b)) (omega (arith, a, d))
+    (λ j. addedBy b k (one-batch xs bs t (omega (arith, a)) j) (n j) rest)
+    ∙ added-words b one k (xs ++ bs) rest (drop (3 * length bs) t) (omega (arith, l)) (omega (arith, a, d))
     ∙ (λ j. wordsOf (sorted (append-assoc xs bs rest j)) ++ drop-drop (3 * length rest) (3 * length bs) t j)
-    ∙ (λ j. wordsOf (sorted (xs ++ take-append-drop batchRows ys j)) ++ drop (m j) t)
+    ∙ (λ j. wordsOf (sorted (xs ++ take-append-drop b ys j)) ++ drop (m j) t)
 
 -- added to the index of others, rows make the index of all
-pub added-fresh : (w : List ℕ) (xs ys : List Row) → take (3 * length xs) w ≡ wordsOf (sorted xs) → 3 * (length xs + length ys) ≤ length w
-    → added w (length xs) ys ≡ overlay w 0 (wordsOf (sorted (xs ++ ys)))
-unfolding added
-added-fresh w xs ys e room =
+pub added-fresh : (b : ℕ) → 1 ≤ b → (w : List ℕ) (xs ys : List Row) → take (3 * length xs) w ≡ wordsOf (sorted xs) → 3 * (length xs + length ys) ≤ length w
+    → addedIn b w (length xs) ys ≡ overlay w 0 (wordsOf (sorted (xs ++ ys)))
+unfolding addedIn
+added-fresh b one w xs ys e room =
     let n : ℕ = 3 * length xs in
     let t : List ℕ = drop n w in
     let s : List ℕ = wordsOf (sorted (xs ++ ys)) in
@@ -113,8 +112,8 @@ added-fresh w xs ys e room =
     let split : w ≡ wordsOf (sorted xs) ++ t = sym (take-append-drop n w) ∙ ap (λ (u : List ℕ). u ++ t) e in
     let r : 0 + length s ≤ length w = omega (arith, l) in
     let m : n + 3 * length ys ≡ 0 + length s = omega (arith, l) in
-    ap (λ (v : List ℕ). addedBy (length ys) v (length xs) ys) split
-    ∙ added-words (length ys) xs ys t (omega arith) (omega (arith, d))
+    ap (λ (v : List ℕ). addedBy b (length ys) v (length xs) ys) split
+    ∙ added-words b one (length ys) xs ys t (omega arith) (omega (arith, d))
     ∙ ap (λ (u : List ℕ). s ++ u) (drop-drop (3 * length ys) n w)
     ∙ ap (λ (k : ℕ). s ++ drop k w) m
     ∙ sym (overlay-eq w 0 s r)
@@ -128,39 +127,40 @@ rows-none w n = elim (decLe (n + 0) (length w / 3)) [
   | no h ↦ sym (merge-full w n (wordsOf (sorted [])) 0 (omega arith) (omega (arith, h)))
 ]
 
-added-none : (k : ℕ) (w : List ℕ) (n : ℕ) → addedBy k w n [] ≡ w
+added-none : (b k : ℕ) → 1 ≤ b → (w : List ℕ) (n : ℕ) → addedBy b k w n [] ≡ w
 unfolding addedBy
-added-none zero w n = refl
-added-none (suc k) w n = added-none k (mergedRows w n []) (n + 0) ∙ rows-none w n
+added-none b zero one w n = refl
+added-none zero (suc k) one w n = absurd (let z : ⊥ = omega arith in z)
+added-none (suc b) (suc k) one w n = added-none (suc b) k one (mergedRows w n []) (n + 0) ∙ rows-none w n
 
-added-enough : (j k : ℕ) (w : List ℕ) (n : ℕ) (rs : List Row) → length rs ≤ j → length rs ≤ k → addedBy j w n rs ≡ addedBy k w n rs
+added-enough : (b : ℕ) → 1 ≤ b → (j k : ℕ) (w : List ℕ) (n : ℕ) (rs : List Row) → length rs ≤ j → length rs ≤ k → addedBy b j w n rs ≡ addedBy b k w n rs
 unfolding addedBy
-added-enough zero k w n [] g h = sym (added-none k w n)
-added-enough zero k w n (r ∷ rs) g h = absurd (let z : ⊥ = omega arith in z)
-added-enough (suc j) zero w n [] g h = added-none (suc j) w n
-added-enough (suc j) zero w n (r ∷ rs) g h = absurd (let z : ⊥ = omega arith in z)
-added-enough (suc j) (suc k) w n rs g h =
-    let d = length-drop batchRows rs in
-    added-enough j k (mergedRows w n (take batchRows rs)) (n + length (take batchRows rs)) (drop batchRows rs) (omega (arith, d)) (omega (arith, d))
+added-enough b one zero k w n [] g h = sym (added-none b k one w n)
+added-enough b one zero k w n (r ∷ rs) g h = absurd (let z : ⊥ = omega arith in z)
+added-enough b one (suc j) zero w n [] g h = added-none b (suc j) one w n
+added-enough b one (suc j) zero w n (r ∷ rs) g h = absurd (let z : ⊥ = omega arith in z)
+added-enough b one (suc j) (suc k) w n rs g h =
+    let d = length-drop b rs in
+    added-enough b one j k (mergedRows w n (take b rs)) (n + length (take b rs)) (drop b rs) (omega (arith, d)) (omega (arith, d))
 
 -- a full batch, and the rest
-pub added-next : (w : List ℕ) (n : ℕ) (ps more : List Row) → length ps ≡ batchRows → added w n (ps ++ more) ≡ added (mergedRows w n ps) (n + length ps) more
-unfolding added addedBy
-added-next w n ps more e =
-    let l : length (ps ++ more) ≡ suc (63 + length more) = length-append ps more ∙ (let q : length ps + length more ≡ suc (63 + length more) = omega (arith, e) in q) in
-    let t = take-at ps more batchRows e in
-    ap (λ (k : ℕ). addedBy k w n (ps ++ more)) l
-    ∙ (λ j. addedBy (63 + length more) (mergedRows w n (t j)) (n + length (t j)) (drop-at ps more batchRows e j))
-    ∙ added-enough (63 + length more) (length more) (mergedRows w n ps) (n + length ps) more (omega arith) (omega arith)
+pub added-next : (b : ℕ) → 1 ≤ b → (w : List ℕ) (n : ℕ) (ps more : List Row) → length ps ≡ b → addedIn b w n (ps ++ more) ≡ addedIn b (mergedRows w n ps) (n + length ps) more
+unfolding addedIn addedBy
+added-next b one w n ps more e =
+    let l : length (ps ++ more) ≡ suc (b - 1 + length more) = length-append ps more ∙ (let q : length ps + length more ≡ suc (b - 1 + length more) = omega (arith, e) in q) in
+    let t = take-at ps more b e in
+    ap (λ (k : ℕ). addedBy b k w n (ps ++ more)) l
+    ∙ (λ j. addedBy b (b - 1 + length more) (mergedRows w n (t j)) (n + length (t j)) (drop-at ps more b e j))
+    ∙ added-enough b one (b - 1 + length more) (length more) (mergedRows w n ps) (n + length ps) more (omega arith) (omega arith)
 
 -- a last one
-pub added-last : (w : List ℕ) (n : ℕ) (ps : List Row) → length ps ≤ batchRows → added w n ps ≡ mergedRows w n ps
-unfolding added addedBy
-added-last w n [] h = sym (rows-none w n)
-added-last w n (p ∷ ps) h =
-    let t = take-all batchRows (p ∷ ps) h in
-    (λ j. addedBy (length ps) (mergedRows w n (t j)) (n + length (t j)) (drop-of-length-le (p ∷ ps) h j))
-    ∙ added-none (length ps) (mergedRows w n (p ∷ ps)) (n + length (p ∷ ps))
+pub added-last : (b : ℕ) → 1 ≤ b → (w : List ℕ) (n : ℕ) (ps : List Row) → length ps ≤ b → addedIn b w n ps ≡ mergedRows w n ps
+unfolding addedIn addedBy
+added-last b one w n [] h = sym (rows-none w n)
+added-last b one w n (p ∷ ps) h =
+    let t = take-all b (p ∷ ps) h in
+    (λ j. addedBy b (length ps) (mergedRows w n (t j)) (n + length (t j)) (drop-of-length-le (p ∷ ps) h j))
+    ∙ added-none b (length ps) one (mergedRows w n (p ∷ ps)) (n + length (p ∷ ps))
 
 merged-length : (j : ℕ) (batch w : List ℕ) (n : ℕ) → length (mergedBy j batch w n) ≡ length w
 unfolding mergedBy

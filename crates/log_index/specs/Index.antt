@@ -79,11 +79,15 @@ pub data Answer : Type 0 where
   holds : ℕ → Answer
   refuses : ℕ → Answer
 
--- "44 index full": over 4,096 rows, or more than the lent list has words for
-abbrev pub noRoom : ℕ → ℕ → Bool
-noRoom words n = ltb maxIndex n || ltb words (3 * n)
+-- over the most rows that are asked for, or more than the lent list has words for
+abbrev pub noRoomIn : ℕ → ℕ → ℕ → Bool
+noRoomIn most words n = ltb most n || ltb words (3 * n)
 
--- after the log's own; with n rows in the index before
-unfoldable pub answerOf : ℕ → ℕ → Gathered → Answer
-answerOf words n (stopped k) = refuses k
-answerOf words n (gathered rs) = pick (noRoom words (n + length rs)) (refuses 44) (holds (n + length rs))
+-- 44 after the log's own; with n rows in the index before
+unfoldable pub answerIn : ℕ → ℕ → ℕ → Gathered → Answer
+answerIn most words n (stopped k) = refuses k
+answerIn most words n (gathered rs) = pick (noRoomIn most words (n + length rs)) (refuses 44) (holds (n + length rs))
+
+-- L11: "44 index full", over 4,096 rows
+abbrev pub answerOf : ℕ → ℕ → Gathered → Answer
+answerOf words n g = answerIn maxIndex words n g

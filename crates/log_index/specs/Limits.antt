@@ -8,3 +8,7 @@ maxIndex = 4_096
 -- how many rows are sorted among themselves before they are merged
 abbrev pub batchRows : ℕ
 batchRows = 64
+
+-- and where there may be a million
+abbrev pub largeBatch : ℕ
+largeBatch = 1_024

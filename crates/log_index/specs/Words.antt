@@ -8,7 +8,6 @@ use lib.ListN.{length, getD, take, drop}
 use Rattle.wire.specs.Choice.{pick}
 use Rattle.wire.specs.Overlay.{overlay}
 use Rattle.wire.specs.Halving.{halve}
-use Rattle.log_index.specs.Limits.{batchRows}
 use Rattle.log_index.specs.Rows.{Row, rowOf, earlier, sorted, isOf}
 use Rattle.log_index.specs.declared.Found.{Found}
 use Rattle.log_index.specs.declared.Found.the-variants.{At, Nowhere}
@@ -56,13 +55,14 @@ merged w n batch m = pick (leb m (length batch / 3) && leb (n + m) (length w / 3
 unfoldable pub mergedRows : List ℕ → ℕ → List Row → List ℕ
 mergedRows w n rs = merged w n (wordsOf (sorted rs)) (length rs)
 
-unfoldable pub addedBy : ℕ → List ℕ → ℕ → List Row → List ℕ
-addedBy zero w n rs = w
-addedBy (suc k) w n rs = addedBy k (mergedRows w n (take batchRows rs)) (n + length (take batchRows rs)) (drop batchRows rs)
+-- b rows a batch
+unfoldable pub addedBy : ℕ → ℕ → List ℕ → ℕ → List Row → List ℕ
+addedBy b zero w n rs = w
+addedBy b (suc k) w n rs = addedBy b k (mergedRows w n (take b rs)) (n + length (take b rs)) (drop b rs)
 
 -- there are no more batches than rows
-unfoldable pub added : List ℕ → ℕ → List Row → List ℕ
-added w n rs = addedBy (length rs) w n rs
+unfoldable pub addedIn : ℕ → List ℕ → ℕ → List Row → List ℕ
+addedIn b w n rs = addedBy b (length rs) w n rs
 
 -- ---- a key is found: the first row that is not before it is one of its own, or there is none
 

@@ -1,65 +1,20 @@
--- The rows counted, then judged, then added. Assumes nothing.
-use mathlib.Core.Path.{sym, _∙_}
+-- L11's most, and its batches. Assumes nothing.
 use Prim.Native.Nat.{ℕ}
 use native.Mathlib.Omega.{arith}
-use lib.ListN.{length, length-replicate}
-use Rattle.index_builder.proofs.Answers.{adds-refused, adds-full, adds-all, room-before}
+use lib.ListN.{length-replicate}
+use Rattle.index_builder.proofs.Answers.{adds-batch}
 use borrow.Author.Needs.{needs}
 use Rattle.index_builder.proofs.add.Statement.{statement}
 use Rattle.index_builder.proofs.add.Tie as tie
 
-enum-told : tie.Need-enum-told
-enum-told c = search needs
-
 returns : tie.Need-returns
-returns c =
-    let at-walk = c .before .before .before .before in
-    let start = at-walk .before .before .before .before .before in
-    let a = start .args in
-    adds-refused _ _ _ _ _ (a .index .now) (a .n) _ (at-walk .walk .ensures) (c .enum-told .given .1)
-
-returns-2 : tie.Need-returns-2
-returns-2 c =
-    let at-no-room = c .before in
-    let at-counted = at-no-room .before .before in
-    let at-walk = at-counted .before .before .before .before in
-    let start = at-walk .before .before .before .before .before in
-    let a = start .args in
-    adds-full _ _ _ _ _ (a .index .now) (a .n) _ (at-walk .walk .ensures) (at-counted .counted .given .1) (sym (at-no-room .no-room .ensures) ∙ c .if1 .taken)
-
-walk-requires-2 : tie.Need-walk-requires-2
-walk-requires-2 c κs =
-    let at-if1 = c .before .before in
-    let at-no-room = at-if1 .before in
-    let start = at-no-room .before .before .before .before .before .before .before .before .before .before .before in
-    let a = start .args in
-    room-before (length (a .index .now)) (a .n) _ (sym (at-no-room .no-room .ensures) ∙ at-if1 .if1 .left)
-
-returns-3 : tie.Need-returns-3
-returns-3 c =
-    let at-walk2 = c .before .before .before in
-    let at-if1 = at-walk2 .before .before .before in
-    let k = at-if1 .before in
-    let n = k .before .before in
-    let at-walk = n .before .before .before .before in
-    let start = at-walk .before .before .before .before .before in
-    let a = start .args in
-    let room = sym (k .no-room .ensures) ∙ at-if1 .if1 .left in
-    adds-all _ _ _ _ _ (a .index .now) (a .n) _ (at-walk .walk .ensures) (n .counted .given .1) room _ _ _ (omega (arith, length-replicate {A = ℕ} 192 0)) (at-walk2 .walk2 .ensures)
+returns c = adds-batch (c .before .before .before .add-within .ensures) (omega (arith, length-replicate {A = ℕ} 192 0))
 
 pub add-spec : {M : Type 1} → statement M
 add-spec =
     tie.close
     (tie.spec
     (λ c. search needs)
-    (λ c. search needs)
     (λ c κs. search needs)
     (λ c. search needs)
-    enum-told
-    returns
-    (λ c κs. search needs)
-    returns-2
-    (λ c. search needs)
-    walk-requires-2
-    (λ c. search needs)
-    returns-3)
+    returns)

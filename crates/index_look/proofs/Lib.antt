@@ -1,0 +1,4 @@
+pub mod Halved
+pub mod Leads
+pub mod Steps
+pub mod Kept

@@ -1,0 +1,17 @@
+-- Assumes nothing.
+use mathlib.Core.Path.{_∙_}
+use Rattle.lmcp.proofs.Sizes.{through}
+use borrow.Author.Needs.{needs}
+use Rattle.mark_rows.proofs.number_if.Statement.{statement}
+use Rattle.mark_rows.proofs.number_if.Tie as tie
+
+returns : tie.Need-returns
+returns c =
+    let n = c .number-at in
+    rw (c .before .if1 .taken) (through (n .result) (record { sfits = n .ok }) ∙ n .ensures)
+
+returns-2 : tie.Need-returns-2
+returns-2 c = rw (c .if1 .left)
+
+pub number-if-spec : {M : Type 1} → statement M
+number-if-spec = tie.close (tie.spec (λ c κs. search needs) returns returns-2)

@@ -1,0 +1,15 @@
+-- Assumes nothing.
+use mathlib.Core.Path.{ap, _∙_}
+use lib.Signed.{mag}
+use Rattle.lmcp.proofs.Sizes.{through}
+use borrow.Author.Needs.{needs}
+use Rattle.mark_rows.proofs.size_at.Statement.{statement}
+use Rattle.mark_rows.proofs.size_at.Tie as tie
+
+returns : tie.Need-returns
+returns c =
+    let n = c .before .number-at in
+    c .size-of .ensures ∙ ap mag (through (n .result) (record { sfits = n .ok }) ∙ n .ensures)
+
+pub size-at-spec : {M : Type 1} → statement M
+size-at-spec = tie.close (tie.spec (λ c κs. search needs) (λ c κs. search needs) returns)

@@ -1,0 +1,4 @@
+pub mod InsideRows
+pub mod Placed
+pub mod Rows
+pub mod Spelled

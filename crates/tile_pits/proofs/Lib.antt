@@ -1,0 +1,4 @@
+pub mod TileGiven
+pub mod Means
+pub mod Once
+pub mod Parts

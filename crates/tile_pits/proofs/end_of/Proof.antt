@@ -1,0 +1,26 @@
+-- By whether there is a next tile. Assumes nothing.
+use mathlib.Core.Path.{_≡_, ap, _∙_}
+use Prim.Native.Nat.{suc, _+_, _*_, _%_}
+use native.Mathlib.Omega.{arith}
+use borrow.Author.Tests.{lt-ltb, le-ltb}
+use Rattle.sorted_set.specs.Halving.{rankIn}
+use Rattle.count_rules.specs.Keys.{span, pitKey}
+use borrow.Author.Needs.{needs}
+use Rattle.tile_pits.proofs.end_of.Statement.{statement}
+use Rattle.tile_pits.proofs.end_of.Tie as tie
+
+returns : tie.Need-returns
+returns c =
+    let a = c .before .before .before .args in
+    let t = a .tile % span in
+    let k : (t + 1) * span ≡ pitKey (suc t) 0 = omega arith in
+    c .rank .ensures ∙ rw (lt-ltb (suc t) span (omega arith)) (ap (rankIn (a .pits .now) (a .n)) k)
+
+returns-2 : tie.Need-returns-2
+returns-2 c =
+    let a = c .before .before .before .args in
+    rw (le-ltb (suc (a .tile % span)) span (omega arith)) (c .least .ensures)
+
+pub end-of-spec : {M : Type 1} → statement M
+end-of-spec =
+    tie.close (tie.spec (λ c. search needs) (λ c. search needs) (λ c. search needs) (λ c κs. search needs) returns (λ c κs. search needs) returns-2)

@@ -1,0 +1,3 @@
+pub mod InsidePits
+pub mod Meaning
+pub mod Pits
