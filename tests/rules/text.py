@@ -22,7 +22,6 @@ NOT_INSIDE = {
     "gauge/Lines",
     "index_lines/Lines",
     "lmcp_bytes/Lines",
-    "lmcp_writer/Steps",
     "log_write/Kept",
     "pit_marks/Enters",
     "pit_payloads/Took",
