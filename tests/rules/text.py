@@ -16,7 +16,6 @@ OVER = {
 }
 # files of specs/ with definitions that nothing public reaches
 NOT_INSIDE = {
-    "lmcp_writer/Steps",
 }
 OPERATORS = set("→ × ≡ λ ≤ < + * : ⌝ ⌜ ∷ ++ = ⊎ - / % ^ && || when else if then in let".split())
 # a word that hands on the number of a refusal
