@@ -1,10 +1,10 @@
 /* Quartzmitten for a C host: the checksum, the datagram reader, the cutter, the receiver, the sequence watch, the log's writer and reader, and the
-   index and the count of a log, and of a season of logs; survey messages as numbers, and which pits a map has.
+   index and the count of a log, and of a season of logs; survey messages as numbers, and which pits a map has; acknowledge blocks.
 
    Link the archives libhost.a, libhost_state.a (qm_open, qm_forget, qm_lengths), libhost_receiver.a (qm_receive, qm_receive_within), libhost_flight.a
    (qm_log_first, qm_log_next, qm_watch_see), libhost_index.a (qm_index, qm_find), libhost_count.a (qm_count), libhost_season.a (qm_count_on,
-   qm_count_lines) and libhost_pits.a (qm_read_message, qm_pits, qm_marks), or those whose functions are called: the
-   toolchain's `rt staticlib host`, `rt staticlib host_state` and so on write them (x86-64 Linux). No other header is needed.
+   qm_count_lines), libhost_pits.a (qm_read_message, qm_pits, qm_marks), libhost_acks.a (qm_acks_ask, qm_acks_write) and libhost_messages.a
+   (qm_write_message), or those whose functions are called: the toolchain's `rt staticlib host`, `rt staticlib host_state` and so on write them (x86-64 Linux). No other header is needed.
 
    What holds for all of them:
    - They end for any bytes and any lengths, keep no state of their own, ask the system for nothing, and may be called from any thread.
@@ -56,6 +56,7 @@ typedef unsigned long long qm_size; /* a length, a place or a number of elements
 #define QM_MESSAGE_DEPTH 26     /* an object at depth 17 */
 #define QM_MESSAGE_CHAR 27      /* a char over 127 */
 #define QM_MESSAGE_LEFT 28      /* something left after the root */
+#define QM_MESSAGE_NUMBER 29    /* a number that its field cannot hold, or an unknown version (written only) */
 #define QM_EDITION 40           /* a log of no edition that is known: it begins with neither 1 nor 2 */
 #define QM_NOT_SHORTEST 41      /* a number of a log not in its shortest form, or a tenth byte above 1 */
 #define QM_KEPT_TOO_LONG 42     /* a datagram to keep, or kept, over 65,535 bytes */
@@ -65,6 +66,14 @@ typedef unsigned long long qm_size; /* a length, a place or a number of elements
 #define QM_TOO_MANY_TILES 60    /* a 257th tile; of qm_count_on, one more than words are lent */
 #define QM_TOO_MANY_PITS 61     /* an 8,193rd pit, over all tiles; of qm_count_on, a pit or a sure pit more than words are lent */
 #define QM_TOO_MANY_ENTRIES 62  /* a log of more than 4,096 entries */
+#define QM_BLOCK_CUT 70         /* a block is cut */
+#define QM_BLOCK_KIND 71        /* a block of unknown kind */
+#define QM_BLOCK_ORDER 72       /* first to last, and the last is below the first */
+#define QM_BLOCK_MAP 73         /* a bitmap without bits, or whose last number is above the largest 64-bit number */
+#define QM_BLOCK_PADDING 74     /* a bitmap whose padding is not zero */
+#define QM_NOT_RISING 75        /* a list of numbers that does not rise */
+#define QM_BLOCKS_NO_ROOM 76    /* the output lent is too short for the blocks */
+#define QM_BLOCKS_TOO_LONG 77   /* blocks over 65,535 bytes */
 
 /* The sum of all `length` bytes modulo 2^32. Of no bytes it is 0. Nothing is written. */
 qm_u32 qm_checksum(const qm_byte *bytes, qm_size length);
@@ -407,6 +416,13 @@ qm_u32 qm_count_lines(qm_u64 *tile, qm_size tile_length, qm_u64 *pit, qm_size pi
    room for none; then 20 to 28, as the reader judges the bytes; then 13 where the numbers do not fit. */
 qm_u32 qm_read_message(const qm_byte *message, qm_size message_length, qm_i64 *numbers, qm_size numbers_length, qm_u64 *told, qm_size told_length);
 
+/* Writes the survey message of `count` numbers, in the order in which qm_read_message has them, to the start of `out`, with its checksum where `sum` is not 0, and
+   else with zeros in its place.
+
+   Answers 0 and writes to the first number of `told` how many bytes it has; what stands after it stays. Otherwise answers a refusal, and then nothing is written:
+   13 where `told` has room for none; then 23 to 29, as the writer judges the numbers; then 21; then 13 where the message does not fit. */
+qm_u32 qm_write_message(const qm_i64 *numbers, qm_size count, qm_u32 sum, qm_byte *out, qm_size out_length, qm_u64 *told, qm_size told_length);
+
 /* The pits of a tile out of a map, as qm_count_on fills it: their numbers, rising, to the start of `number`, and of each to the start of `certain` whether it is
    sure, 1 or 0; what stands there after them stays. They are the pits that the tile's line counts: as many as qm_count_lines tells, and as many of them sure.
 
@@ -443,6 +459,22 @@ enum {
    Answers 0 and writes the three numbers above to the start of `told`. Otherwise 13, and writes nothing, where `rows` has room for fewer rows, or `told` for
    fewer numbers. Of numbers that are no message it says what comes of them: past their end they are read as 0. */
 qm_u32 qm_marks(const qm_i64 *numbers, qm_size numbers_length, qm_i64 *rows, qm_size rows_length, qm_u64 *told, qm_size told_length);
+
+/* Acknowledge blocks: which numbers arrived. A block is one number, first to last, or a bitmap. */
+
+/* The most bytes of a list of blocks. */
+#define QM_MAX_BLOCKS 65535
+
+/* Whether the blocks in `length` bytes acknowledge a number. Answers 0 and writes 1 or 0 to the first number of `told`; what stands after it stays. Otherwise answers
+   a refusal, and then nothing is written: 13 where `told` has room for none; then 77; then at each block 71, 70, 72, 73, 74. All blocks are read, so a bad one
+   refuses after one that acknowledges the number. */
+qm_u32 qm_acks_ask(const qm_byte *blocks, qm_size length, qm_u64 number, qm_u64 *told, qm_size told_length);
+
+/* Writes the blocks of `count` numbers, which must rise, to the start of `out`: a lone number as a single, each longer unbroken run as first to last. No bitmaps.
+
+   Answers 0 and writes to the first number of `told` how many bytes they take; what stands after them stays. Otherwise answers a refusal, and then nothing is
+   written: 13 where `told` has room for none; then 75, 77, 76. It needs 65 KiB of stack. */
+qm_u32 qm_acks_write(const qm_u64 *numbers, qm_size count, qm_byte *out, qm_size out_length, qm_u64 *told, qm_size told_length);
 
 #ifdef __cplusplus
 }
