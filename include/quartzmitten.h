@@ -1,10 +1,11 @@
 /* Quartzmitten for a C host: the checksum, the datagram reader, the cutter, the receiver, the sequence watch, the log's writer and reader, and the
-   index and the count of a log, and of a season of logs; survey messages as numbers, and which pits a map has; acknowledge blocks.
+   index and the count of a log, and of a season of logs; survey messages as numbers, and which pits a map has; acknowledge blocks; the tide
+   gauge's packets.
 
    Link the archives libhost.a, libhost_state.a (qm_open, qm_forget, qm_lengths), libhost_receiver.a (qm_receive, qm_receive_within), libhost_flight.a
    (qm_log_first, qm_log_next, qm_watch_see), libhost_index.a (qm_index, qm_find), libhost_count.a (qm_count), libhost_season.a (qm_count_on,
-   qm_count_lines), libhost_pits.a (qm_read_message, qm_pits, qm_marks), libhost_acks.a (qm_acks_ask, qm_acks_write) and libhost_messages.a
-   (qm_write_message), or those whose functions are called: the toolchain's `rt staticlib host`, `rt staticlib host_state` and so on write them (x86-64 Linux). No other header is needed.
+   qm_count_lines), libhost_pits.a (qm_read_message, qm_pits, qm_marks), libhost_acks.a (qm_acks_ask, qm_acks_write), libhost_gauge.a
+   (qm_moss_read, qm_moss_message, qm_moss_write, qm_gauge_see) and libhost_messages.a (qm_write_message), or those whose functions are called: the toolchain's `rt staticlib host`, `rt staticlib host_state` and so on write them (x86-64 Linux). No other header is needed.
 
    What holds for all of them:
    - They end for any bytes and any lengths, keep no state of their own, ask the system for nothing, and may be called from any thread.
@@ -63,6 +64,12 @@ typedef unsigned long long qm_size; /* a length, a place or a number of elements
 #define QM_LOG_CUT 43           /* a log that is empty, or ends inside an entry */
 #define QM_INDEX_FULL 44        /* an index of more than 4,096 entries */
 #define QM_LOG_LIMIT 45         /* a log's payload limit over 1,048,576 */
+#define QM_PACKET_SHORT 50      /* a gauge's packet of fewer than 19 bytes */
+#define QM_PACKET_LENGTH 51     /* not of the length that it says, or over 65,535 bytes; to be written: over 65,535 bytes */
+#define QM_PACKET_TYPE 52       /* a type that is not U, H or E */
+#define QM_PACKET_BLOCKS 53     /* message blocks that do not fill the packet exactly, or a block in H or E */
+#define QM_NO_SUCH_MESSAGE 54   /* the message asked for is not below the number of messages */
+#define QM_PACKET_NO_ROOM 55    /* the output lent is too short for the packet */
 #define QM_TOO_MANY_TILES 60    /* a 257th tile; of qm_count_on, one more than words are lent */
 #define QM_TOO_MANY_PITS 61     /* an 8,193rd pit, over all tiles; of qm_count_on, a pit or a sure pit more than words are lent */
 #define QM_TOO_MANY_ENTRIES 62  /* a log of more than 4,096 entries */
@@ -475,6 +482,46 @@ qm_u32 qm_acks_ask(const qm_byte *blocks, qm_size length, qm_u64 number, qm_u64 
    Answers 0 and writes to the first number of `told` how many bytes they take; what stands after them stays. Otherwise answers a refusal, and then nothing is
    written: 13 where `told` has room for none; then 75, 77, 76. It needs 65 KiB of stack. */
 qm_u32 qm_acks_write(const qm_u64 *numbers, qm_size count, qm_byte *out, qm_size out_length, qm_u64 *told, qm_size told_length);
+
+/* The tide gauge's packets: 4 bytes of length, a session of QM_SESSION bytes, 4 of sequence, a type, 'U' data, 'H' heartbeat or 'E' end of session, and of U
+   message blocks, each a length of 2 bytes and the message. */
+#define QM_SESSION 10
+
+/* The places of the numbers that qm_moss_read writes. */
+enum {
+    QM_MOSS_SESSION,  /* where the session begins in the packet */
+    QM_MOSS_SEQUENCE, /* the number of the first message */
+    QM_MOSS_TYPE,     /* the type's letter */
+    QM_MOSS_COUNT,    /* how many messages it carries */
+    QM_MOSS           /* four */
+};
+
+/* Reads a packet. Answers 0 and writes the four numbers above to the start of `told`; what stands after them stays. Otherwise answers a refusal, and then nothing is
+   written: 13 where `told` has room for fewer; then 50, 51, 52, 53. */
+qm_u32 qm_moss_read(const qm_byte *packet, qm_size length, qm_u64 *told, qm_size told_length);
+
+/* Where message n (from 0) of a packet begins, and its length. Answers 0 and writes the two to the start of `told`; what stands after them stays. Otherwise answers a
+   refusal, and then nothing is written: 13 where `told` has room for fewer; then 50, 51, 52, 53, 54. */
+qm_u32 qm_moss_message(const qm_byte *packet, qm_size length, qm_size n, qm_u64 *told, qm_size told_length);
+
+/* Writes a packet with these message blocks, as they are to lie, to the start of `out`. The first QM_SESSION bytes of `session` are its session.
+
+   Answers 0 and writes its length to the first number of `told`; what stands after it stays. Otherwise answers a refusal, and then nothing is written: 13 where
+   `session` is shorter or `told` has room for none; then 51, 52, 53, 55. */
+qm_u32 qm_moss_write(const qm_byte *session, qm_size session_length, qm_u32 sequence, qm_byte type, const qm_byte *blocks, qm_size blocks_length, qm_byte *out,
+                     qm_size out_length, qm_u64 *told, qm_size told_length);
+
+/* The words of a gauge: 1 once a session was heard, the number of its last message, and the session as a number of eight bytes and one of two. Words of zeros are
+   a gauge that has heard nothing. */
+#define QM_GAUGE 4
+
+/* What the sequence watch says of a packet: as qm_watch_see, of one sender, where a new session is QM_WATCH_FIRST, and what is missing counts messages. It moves to
+   the packet's last message unless it is QM_WATCH_SAME or QM_WATCH_LATE.
+
+   Answers (what it says) * 2^32 + (the number beside it, or 0). Otherwise a refusal, which is below 2^32 as no other answer is: 13 where `gauge` has fewer than
+   QM_GAUGE words; then 50, 51, 52, 53. Then, and where the watch does not move, nothing is written. What stands after the four words stays. QM_WATCH_KIND and
+   QM_WATCH_NUMBER are the halves of the answer. */
+qm_u64 qm_gauge_see(qm_u64 *gauge, qm_size gauge_length, const qm_byte *packet, qm_size length);
 
 #ifdef __cplusplus
 }

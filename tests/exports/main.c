@@ -1,11 +1,11 @@
-/* Calls the exports for acknowledge blocks, the gauge's packets and survey messages, as standard input says, and prints what came of each call. Numbers are little-
+/* Calls the exports for acknowledge blocks, survey messages and the gauge's packets, as standard input says, and prints what came of each call. Numbers are little-
    endian, of 64 bits. A call is its number below, then its arguments in the header's order: a number as it is, a list as how many elements it has and its
    bytes. What comes back is the answer, whether all canaries stand, and each list that may be written, as it is then. */
 
 #include "../../include/quartzmitten.h"
 #include "../host/lent.h"
 
-enum { LISTS = 3, ROOM = 1 << 21 };
+enum { LISTS = 4, ROOM = 1 << 21 };
 
 static struct region lent[LISTS];
 static u64 many[LISTS];
@@ -66,8 +66,41 @@ static void write_message(void) {
     say(list[2], many[2] * 8);
 }
 
+static void moss_read(void) {
+    lend(0, 1);
+    lend(1, 8);
+    answered(qm_moss_read(list[0], many[0], (qm_u64 *) list[1], many[1]));
+    say(list[1], many[1] * 8);
+}
+
+static void moss_message(void) {
+    lend(0, 1);
+    u64 n = number();
+    lend(1, 8);
+    answered(qm_moss_message(list[0], many[0], n, (qm_u64 *) list[1], many[1]));
+    say(list[1], many[1] * 8);
+}
+
+static void moss_write(void) {
+    lend(0, 1);
+    u64 sequence = number(), kind = number();
+    lend(1, 1);
+    lend(2, 1);
+    lend(3, 8);
+    answered(qm_moss_write(list[0], many[0], (qm_u32) sequence, (qm_byte) kind, list[1], many[1], list[2], many[2], (qm_u64 *) list[3], many[3]));
+    say(list[2], many[2]);
+    say(list[3], many[3] * 8);
+}
+
+static void gauge_see(void) {
+    lend(0, 8);
+    lend(1, 1);
+    answered(qm_gauge_see((qm_u64 *) list[0], many[0], list[1], many[1]));
+    say(list[0], many[0] * 8);
+}
+
 int main(void) {
-    static void (*const calls[])(void) = {acks_ask, acks_write, write_message};
+    static void (*const calls[])(void) = {acks_ask, acks_write, write_message, moss_read, moss_message, moss_write, gauge_see};
     for (int i = 0; i < LISTS; i++) {
         region_take(&lent[i], ROOM);
         region_lend(&lent[i], 0, 0);
