@@ -19,7 +19,6 @@ use Rattle.wire.specs.Signed.{unsigned}
 use Rattle.wire.proofs.Choices.{never}
 use Rattle.wire.proofs.Numbers.{length-bytes}
 use Rattle.wire.proofs.Overlays.{overlay-append, overlay-sets}
-use Rattle.wire.proofs.Signs.{halves}
 use Rattle.lmcp.specs.Limits.{series}
 use Rattle.lmcp.specs.Table.{signedKind, Table}
 use Rattle.lmcp.specs.Value.{fits}
