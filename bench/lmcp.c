@@ -1,9 +1,9 @@
-// Messages of a kind and a length, read into numbers and written again by the proved functions and by the plain ones (plain_lmcp.c). `lmcp` beside it
-// builds it and says what it prints.
-//   longest               the longest message
-//   check N               N messages, most of them damaged, and lists: both give the same answers and leave the same numbers and bytes
-//   once WHO KIND LENGTH  read once and written once by WHO, proved or plain, to be counted by a tool
-//   time KIND LENGTH      how many numbers, and nanoseconds a byte, read and written by each: of 40 rounds the best counts, since the machine may be shared
+// Messages of a kind and a length, read into numbers and written again by the proved functions, by plain ones that walk the table (plain_lmcp.c) and by
+// plain ones written out type by type (hand_lmcp.c). `lmcp` beside it builds it and says what it prints.
+//   longest                    the longest message
+//   check N                    N messages, most of them damaged, and lists: all give the same answers and leave the same numbers and bytes
+//   once WHO WHAT KIND LENGTH  read or written once (WHAT: read or write) by WHO, proved, plain or hand, to be counted by a tool; by none, all but that
+//   time KIND LENGTH           how many numbers, and nanoseconds a byte, read and written by each: of 40 rounds the best counts, since the machine may be shared
 // KIND: marks (PitMarks with their places, and nulls for the rest), nulls, or note (one long text).
 #include "../tools/system.h"
 
@@ -16,6 +16,15 @@ u64 proved_read(const u8 *message, u64 length, i64 *list, u64 room);
 u64 proved_write(const i64 *list, u64 n, u8 *out, u64 room);
 u64 plain_read(const u8 *message, u64 length, i64 *list, u64 room);
 u64 plain_write(const i64 *list, u64 n, u8 *out, u64 room);
+u64 hand_read(const u8 *message, u64 length, i64 *list, u64 room);
+u64 hand_write(const i64 *list, u64 n, u8 *out, u64 room);
+
+typedef u64 reader(const u8 *message, u64 length, i64 *list, u64 room);
+typedef u64 writer(const i64 *list, u64 n, u8 *out, u64 room);
+enum { WHO = 3 };
+static const char *const names[WHO] = {"proved", "plain", "hand"};
+static reader *const read_by[WHO] = {proved_read, plain_read, hand_read};
+static writer *const write_by[WHO] = {proved_write, plain_write, hand_write};
 
 enum { LONGEST = 1048576, FRAME = 12, HEAD = 15, MARK = 45 };
 static u8 message[LONGEST], written[LONGEST], other[LONGEST];
@@ -85,19 +94,27 @@ static u64 any(u64 below) {
     return (seed >> 33) % below;
 }
 
-// Both read the message, and both write its list, into as much room as there is; then with a number changed.
+// All read the message, and all write its list, into as much room as there is; then with a number changed.
 static int same(u64 length) {
-    u64 room = any(4) ? LONGEST / 2 : any(200);
-    for (u64 i = 0; i < 300; i++) list[i] = again[i] = -7;
-    u64 n = proved_read(message, length, list, room);
-    if (plain_read(message, length, again, room) != n || memcmp(list, again, 300 * sizeof *list) != 0) return 0;
+    u64 room = any(4) ? LONGEST / 2 : any(200), n = 0;
+    for (int who = 0; who < WHO; who++) {
+        i64 *to = who == 0 ? list : again;
+        for (u64 i = 0; i < 300; i++) to[i] = -7;
+        u64 found = read_by[who](message, length, to, room);
+        if (who == 0) n = found;
+        if (found != n || memcmp(list, to, 300 * sizeof *list) != 0) return 0;
+    }
     if (n > LONGEST) return 1;
     if (any(2)) list[any(n)] = (i64)any(300) - 20;
-    u64 numbers = n - (any(4) ? 0 : any(n));
-    u64 bytes = any(4) ? LONGEST : any(2000);
-    for (u64 i = 0; i < 2000; i++) written[i] = other[i] = 9;
-    u64 m = proved_write(list, numbers, written, bytes);
-    return plain_write(list, numbers, other, bytes) == m && memcmp(written, other, 2000) == 0;
+    u64 numbers = n - (any(4) ? 0 : any(n)), bytes = any(4) ? LONGEST : any(2000), m = 0;
+    for (int who = 0; who < WHO; who++) {
+        u8 *to = who == 0 ? written : other;
+        for (u64 i = 0; i < 2000; i++) to[i] = 9;
+        u64 made = write_by[who](list, numbers, to, bytes);
+        if (who == 0) m = made;
+        if (made != m || memcmp(written, to, 2000) != 0) return 0;
+    }
+    return 1;
 }
 
 static int check(u64 count) {
@@ -121,32 +138,32 @@ static int check(u64 count) {
 int main(int argc, char **argv) {
     if (argc == 2 && strcmp(argv[1], "longest") == 0) return printf("%llu\n", longest_message()) < 0;
     if (argc == 3 && strcmp(argv[1], "check") == 0) return check((u64)atol(argv[2]));
-    if (argc == 5 && strcmp(argv[1], "once") == 0) {
-        int proved = strcmp(argv[2], "proved") == 0;
-        u64 length = (u64)atol(argv[4]);
-        make(argv[3], length);
-        u64 n = proved ? proved_read(message, length, list, LONGEST) : plain_read(message, length, list, LONGEST);
-        u64 m = proved ? proved_write(list, n, written, LONGEST) : plain_write(list, n, written, LONGEST);
-        return m != length || memcmp(message, written, length) != 0;
+    if (argc == 6 && strcmp(argv[1], "once") == 0) {
+        u64 length = (u64)atol(argv[5]);
+        int who = 0;
+        while (who < WHO && strcmp(argv[2], names[who]) != 0) who++;
+        make(argv[4], length);
+        if (strcmp(argv[3], "read") == 0) return who < WHO && read_by[who](message, length, list, LONGEST) > LONGEST;
+        u64 n = plain_read(message, length, list, LONGEST);
+        return who < WHO && write_by[who](list, n, written, LONGEST) != length;
     }
     if (argc != 4 || strcmp(argv[1], "time") != 0) return 2;
     u64 length = (u64)atol(argv[3]), numbers = 0;
-    double best[4] = {1e18, 1e18, 1e18, 1e18};
+    double best[2 * WHO];
+    for (int i = 0; i < 2 * WHO; i++) best[i] = 1e18;
     make(argv[2], length);
-    for (int round = 0; round < 40; round++) {
-        double t[5];
-        t[0] = now();
-        numbers = proved_read(message, length, list, LONGEST);
-        t[1] = now();
-        proved_write(list, numbers, written, LONGEST);
-        t[2] = now();
-        plain_read(message, length, list, LONGEST);
-        t[3] = now();
-        plain_write(list, numbers, written, LONGEST);
-        t[4] = now();
-        for (int i = 0; i < 4; i++)
-            if (t[i + 1] - t[i] < best[i]) best[i] = t[i + 1] - t[i];
-    }
-    double n = (double)length;
-    return printf("%llu %.2f %.2f %.2f %.2f\n", numbers, best[0] / n, best[1] / n, best[2] / n, best[3] / n) < 0;
+    for (int round = 0; round < 40; round++)
+        for (int who = 0; who < WHO; who++) {
+            double t[3];
+            t[0] = now();
+            numbers = read_by[who](message, length, list, LONGEST);
+            t[1] = now();
+            write_by[who](list, numbers, written, LONGEST);
+            t[2] = now();
+            for (int i = 0; i < 2; i++)
+                if (t[i + 1] - t[i] < best[2 * who + i]) best[2 * who + i] = t[i + 1] - t[i];
+        }
+    printf("%llu", numbers);
+    for (int i = 0; i < 2 * WHO; i++) printf(" %.2f", best[i] / (double)length);
+    return printf("\n") < 0;
 }

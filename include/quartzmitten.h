@@ -1,15 +1,19 @@
 /* Quartzmitten for a C host: the checksum, the datagram reader, the cutter, the receiver, the sequence watch, the log's writer and reader, the
-   index of a log and the file that keeps it, and the count of a log, and of a season of logs; survey messages as numbers, and which pits a map has.
+   index of a log and the file that keeps it, and the count of a log, and of a season of logs; survey messages as numbers, and which pits a map has;
+   acknowledge blocks; the tide gauge's packets.
 
-   Link libquartzmitten.a, which tools/install lays down beside this header with a file for pkg-config; or, out of the tree, the archives libhost.a, libhost_state.a (qm_open, qm_forget, qm_lengths), libhost_receiver.a (qm_receive, qm_receive_within), libhost_flight.a
-   (qm_log_first, qm_log_next, qm_watch_see), libhost_index.a (qm_index, qm_find, qm_index_on, qm_index_file_write, qm_index_file_head,
-   qm_index_file_rows, qm_index_file_find), libhost_count.a (qm_count), libhost_season.a (qm_count_on, qm_count_lines) and libhost_pits.a
-   (qm_read_message, qm_pits, qm_marks), or those whose functions are called: the
-   toolchain's `rt staticlib host`, `rt staticlib host_state` and so on write them (x86-64 Linux). No other header is needed.
+   Link libquartzmitten.a, which tools/install lays down beside this header with a file for pkg-config; or, out of the tree, the archives libhost.a,
+   libhost_state.a (qm_open, qm_forget, qm_lengths), libhost_receiver.a (qm_receive, qm_receive_within), libhost_flight.a (qm_log_first, qm_log_next,
+   qm_watch_see), libhost_index.a (qm_index, qm_find, qm_index_on, qm_index_file_write, qm_index_file_head, qm_index_file_rows, qm_index_file_find),
+   libhost_count.a (qm_count), libhost_season.a (qm_count_on, qm_count_lines), libhost_pits.a (qm_read_message, qm_pits, qm_marks), libhost_acks.a
+   (qm_acks_ask, qm_acks_write), libhost_gauge.a (qm_moss_read, qm_moss_message, qm_moss_write, qm_gauge_see) and libhost_messages.a
+   (qm_write_message), or those whose functions are called: the toolchain's `rt staticlib host`, `rt staticlib host_state` and so on write them
+   (x86-64 Linux). No other header is needed.
 
    What holds for all of them:
    - They end for any bytes and any lengths, keep no state of their own, ask the system for nothing, and may be called from any thread. qm_count
-     needs QM_COUNT_STACK bytes of its stack, since the receiver that it counts with stands there; the others need 16 KiB at most.
+     needs QM_COUNT_STACK bytes of its stack, since the receiver that it counts with stands there, and qm_acks_write 65 KiB; the others need
+     16 KiB at most.
    - They read and write only the memory lent in the call. A refusal writes nothing, but for what qm_count and qm_count_on say
      of three of their own.
    - Lent memory is a pointer and how many elements stand there. The pointer is never null, also where the length is 0, and
@@ -58,6 +62,7 @@ typedef unsigned long long qm_size; /* a length, a place or a number of elements
 #define QM_MESSAGE_DEPTH 26     /* an object at depth 17 */
 #define QM_MESSAGE_CHAR 27      /* a char over 127 */
 #define QM_MESSAGE_LEFT 28      /* something left after the root */
+#define QM_MESSAGE_NUMBER 29    /* a number that its field cannot hold, or an unknown version (written only) */
 #define QM_EDITION 40           /* a log of no edition that is known: it begins with neither 1 nor 2 */
 #define QM_NOT_SHORTEST 41      /* a number of a log not in its shortest form, or a tenth byte above 1 */
 #define QM_KEPT_TOO_LONG 42     /* a datagram to keep, or kept, over 65,535 bytes */
@@ -66,9 +71,23 @@ typedef unsigned long long qm_size; /* a length, a place or a number of elements
 #define QM_LOG_LIMIT 45         /* a log's payload limit over 1,048,576 */
 #define QM_NOT_AN_INDEX 46      /* not an index file: another first byte, a length that is not that of its rows, or rows not sorted */
 #define QM_OTHER_LOG 47         /* an index file of another log: it covers more bytes than the log has, or a row leads to an entry of another key */
+#define QM_PACKET_SHORT 50      /* a gauge's packet of fewer than 19 bytes */
+#define QM_PACKET_LENGTH 51     /* not of the length that it says, or over 65,535 bytes; to be written: over 65,535 bytes */
+#define QM_PACKET_TYPE 52       /* a type that is not U, H or E */
+#define QM_PACKET_BLOCKS 53     /* message blocks that do not fill the packet exactly, or a block in H or E */
+#define QM_NO_SUCH_MESSAGE 54   /* the message asked for is not below the number of messages */
+#define QM_PACKET_NO_ROOM 55    /* the output lent is too short for the packet */
 #define QM_TOO_MANY_TILES 60    /* a 257th tile; of qm_count_on, one more than words are lent */
 #define QM_TOO_MANY_PITS 61     /* an 8,193rd pit, over all tiles; of qm_count_on, a pit or a sure pit more than words are lent */
 #define QM_TOO_MANY_ENTRIES 62  /* a log of more than 4,096 entries */
+#define QM_BLOCK_CUT 70         /* a block is cut */
+#define QM_BLOCK_KIND 71        /* a block of unknown kind */
+#define QM_BLOCK_ORDER 72       /* first to last, and the last is below the first */
+#define QM_BLOCK_MAP 73         /* a bitmap without bits, or whose last number is above the largest 64-bit number */
+#define QM_BLOCK_PADDING 74     /* a bitmap whose padding is not zero */
+#define QM_NOT_RISING 75        /* a list of numbers that does not rise */
+#define QM_BLOCKS_NO_ROOM 76    /* the output lent is too short for the blocks */
+#define QM_BLOCKS_TOO_LONG 77   /* blocks over 65,535 bytes */
 
 /* The sum of all `length` bytes modulo 2^32. Of no bytes it is 0. Nothing is written. */
 qm_u32 qm_checksum(const qm_byte *bytes, qm_size length);
@@ -467,6 +486,13 @@ qm_u32 qm_count_lines(qm_u64 *tile, qm_size tile_length, qm_u64 *pit, qm_size pi
    room for none; then 20 to 28, as the reader judges the bytes; then 13 where the numbers do not fit. */
 qm_u32 qm_read_message(const qm_byte *message, qm_size message_length, qm_i64 *numbers, qm_size numbers_length, qm_u64 *told, qm_size told_length);
 
+/* Writes the survey message of `count` numbers, in the order in which qm_read_message has them, to the start of `out`, with its checksum where `sum` is not 0, and
+   else with zeros in its place.
+
+   Answers 0 and writes to the first number of `told` how many bytes it has; what stands after it stays. Otherwise answers a refusal, and then nothing is written:
+   13 where `told` has room for none; then 23 to 29, as the writer judges the numbers; then 21; then 13 where the message does not fit. */
+qm_u32 qm_write_message(const qm_i64 *numbers, qm_size count, qm_u32 sum, qm_byte *out, qm_size out_length, qm_u64 *told, qm_size told_length);
+
 /* The pits of a tile out of a map, as qm_count_on fills it: their numbers, rising, to the start of `number`, and of each to the start of `certain` whether it is
    sure, 1 or 0; what stands there after them stays. They are the pits that the tile's line counts: as many as qm_count_lines tells, and as many of them sure.
 
@@ -503,6 +529,62 @@ enum {
    Answers 0 and writes the three numbers above to the start of `told`. Otherwise 13, and writes nothing, where `rows` has room for fewer rows, or `told` for
    fewer numbers. Of numbers that are no message it says what comes of them: past their end they are read as 0. */
 qm_u32 qm_marks(const qm_i64 *numbers, qm_size numbers_length, qm_i64 *rows, qm_size rows_length, qm_u64 *told, qm_size told_length);
+
+/* Acknowledge blocks: which numbers arrived. A block is one number, first to last, or a bitmap. */
+
+/* The most bytes of a list of blocks. */
+#define QM_MAX_BLOCKS 65535
+
+/* Whether the blocks in `length` bytes acknowledge a number. Answers 0 and writes 1 or 0 to the first number of `told`; what stands after it stays. Otherwise answers
+   a refusal, and then nothing is written: 13 where `told` has room for none; then 77; then at each block 71, 70, 72, 73, 74. All blocks are read, so a bad one
+   refuses after one that acknowledges the number. */
+qm_u32 qm_acks_ask(const qm_byte *blocks, qm_size length, qm_u64 number, qm_u64 *told, qm_size told_length);
+
+/* Writes the blocks of `count` numbers, which must rise, to the start of `out`: a lone number as a single, each longer unbroken run as first to last. No bitmaps.
+
+   Answers 0 and writes to the first number of `told` how many bytes they take; what stands after them stays. Otherwise answers a refusal, and then nothing is
+   written: 13 where `told` has room for none; then 75, 77, 76. It needs 65 KiB of stack. */
+qm_u32 qm_acks_write(const qm_u64 *numbers, qm_size count, qm_byte *out, qm_size out_length, qm_u64 *told, qm_size told_length);
+
+/* The tide gauge's packets: 4 bytes of length, a session of QM_SESSION bytes, 4 of sequence, a type, 'U' data, 'H' heartbeat or 'E' end of session, and of U
+   message blocks, each a length of 2 bytes and the message. */
+#define QM_SESSION 10
+
+/* The places of the numbers that qm_moss_read writes. */
+enum {
+    QM_MOSS_SESSION,  /* where the session begins in the packet */
+    QM_MOSS_SEQUENCE, /* the number of the first message */
+    QM_MOSS_TYPE,     /* the type's letter */
+    QM_MOSS_COUNT,    /* how many messages it carries */
+    QM_MOSS           /* four */
+};
+
+/* Reads a packet. Answers 0 and writes the four numbers above to the start of `told`; what stands after them stays. Otherwise answers a refusal, and then nothing is
+   written: 13 where `told` has room for fewer; then 50, 51, 52, 53. */
+qm_u32 qm_moss_read(const qm_byte *packet, qm_size length, qm_u64 *told, qm_size told_length);
+
+/* Where message n (from 0) of a packet begins, and its length. Answers 0 and writes the two to the start of `told`; what stands after them stays. Otherwise answers a
+   refusal, and then nothing is written: 13 where `told` has room for fewer; then 50, 51, 52, 53, 54. */
+qm_u32 qm_moss_message(const qm_byte *packet, qm_size length, qm_size n, qm_u64 *told, qm_size told_length);
+
+/* Writes a packet with these message blocks, as they are to lie, to the start of `out`. The first QM_SESSION bytes of `session` are its session.
+
+   Answers 0 and writes its length to the first number of `told`; what stands after it stays. Otherwise answers a refusal, and then nothing is written: 13 where
+   `session` is shorter or `told` has room for none; then 51, 52, 53, 55. */
+qm_u32 qm_moss_write(const qm_byte *session, qm_size session_length, qm_u32 sequence, qm_byte type, const qm_byte *blocks, qm_size blocks_length, qm_byte *out,
+                     qm_size out_length, qm_u64 *told, qm_size told_length);
+
+/* The words of a gauge: 1 once a session was heard, the number of its last message, and the session as a number of eight bytes and one of two. Words of zeros are
+   a gauge that has heard nothing. */
+#define QM_GAUGE 4
+
+/* What the sequence watch says of a packet: as qm_watch_see, of one sender, where a new session is QM_WATCH_FIRST, and what is missing counts messages. It moves to
+   the packet's last message unless it is QM_WATCH_SAME or QM_WATCH_LATE.
+
+   Answers (what it says) * 2^32 + (the number beside it, or 0). Otherwise a refusal, which is below 2^32 as no other answer is: 13 where `gauge` has fewer than
+   QM_GAUGE words; then 50, 51, 52, 53. Then, and where the watch does not move, nothing is written. What stands after the four words stays. QM_WATCH_KIND and
+   QM_WATCH_NUMBER are the halves of the answer. */
+qm_u64 qm_gauge_see(qm_u64 *gauge, qm_size gauge_length, const qm_byte *packet, qm_size length);
 
 /* ---- hard to misuse: the same calls with memory of the right lengths
 

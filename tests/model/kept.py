@@ -1,10 +1,8 @@
-"""The index that is kept beside a log, in plain Python: its file, and what `qm index`, `qm index --check` and `qm find` say of a log and of such a file. It stands on
-the index of document 02, L11, without its 4,096."""
+"""The index that is kept beside a log, in plain Python: what `qm index`, `qm index --check` and `qm find` say of a log and of an index file. It stands on the index of
+document 02, L11, without its 4,096, and on the index file beside it."""
+from . import index_file as files
 from .index import accepted
-from .log import Refused, entries_in, entry_bytes, head_in, limits_in
-from .receiver import read
-
-EDITION, HEAD, ROW = 1, 17, 20
+from .log import Refused, entries_in, entry_bytes, head_in
 
 
 def ends(b):
@@ -31,7 +29,7 @@ def rows_of(b):
 # ---- the file
 
 def file_of(rows, covered):
-    return bytes([EDITION]) + covered.to_bytes(8, "big") + len(rows).to_bytes(8, "big") + b"".join(s.to_bytes(8, "big") + q.to_bytes(4, "big") + p.to_bytes(8, "big") for s, q, p in rows)
+    return files.file_of(covered, rows)
 
 
 def index_file(b):
@@ -41,21 +39,16 @@ def index_file(b):
 
 def read_file(file):
     """Covered bytes and rows; None where it has not the form."""
-    if len(file) < HEAD or file[0] != EDITION or len(file) != HEAD + ROW * int.from_bytes(file[9:17], "big"):
+    try:
+        covered, many = files.head_of(file)
+    except Refused:
         return None
-    at = [file[i:i + ROW] for i in range(HEAD, len(file), ROW)]
-    return int.from_bytes(file[1:9], "big"), [tuple(int.from_bytes(x, "big") for x in (r[:8], r[8:12], r[12:])) for r in at]
+    return covered, [files.row(file, i) for i in range(many)]
 
 
 def leads(b, row):
     """Whether the entry at a row's place has its key."""
-    sender, sequence, place = row
-    try:
-        e = entries_in(b[:head_in(b)[0]] + b[place:place + 65565])[0][:1]
-    except Refused:
-        return False
-    said = read(e[0][2], *limits_in(b)) if e else 0
-    return isinstance(said, dict) and (e[0][0], said["sequence"]) == (sender, sequence)
+    return files.key_at(b, row[2]) == row[:2]
 
 
 def doubt(file, b, looked=None):

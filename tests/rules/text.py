@@ -15,9 +15,7 @@ OVER = {
     "lmcp Sofar",
 }
 # files of specs/ with definitions that nothing public reaches
-NOT_INSIDE = {
-    "lmcp_writer/Steps",
-}
+NOT_INSIDE = set()
 OPERATORS = set("→ × ≡ λ ≤ < + * : ⌝ ⌜ ∷ ++ = ⊎ - / % ^ && || when else if then in let".split())
 # a word that hands on the number of a refusal
 REFUSES = r"(?:\w+\.)?(?:\w*[rR]efus\w*|bad|broken|noReport|Unread|Unwritten)"

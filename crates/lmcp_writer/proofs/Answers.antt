@@ -1,47 +1,49 @@
--- From a walk of the list to the writer's answer. Assumes nothing.
-use mathlib.Core.Path.{_≡_, refl, ap, sym, _∙_, subst}
+-- From how long the message is, and the walk that writes, to the writer's answer. Assumes nothing.
+use mathlib.Core.Path.{_≡_, refl, ap, sym, _∙_}
 use mathlib.Core.Bool.{Bool, true, false}
 use mathlib.Core.List.{List, [], _∷_, _++_, append-assoc}
-use Prim.Native.Nat.{ℕ, suc, _+_, _-_, _≤_, _<_}
+use Prim.Native.Nat.{ℕ, _+_, _-_, _≤_, _<_}
 use native.Mathlib.Omega.{arith}
+use lib.Dec.{ltb}
 use lib.IntN.{ℤ, pos}
 use lib.ListN.{length, getD, take, drop, length-append}
-use lib.Seq.{sets, take-length}
+use lib.Seq.{sets}
 use lib.Signed.{mag}
-use borrow.Author.Tests.{lt-ltb, le-ltb, le-leb, lt-leb}
+use borrow.Author.Tests.{le-leb, lt-leb, ltb-false}
 use Rattle.wire.specs.Choice.{pick}
 use Rattle.wire.specs.Bytes.{bytes}
 use Rattle.wire.specs.Overlay.{overlay}
 use Rattle.wire.proofs.Numbers.{length-bytes}
 use Rattle.wire.proofs.Overlays.{overlay-sets, overlay-next, overlay-at}
-use Rattle.lmcp.specs.declared.Went.{Went}
 use Rattle.lmcp.specs.declared.Made.{Made}
 use Rattle.lmcp.specs.declared.Made.the-variants.{Bytes as Wrote, Refused}
-use Rattle.lmcp.specs.Limits.{maxMessage, magic}
+use Rattle.lmcp.specs.Limits.{maxMessage, magic, deepest}
 use Rattle.lmcp.specs.Run.{got, refused, whole}
 use Rattle.lmcp.specs.Table.{pitsurv}
-use Rattle.lmcp.specs.Write.{Write}
-use Rattle.lmcp.specs.Ends.{Sofar, Few15}
+use Rattle.lmcp.specs.Walk.{isNull, root}
+use Rattle.lmcp.specs.Write.{Write, writeHead}
 use Rattle.lmcp.specs.Message.{checksumOf, headOn, messageOn, framed, writeMessage, made, written, WrittenTo}
 use Rattle.lmcp.specs.Lists.{isVersion, writeList}
-use Rattle.lmcp.proofs.WalkPlaces.{run-is, run-left, run-done, laid-again, empty}
-use Rattle.lmcp_writer.specs.Steps.{Ends, Laid, writeRoot}
+use Rattle.lmcp.proofs.WalkPlaces.{run-is}
+use Rattle.lmcp_size.specs.Size.{sized}
+use Rattle.lmcp_size.specs.InsideSteps.{writeObject, writeRoot}
+use Rattle.lmcp_size.proofs.Answers.{message-length, list-version}
+use Rattle.lmcp_writer.specs.InsidePuts.{Ahead, Lays, Laid}
 
 head-length : (bs : List ℕ) (e : ℕ) → e ≡ 8 + length bs → length (headOn bs) ≡ e
 head-length bs e h = simp (length-append, length-bytes) (omega arith)
 
-cons-of : (l : List ℤ) → (length l ≡ 0 → ⊥) → l ≡ getD l 0 (pos 0) ∷ take (length l - 1) (drop 1 l)
-cons-of [] h = absurd (h refl)
-cons-of (x ∷ t) h = let n : suc (length t) - 1 ≡ length t = omega arith in ap (λ (m : List ℤ). x ∷ m) (sym (ap (λ (k : ℕ). take k t) n ∙ take-length t))
-
 -- ---- the head, the root and the checksum, one after the other
 
-module _ (v : ℕ) (l : List ℤ) (calculate : Bool) (e : ℕ) (out : List ℕ) (room : e ≤ length out) (o1 o2 o3 o4 : List ℕ) (u : ℕ) (is : u ≡ e - 8) (r : Went)
-    (w1 : o1 ≡ overlay out 0 magic) (w2 : o2 ≡ overlay o1 4 (bytes 4 u)) (w3 : Ends l o2 8 (writeRoot v l) r o3)
+module _ (v : ℕ) (l : List ℤ) (calculate : Bool) (e : ℕ) (out : List ℕ) (room : e ≤ length out) (o1 o2 o3 o4 : List ℕ) (u : ℕ) (is : u ≡ e - 8) (p q : ℕ)
+    (w1 : o1 ≡ overlay out 0 magic) (w2 : o2 ≡ overlay o1 4 (bytes 4 u)) (w3 : Lays l o2 8 (writeObject v 16 0 l) p q o3)
     (w4 : o4 ≡ overlay o3 e (bytes 4 (pick calculate (checksumOf (take e o3)) 0))) where
-  module _ (bs : List ℕ) (rest : List ℤ) (got-bs : writeRoot v l ≡ got bs rest) (ends-at : e ≡ 8 + length bs) where
+  module _ (bs : List ℕ) (rest : List ℤ) (got-bs : writeObject v 16 0 l ≡ got bs rest) (ends-at : e ≡ 8 + length bs) where
     rooted : o3 ≡ sets o2 8 bs
-    rooted = laid-again Few15 l o2 8 bs rest r o3 got-bs w3
+    rooted =
+        let x : got (w3 .ys) (drop p l) ≡ got bs rest = sym (run-is w3) ∙ got-bs in
+        let a : w3 .ys ≡ bs = cc in
+        w3 .laid ∙ ap (sets o2 8) a
 
     headed : o3 ≡ overlay out 0 (headOn bs)
     headed =
@@ -61,87 +63,117 @@ module _ (v : ℕ) (l : List ℤ) (calculate : Bool) (e : ℕ) (out : List ℕ) 
         overlay-next out (headOn bs) (bytes 4 (pick calculate (checksumOf (headOn bs)) 0)) o3 o4 e headed (sym (head-length bs e ends-at))
         (w4 ∙ ap (λ (x : List ℕ). overlay o3 e (bytes 4 (pick calculate (checksumOf x) 0))) front)
 
--- ---- the answer, by what the first walk of the list gave
+-- ---- the answer, by how long the message is
 
-module _ (v : ℕ) (l : List ℤ) (calculate : Bool) (out : List ℕ) where
-  abbrev Answer : Made → List ℕ → Type 0
-  Answer = WrittenTo (writeMessage (pitsurv v) calculate l) out
+unlike : {A : Type 0} {n m : ℕ} → _≡_ {A = Made} (Wrote n) (Refused m) → A
+unlike e = absurd (let z : _≡_ {A = ℕ} 0 1 = cc in omega arith)
 
-  refuses : (k : ℕ) → writeMessage (pitsurv v) calculate l ≡ refused k → Answer (Refused k) out
-  unfolding made written
-  refuses k e = rw e (record { gave = refl; left = refl })
+pub answer-refused : (X : Write) (out : List ℕ) (n : ℕ) → Refused n ≡ sized X → WrittenTo X out (Refused n) out
+unfolding made written
+answer-refused (got m r) out n e = unlike (sym e)
+answer-refused (refused k) out n e = record { gave = e; left = refl }
 
-  pub answer-stopped : (k : ℕ) → writeRoot v l ≡ refused k → Answer (Refused k) out
-  unfolding writeMessage framed whole
-  answer-stopped k e = refuses k (ap (λ (X : Write). framed calculate (whole X)) e)
+pub answer-short : (X : Write) (out : List ℕ) (n : ℕ) → Wrote n ≡ sized X → length out < n → WrittenTo X out (Refused 13) out
+unfolding made written
+answer-short (got m r) out n e h =
+    let a : n ≡ length m = cc in
+    let i : length out < length m = omega arith in
+    record { gave = simp (lt-leb (length m) (length out) i); left = simp (lt-leb (length m) (length out) i) }
+answer-short (refused k) out n e h = unlike e
 
-  module _ (at e : ℕ) (h : Sofar Few15 l [] 8 (writeRoot v l) (got []) at e []) where
-    pub answer-left : (at ≡ length l → ⊥) → Answer (Refused 28) out
-    unfolding writeMessage framed
-    answer-left d = refuses 28 (ap (framed calculate) (run-left h d))
+answer-good : (X : Write) (out after : List ℕ) (n : ℕ) → Wrote n ≡ sized X → n ≤ length out → ((m : List ℕ) (r : List ℤ) → X ≡ got m r → after ≡ overlay out 0 m) → WrittenTo X out (Wrote n) after
+unfolding made written
+answer-good (got m r) out after n e h f =
+    let a : n ≡ length m = cc in
+    let i : length m ≤ length out = omega arith in
+    record { gave = simp (le-leb (length m) (length out) i) (ap Wrote a); left = simp (le-leb (length m) (length out) i) (f m r refl) }
+answer-good (refused k) out after n e h f = unlike e
 
-    module _ (d : at ≡ length l) where
-      pub answer-long : maxMessage < e + 4 → Answer (Refused 21) out
-      unfolding writeMessage framed
-      answer-long k = refuses 21 (ap (framed calculate) (run-done h d) ∙ simp (lt-ltb maxMessage (12 + length (h .ys)) (omega (arith, h .place))))
+-- ---- a list of which nothing is wrong
 
-      module _ (k : e + 4 ≤ maxMessage) where
-        message : List ℕ
-        message = messageOn calculate (h .ys)
+no : {A : Type 0} {n : ℕ} {ys : List ℕ} {m : List ℤ} → _≡_ {A = Write} (refused n) (got ys m) → A
+no e = absurd (let z : _≡_ {A = ℕ} 0 1 = cc in omega arith)
 
-        size : length message ≡ e + 4
-        unfolding message
-        size =
-            let s = bytes 4 (pick calculate (checksumOf (headOn (h .ys))) 0) in
-            length-append (headOn (h .ys)) s ∙ omega (arith, head-length (h .ys) e (h .place), length-bytes 4 (pick calculate (checksumOf (headOn (h .ys))) 0))
+-- a list, of which a message is written, begins with its version
+pub some-list : (calculate : Bool) (l : List ℤ) (n : ℕ) → Wrote n ≡ sized (writeList calculate l) → (length l ≡ 0 → ⊥) × (isVersion (getD l 0 (pos 0)) ≡ true)
+unfolding writeList
+some-list calculate [] n e = unlike e
+some-list calculate (z ∷ l) n e = (λ q. (let x : ⊥ = omega (arith, q) in x), by (isVersion z) refl e)
+  where
+    by : (b : Bool) → isVersion z ≡ b → Wrote n ≡ sized (pick b (writeMessage (pitsurv (mag z)) calculate l) (refused 29)) → isVersion z ≡ true
+    by true f q = f
+    by false f q = unlike q
 
-        writes : writeMessage (pitsurv v) calculate l ≡ got message []
-        unfolding writeMessage framed message
-        writes =
-            ap (framed calculate) (run-done h d) ∙ simp (le-ltb maxMessage (12 + length (h .ys)) (omega (arith, h .place)))
+whole-got : (X : Write) (zs : List ℕ) (r : List ℤ) → whole X ≡ got zs r → X ≡ got zs []
+unfolding whole
+whole-got (got ys []) zs r e = let a : ys ≡ zs = cc in ap (λ (l : List ℕ). got l []) a
+whole-got (got ys (x ∷ q)) zs r e = no e
+whole-got (refused n) zs r e = no e
 
-        pub answer-short : length out < e + 4 → Answer (Refused 13) out
-        unfolding made written
-        answer-short j =
-            let i : length out < length message = omega (arith, size) in
-            rw writes (record { gave = simp (lt-leb (length message) (length out) i); left = simp (lt-leb (length message) (length out) i) })
+root-got : (v : ℕ) (l : List ℤ) (zs : List ℕ) (r : List ℤ) → writeRoot v l ≡ got zs r → writeObject v deepest 0 l ≡ got zs r
+unfolding root
+root-got v l zs r e = by (isNull (writeHead (pitsurv v) deepest 0 l)) e
+  where
+    by : (b : Bool) → pick b (refused 23) (writeObject v deepest 0 l) ≡ got zs r → writeObject v deepest 0 l ≡ got zs r
+    by true q = no q
+    by false q = q
 
-        pub answer-good : e + 4 ≤ length out → (o : List ℕ) → Laid v l calculate e out o → Answer (Wrote (e + 4)) o
-        unfolding made written message
-        answer-good room o all =
-            let i : length message ≤ length out = omega (arith, size) in
-            rw writes
-            (record {
-              gave = simp (le-leb (length message) (length out) i) (ap Wrote (sym size));
-              left = simp (le-leb (length message) (length out) i) (all (h .ys) (drop at l) (run-is h) (h .place));
-            })
+-- the root's bytes, of a message that is written
+pub record Rooted (v : ℕ) (l : List ℤ) (calculate : Bool) (n : ℕ) : Type 0 where
+  pub bs : List ℕ
+  pub is : writeObject v 16 0 l ≡ got bs []
+  pub all : writeMessage (pitsurv v) calculate l ≡ got (messageOn calculate bs) []
+  pub long : n ≡ 12 + length bs
+  pub most : n ≤ maxMessage
 
--- ---- a list, by its version
+rooted-by : (v : ℕ) (l : List ℤ) (calculate : Bool) (n : ℕ) (X : Write) → whole (writeRoot v l) ≡ X → writeMessage (pitsurv v) calculate l ≡ framed calculate X → Wrote n ≡ sized (framed calculate X) → Rooted v l calculate n
+unfolding framed whole
+rooted-by v l calculate n (got bs r) w m e = by (ltb maxMessage (12 + length bs)) refl e
+  where
+    none : r ≡ []
+    none =
+        let x = whole-got (writeRoot v l) bs r w in
+        let y : whole (writeRoot v l) ≡ got bs [] = ap whole x in
+        let z : got bs r ≡ got bs [] = sym w ∙ y in
+        cc
 
-module _ (calculate : Bool) (l : List ℤ) (out : List ℕ) where
-  pub list-empty : length l ≡ 0 → WrittenTo (writeList calculate l) out (Refused 25) out
-  unfolding writeList made written
-  list-empty e = rw (empty l e) (record { gave = refl; left = refl })
+    by : (b : Bool) → ltb maxMessage (12 + length bs) ≡ b → Wrote n ≡ sized (pick b (refused 21) (got (messageOn calculate bs) r)) → Rooted v l calculate n
+    by true f q = unlike q
+    by false f q =
+        let a : n ≡ length (messageOn calculate bs) = cc in
+        record {
+          bs = bs;
+          is = root-got v l bs [] (whole-got (writeRoot v l) bs r w);
+          all = m ∙ ap (λ (b : Bool). pick b (refused 21) (got (messageOn calculate bs) r)) f ∙ ap (got (messageOn calculate bs)) none;
+          long = a ∙ message-length calculate bs;
+          most = let m = ltb-false maxMessage (12 + length bs) f in omega (arith, m, a, message-length calculate bs);
+        }
+rooted-by v l calculate n (refused k) w m e = unlike e
 
-  module _ (some : length l ≡ 0 → ⊥) where
-    first : ℤ
-    first = getD l 0 (pos 0)
+pub rooted-of : (v : ℕ) (l : List ℤ) (calculate : Bool) (n : ℕ) → Wrote n ≡ sized (writeMessage (pitsurv v) calculate l) → Rooted v l calculate n
+unfolding writeMessage
+rooted-of v l calculate n e = rooted-by v l calculate n (whole (writeRoot v l)) refl refl e
 
-    -- the rest, as the code takes it
-    rest : List ℤ
-    rest = take (length l - 1) (drop 1 l)
+-- the whole list, as the code takes it: the rest behind its version
+module _ (calculate : Bool) (l : List ℤ) (n : ℕ) (e : Wrote n ≡ sized (writeList calculate l)) (v : ℕ) (is : v ≡ mag (getD l 0 (pos 0))) where
+  abbrev rest : List ℤ
+  rest = take (length l - 1) (drop 1 l)
 
-    cons : l ≡ first ∷ rest
-    unfolding first rest
-    cons = cons-of l some
+  same : writeList calculate l ≡ writeMessage (pitsurv v) calculate rest
+  same = let s = some-list calculate l n e in list-version l (s .0) (s .1) v is calculate
 
-    pub list-other : isVersion (getD l 0 (pos 0)) ≡ false → WrittenTo (writeList calculate l) out (Refused 29) out
-    unfolding first writeList made written
-    list-other f = let q : writeList calculate l ≡ refused 29 = ap (writeList calculate) cons ∙ rw f refl in rw q (record { gave = refl; left = refl })
+  pub root-of : Rooted v rest calculate n
+  root-of = rooted-of v rest calculate n (e ∙ ap sized same)
 
-    pub list-version : isVersion (getD l 0 (pos 0)) ≡ true → (v : ℕ) → v ≡ mag (getD l 0 (pos 0)) → (r : Made) (after : List ℕ)
-        → WrittenTo (writeMessage (pitsurv v) calculate (take (length l - 1) (drop 1 l))) out r after → WrittenTo (writeList calculate l) out r after
-    unfolding first rest writeList
-    list-version f v e r after h =
-        let q : writeList calculate l ≡ writeMessage (pitsurv (mag first)) calculate rest = ap (writeList calculate) cons ∙ rw f refl in
-        subst (λ (X : Write). WrittenTo X out r after) (ap (λ (n : ℕ). writeMessage (pitsurv n) calculate rest) e ∙ sym q) h
+  pub root-ahead : Ahead (writeObject v 16 0 rest) 8 (n - 4)
+  root-ahead = record { bs = root-of .bs; rest = []; is = root-of .is; fits = omega (arith, root-of .long); small = omega (arith, root-of .most) }
+
+  pub list-good : (out after : List ℕ) → n ≤ length out → Laid v rest calculate (n - 4) out after → WrittenTo (writeList calculate l) out (Wrote n) after
+  list-good out after h laid =
+      let R = root-of in
+      let k : n - 4 ≡ 8 + length (R .bs) = omega (arith, R .long) in
+      answer-good (writeList calculate l) out after n e h
+      (λ m r q.
+      let x : got m r ≡ got (messageOn calculate (R .bs)) [] = sym q ∙ same ∙ R .all in
+      let a : m ≡ messageOn calculate (R .bs) = cc in
+      laid (R .bs) [] (R .is) k ∙ ap (overlay out 0) (sym a))

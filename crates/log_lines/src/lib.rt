@@ -1,5 +1,5 @@
 // What the programs over a log share: their lines.
-ghost use Rattle.output.specs.Output.{Pours};
+ghost use Rattle.output.specs.Output.{Pours, Finishes};
 ghost use Rattle.log_lines.specs.Lines.{entryLine, lastLine, longerLine};
 use log::EntryAt;
 use log::Step;
@@ -37,4 +37,20 @@ pub fn pour_longer(out: &mut [u8], at: usize, most: u64) -> usize
 {
     let next = output::pour_counted(out, at, b"longer than ", most);
     output::pour(out, next, b" bytes\n")
+}
+
+// The same, and it is written out: such a program says nothing else. Answers whether the system took it.
+pub fn finish_longer(out: &mut [u8], most: u64) -> bool
+    ensures { λ r. ⌜ Finishes (now (out .entry)) 0 (longerLine most) (now (out .exit)) r ⌝ }
+{
+    let end = pour_longer(out, 0, most);
+    output::write_out(out, end)
+}
+
+// The last line, and all that is not written out yet. Answers whether the system took all that was written out.
+pub fn finish(out: &mut [u8], at: usize, n: u64, step: Step) -> bool
+    ensures { λ r. ⌜ Finishes (now (out .entry)) at (lastLine step n) (now (out .exit)) r ⌝ }
+{
+    let end = pour_last(out, at, n, step);
+    output::write_out(out, end)
 }

@@ -1,13 +1,13 @@
--- An entry that was appended where room was made goes out, and no refusal comes there. Assumes nothing.
+-- An entry that was appended to a space of its own goes out, and no refusal comes there. Assumes nothing.
 use mathlib.Core.Path.{_≡_, refl, sym, _∙_, ap, subst}
 use mathlib.Core.List.{List}
 use Prim.Native.Nat.{ℕ, _+_, _≤_}
 use native.Mathlib.Omega.{arith}
-use lib.ListN.{length}
+use lib.ListN.{length, take}
 use borrow.Author.Tests.{le-ltb}
 use Rattle.datagram.specs.Limits.{maxDatagram}
-use Rattle.output.specs.Output.{drained}
-use Rattle.output.proofs.Sending.{sends-line, drained-fits}
+use Rattle.output.specs.Output.{Pours}
+use Rattle.output.proofs.Sending.{pours-is, put-front}
 use Rattle.log.specs.Entries.{Entry, entryOf, entryBytes}
 use Rattle.log_append.specs.Writes.{Answer, wrote, refused, says, appendAnswer, output, Appended}
 use Rattle.log_append.specs.declared.Written.{Written}
@@ -15,34 +15,28 @@ use Rattle.log_append.specs.declared.Written.the-variants.{Next, Refused}
 use Rattle.log_append.proofs.Writing.{entry-most}
 use Rattle.log_write.specs.Kept.{entryLimit, Keeps}
 
-module _ (out : List ℕ) (at : ℕ) (e : Entry) (short : length (e .datagram) ≤ maxDatagram) (room : entryLimit ≤ length out) (within : at ≤ length out) where
-  abbrev from : ℕ
-  from = drained (length out) at entryLimit
+module _ (space : List ℕ) (e : Entry) (short : length (e .datagram) ≤ maxDatagram) (room : entryLimit ≤ length space) where
+  fits : 0 + length (entryBytes e) ≤ length space
+  fits = omega (arith, entry-most e, short, room)
 
-  fits : from + length (entryBytes e) ≤ length out
-  fits = omega (arith, drained-fits out at entryLimit within room, entry-most e)
-
-  answered : appendAnswer (length out) from e ≡ wrote (from + length (entryBytes e))
+  answered : appendAnswer (length space) 0 e ≡ wrote (0 + length (entryBytes e))
   unfolding appendAnswer
-  answered = rw (le-ltb maxDatagram (length (e .datagram)) short, le-ltb (length out) (from + length (entryBytes e)) fits) refl
+  answered = rw (le-ltb maxDatagram (length (e .datagram)) short, le-ltb (length space) (0 + length (entryBytes e)) fits) refl
 
-pub kept-sends : (out : List ℕ) (at from : ℕ) (e : Entry) (r : Written) (out′ : List ℕ) → from ≡ drained (length out) at entryLimit → Appended out from e r out′
-    → (next : ℕ) → r ≡ Next next → Keeps out at e out′ next
-kept-sends out at from₀ e r out′ f k next g = λ short room within.
-    let k′ : Appended out (drained (length out) at entryLimit) e r out′ = subst (λ (p : ℕ). Appended out p e r out′) f k in
-    let a : says r ≡ wrote (drained (length out) at entryLimit + length (entryBytes e)) = k′ .answer ∙ answered out at e short room within in
-    let h : wrote next ≡ wrote (drained (length out) at entryLimit + length (entryBytes e)) = sym (ap says g) ∙ a in
-    let n : next ≡ drained (length out) at entryLimit + length (entryBytes e) = cc in
-    let w = k′ .left ∙ ap (λ (s : Answer). output s out (drained (length out) at entryLimit) (entryBytes e)) a in
-    let l : drained (length out) at entryLimit + length (entryBytes e) ≤ length out = fits out at e short room within in
-    sends-line entryLimit (omega (arith, entry-most e)) room within (record { wrote = w; next = omega arith })
+module _ (space space′ out out′ : List ℕ) (at : ℕ) (e : Entry) (r : Written) (room : entryLimit ≤ length space) (k : Appended space 0 e r space′) where
+  pub kept-pours : (n q : ℕ) → r ≡ Next n → Pours out at (take n space′) out′ q → Keeps out at e out′ q
+  kept-pours n q g p = λ short.
+      let a : says r ≡ wrote (0 + length (entryBytes e)) = k .answer ∙ answered space e short room in
+      let h : wrote n ≡ wrote (0 + length (entryBytes e)) = sym (ap says g) ∙ a in
+      let m : n ≡ 0 + length (entryBytes e) = cc in
+      let w = k .left ∙ ap (λ (s : Answer). output s space 0 (entryBytes e)) a in
+      let l = fits space e short room in
+      pours-is p (put-front space space′ (entryBytes e) n (omega (arith, l)) (record { wrote = w; next = omega (arith, l, m) }))
 
-pub kept-never : (out : List ℕ) (at from : ℕ) (e : Entry) (r : Written) (out′ : List ℕ) → from ≡ drained (length out) at entryLimit → Appended out from e r out′
-    → (n : ℕ) → r ≡ Refused n → (x : ℕ) → Keeps out at e out′ x
-kept-never out at from₀ e r out′ f k n g x = λ short room within.
-    let k′ : Appended out (drained (length out) at entryLimit) e r out′ = subst (λ (p : ℕ). Appended out p e r out′) f k in
-    let h : refused n ≡ wrote (drained (length out) at entryLimit + length (entryBytes e)) = sym (ap says g) ∙ k′ .answer ∙ answered out at e short room within in
-    absurd (let z : _≡_ {A = ℕ} 0 1 = cc in omega arith)
+  pub kept-never : (n x : ℕ) → r ≡ Refused n → Keeps out at e out′ x
+  kept-never n x g = λ short.
+      let h : refused n ≡ wrote (0 + length (entryBytes e)) = sym (ap says g) ∙ k .answer ∙ answered space e short room in
+      absurd (let z : _≡_ {A = ℕ} 0 1 = cc in let y : ⊥ = omega arith in y)
 
 -- the two numbers of a head
 pub of-numbers : (out : List ℕ) (from s t x y : ℕ) (d : List ℕ) (r : Written) (out′ : List ℕ) → s ≡ x → t ≡ y → Appended out from (entryOf s t d) r out′ → Appended out from (entryOf x y d) r out′

@@ -1,9 +1,10 @@
 // Makes a log. Standard input holds records: an 8-byte sender, an 8-byte tick, a 2-byte length and so many bytes, all big-endian; standard
 // output is their log. Of an input that is cut the whole records are kept.
-ghost use lib.ListN.{drop};
+ghost use Prim.Native.Nat.{_≤_};
+ghost use lib.ListN.{length, drop};
 ghost use Rattle.wire.specs.Bytes.{be};
 ghost use Rattle.log.specs.Entries.{entryOf};
-ghost use Rattle.log_write.specs.Kept.{Keeps};
+ghost use Rattle.log_write.specs.Kept.{entryLimit, Keeps};
 use log_append::Written;
 use stream::Input;
 use stream::Kind;
@@ -12,21 +13,24 @@ use stream::Next;
 // No entry is longer: three numbers of at most ten bytes, and a datagram.
 const ENTRY: usize = 30 + datagram::MAX_DATAGRAM;
 
-// One entry goes out, behind what is not written out yet. Answers the place after it. There is room for it, so no refusal comes.
-fn keep(out: &mut [u8], at: usize, head: &[u8], d: &[u8]) -> usize
+// One entry goes out, by way of a space of its own. Answers the place after it. There is room for it, so no refusal comes.
+fn keep(out: &mut [u8], at: usize, space: &mut [u8], head: &[u8], d: &[u8]) -> usize
+    requires { ⌜ entryLimit ≤ length (now space) ⌝ }
     ensures { λ r. ⌜ Keeps (now (out .entry)) at (entryOf (be 8 (now (head .entry))) (be 8 (drop 8 (now (head .entry)))) (now (d .entry))) (now (out .exit)) r ⌝ }
 {
     let sender = wire::number(head, 0, 8);
     let tick = wire::number(head, 8, 8);
-    let from = output::drain(out, at, ENTRY);
-    match log_append::append(out, from, sender, tick, d) {
-        Written::Next(next) => next,
-        Written::Refused(_) => from,
+    let written = log_append::append(&mut *space, 0, sender, tick, d);
+    match written {
+        Written::Next(n) => output::pour(out, at, wire::part(space, 0, n)),
+        Written::Refused(_) => at,
     }
 }
 
 // The entries, one after another, behind the head of the log.
-fn kept(buf: &mut [u8], out: &mut [u8], first: usize) {
+fn kept(buf: &mut [u8], out: &mut [u8], space: &mut [u8], first: usize)
+    requires { ⌜ entryLimit ≤ length (now space) ⌝ }
+{
     let mut input = Input { at: 0, end: 0 };
     let mut at = first;
     let mut n: u64 = 0;
@@ -41,6 +45,7 @@ fn kept(buf: &mut [u8], out: &mut [u8], first: usize) {
         at = keep(
             out,
             at,
+            space,
             stream::head(buf, from, Kind::Entry),
             wire::part(buf, from, len),
         );
@@ -51,7 +56,8 @@ fn kept(buf: &mut [u8], out: &mut [u8], first: usize) {
 fn main() {
     let mut buf = [0u8; 262144];
     let mut out = [0u8; 262144];
+    let mut space = [0u8; ENTRY];
     if let Written::Next(first) = log_append::begin(&mut out, datagram::MAX_PAYLOAD as u64) {
-        kept(&mut buf, &mut out, first);
+        kept(&mut buf, &mut out, &mut space, first);
     }
 }

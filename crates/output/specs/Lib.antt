@@ -1,1 +1,2 @@
+pub mod InsideRoom
 pub mod Output

@@ -1,5 +1,5 @@
 -- No line for none, else its pieces. Assumes nothing.
-use Rattle.output.proofs.Sending.{sends-none, sends-is, pours-is, pours-then}
+use Rattle.output.proofs.Sending.{pours-none, pours-is, pours-then}
 use Rattle.count_lines.proofs.More.{refused-none, refused-some}
 use borrow.Author.Needs.{needs}
 use Rattle.count_lines.proofs.pour_refused.Statement.{statement}
@@ -8,7 +8,7 @@ use Rattle.count_lines.proofs.pour_refused.Tie as tie
 returns : tie.Need-returns
 returns c =
     let a = c .before .before .args in
-    λ room within. sends-is (sends-none (a .out .now) (a .at) within) (refused-none (a .number) (a .n) (c .if1 .taken))
+    pours-is (pours-none (a .out .now) (a .at)) (refused-none (a .number) (a .n) (c .if1 .taken))
 
 returns-2 : tie.Need-returns-2
 returns-2 c =

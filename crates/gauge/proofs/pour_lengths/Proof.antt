@@ -7,7 +7,7 @@ use lib.ListN.{length, drop}
 use Rattle.moss.specs.Blocks.{messagesIn}
 use Rattle.moss.specs.Packet.{fillFault}
 use Rattle.text.specs.Text.{decimal}
-use Rattle.output.proofs.Sending.{sends-none, pours-then, pours-is}
+use Rattle.output.proofs.Sending.{pours-none, pours-then, pours-is}
 use Rattle.gauge.specs.Lines.{spaced}
 use Rattle.gauge.specs.Inside.{lengthsIn}
 use Rattle.gauge.proofs.Texts.{Passed, block-fits, rest-filled, lengths-next, lengths-end}
@@ -26,7 +26,7 @@ loop-holds : tie.Need-loop-holds Inv-loop μ-loop
 loop-holds c =
     let s = c .before .before in
     let a = s .args in
-    (s .pre, refl, record { text = []; gone = λ l h. sends-none (a .out .now) (a .at) h; whole = refl })
+    (s .pre, refl, record { text = []; gone = pours-none (a .out .now) (a .at); whole = refl })
 
 add-block : tie.Need-add-block Inv-loop μ-loop
 add-block c = omega (arith, c .before .before .before .before .before .number .ensures .fits)

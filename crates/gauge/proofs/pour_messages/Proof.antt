@@ -4,7 +4,7 @@ use mathlib.Core.List.{List, _++_}
 use Prim.Native.Nat.{ℕ}
 use borrow.Author.Tests.{eq-eqb, ne-eqb}
 use Rattle.wire.specs.Text.{ascii}
-use Rattle.output.proofs.Sending.{sends-none, pours-then, pours-is}
+use Rattle.output.proofs.Sending.{pours-none, pours-then, pours-is}
 use Rattle.gauge.specs.Lines.{spaced}
 use Rattle.gauge.proofs.Texts.{blocks-filled, blocks-lengths}
 use borrow.Author.Needs.{needs}
@@ -31,7 +31,7 @@ returns c =
 returns-2 : tie.Need-returns-2
 returns-2 c =
     let a = c .before .before .before .before .args in
-    rw (ne-eqb _ _ (c .if1 .left)) (λ l h. sends-none (a .out .now) (a .at) h)
+    rw (ne-eqb _ _ (c .if1 .left)) (pours-none (a .out .now) (a .at))
 
 pub pour-messages-spec : {M : Type 1} → statement M
 pour-messages-spec =

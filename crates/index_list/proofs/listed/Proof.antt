@@ -1,22 +1,45 @@
--- The loop ends: a row a turn, all of them within the words. Assumes nothing.
-use mathlib.Core.Path.{_≡_}
-use Prim.Native.Nat.{_-_, _≤_}
+-- Row by row. The loop's invariant: the i rows passed have their lines. Assumes nothing.
+use mathlib.Core.Path.{_≡_, refl, sym, ap, _∙_}
+use mathlib.Core.List.{_++_}
+use Prim.Native.Nat.{ℕ, _-_, _≤_}
+use native.Mathlib.Omega.{arith}
+use native.Mathlib.Numerals.{add-one}
 use lib.ListN.{length}
+use Rattle.output.specs.Output.{Pours}
+use Rattle.output.proofs.Sending.{pours-none, pours-then, pours-is, finishes-then, finishes-is}
+use Rattle.log_lines.specs.Lines.{endLine}
+use Rattle.index_list.specs.InsideLines.{linesBelow}
 use borrow.Author.Needs.{needs}
 use Rattle.index_list.proofs.listed.Statement.{statement}
 use Rattle.index_list.proofs.listed.Tie as tie
 
--- The loop ends: a row a turn, all of them within the words. Assumes nothing.
-
--- The loop ends: a row a turn, all of them within the words. Assumes nothing.
-
--- The loop ends: a row a turn, all of them within the words. Assumes nothing.
-
 abbrev Inv-loop : tie.InvT-loop
-Inv-loop index n out₀ at₀ i₀ out at i = (length out ≡ length out₀) × (i ≤ n)
+Inv-loop index n out₀ at₀ i₀ out at i = (length out ≡ length out₀) × ((i ≤ n) × Pours out₀ 0 (linesBelow i index) out at)
 
 abbrev μ-loop : tie.MeasureT-loop
 μ-loop index n out₀ at₀ i₀ out at i = n - i
+
+loop-holds : tie.Need-loop-holds Inv-loop μ-loop
+loop-holds c = let a = c .before .before .args in (refl, (omega arith, pours-none (a .out .now) 0))
+
+loop-again : tie.Need-loop-again Inv-loop μ-loop
+loop-again c =
+    let p = c .before .before in
+    let t = p .before .before in
+    let l = t .before in
+    let w = l .before .before .before .args .index .now in
+    let v = l .loop .inv in
+    (p .pour-one .kept .0 ∙ v .0, (omega (arith, t .loop-test .taken), pours-is (pours-then (v .1 .1) (p .pour-one .ensures)) (ap (λ (k : ℕ). linesBelow k w) (sym (add-one (l .loop .i))))))
+
+returns : tie.Need-returns Inv-loop μ-loop
+returns c =
+    let f = c .before .before in
+    let t = f .before .before in
+    let l = t .before in
+    let a = l .before .before .before .args in
+    let w = a .index .now in
+    let e : l .loop .i ≡ a .n = omega (arith, t .loop-test .left, l .loop .inv .1 .0) in
+    finishes-is (finishes-then (l .loop .inv .1 .1) (f .finish .ensures)) (ap (λ (k : ℕ). linesBelow k w ++ endLine (a .n)) e)
 
 pub listed-spec : {M : Type 1} → statement M
 listed-spec =
@@ -24,11 +47,11 @@ listed-spec =
     (tie.spec
     Inv-loop
     μ-loop
-    (λ c. search needs)
+    loop-holds
     (λ c κs. search needs)
     (λ c. search needs)
     (λ c. search needs)
-    (λ c. search needs)
+    loop-again
     (λ c κs. search needs)
     (λ c. search needs)
-    (λ c. search needs))
+    returns)

@@ -8,7 +8,7 @@ use mir.Syntax.{w64}
 use mir.ValLaws.{toZ-ofZ}
 use Rattle.text.specs.Text.{signedDecimal}
 use Rattle.output.specs.Output.{Pours}
-use Rattle.output.proofs.Sending.{sends-none, pours-then, pours-is}
+use Rattle.output.proofs.Sending.{pours-none, pours-then, pours-is}
 use Rattle.lmcp_list.specs.Lines.{spaced}
 use Rattle.lmcp_list.proofs.Spaced.{spaced-turn, spaced-least}
 use borrow.Author.Needs.{needs}
@@ -25,7 +25,7 @@ abbrev μ-loop : tie.MeasureT-loop
 loop-holds : tie.Need-loop-holds Inv-loop μ-loop
 loop-holds c =
     let a = c .before .before .args in
-    (omega arith, refl, λ l h. sends-none (a .out .now) (a .at) h)
+    (omega arith, refl, pours-none (a .out .now) (a .at))
 
 loop-again : tie.Need-loop-again Inv-loop μ-loop
 loop-again c =

@@ -8,7 +8,9 @@ use Rattle.wire.specs.Bytes.{bytes}
 use Rattle.wire.specs.Choice.{pick}
 use Rattle.wire.specs.Overlay.{overlay}
 use Rattle.lmcp.specs.Message.{checksumOf}
+use native.Mathlib.Omega.{arith}
 use borrow.Author.Needs.{needs}
+use Rattle.lmcp_size.specs.InsideWeighs.{four}
 use Rattle.lmcp_writer.proofs.put_checksum.Statement.{statement}
 use Rattle.lmcp_writer.proofs.put_checksum.Tie as tie
 
@@ -19,7 +21,7 @@ slice-aggregate-checksum : tie.Need-slice-aggregate-checksum
 slice-aggregate-checksum c =
     let start = c .before .before .before in
     let a = start .args in
-    sym (length-take-le (a .end) (a .out .now) (start .pre))
+    sym (length-take-le (a .end) (a .out .now) (omega (arith, start .pre)))
 
 checksum-requires : tie.Need-checksum-requires
 checksum-requires c κs = search needs
@@ -28,7 +30,7 @@ cast-put-number : tie.Need-cast-put-number
 cast-put-number c = search needs
 
 put-number-requires : tie.Need-put-number-requires
-put-number-requires c κs = search needs
+put-number-requires c κs = (search needs, four)
 
 same-length : tie.Need-same-length
 same-length c = search needs
@@ -44,7 +46,7 @@ returns c =
     at-put-number .put-number .ensures ∙ ap (λ (n : ℕ). overlay (a .out .now) (a .end) (bytes 4 n)) (at-checksum .checksum .ensures ∙ sym (ap (λ (t : Bool). pick t s 0) (at-if1 .if1 .taken)))
 
 put-number-requires-2 : tie.Need-put-number-requires-2
-put-number-requires-2 c κs = search needs
+put-number-requires-2 c κs = (search needs, four)
 
 same-length-2 : tie.Need-same-length-2
 same-length-2 c = search needs

@@ -1,34 +1,11 @@
 -- `lmcp_writer::put_header` meets its contract: four numbers one after the other.
+use borrow.Author.Needs.{needs}
 use Rattle.wire.specs.Bytes.{be}
 use Rattle.lmcp.specs.Table.{pitsurv}
+use Rattle.lmcp_size.specs.InsideWeighs.{one, two, four, eight}
 use Rattle.lmcp_writer.proofs.Cases.{laid-header}
-use borrow.Author.Needs.{needs}
 use Rattle.lmcp_writer.proofs.put_header.Statement.{statement}
 use Rattle.lmcp_writer.proofs.put_header.Tie as tie
-
-put-number-requires : tie.Need-put-number-requires
-put-number-requires c κs = search needs
-
-add-put-number : tie.Need-add-put-number
-add-put-number c = search needs
-
-put-number-requires-2 : tie.Need-put-number-requires-2
-put-number-requires-2 c κs = search needs
-
-add-put-number-2 : tie.Need-add-put-number-2
-add-put-number-2 c = search needs
-
-put-number-requires-3 : tie.Need-put-number-requires-3
-put-number-requires-3 c κs = search needs
-
-add-put-number-3 : tie.Need-add-put-number-3
-add-put-number-3 c = search needs
-
-put-number-requires-4 : tie.Need-put-number-requires-4
-put-number-requires-4 c κs = search needs
-
-same-length : tie.Need-same-length
-same-length c = search needs
 
 returns : tie.Need-returns
 unfolding be
@@ -46,12 +23,12 @@ pub put-header-spec : {M : Type 1} → statement M
 put-header-spec =
     tie.close
     (tie.spec
-    put-number-requires
-    add-put-number
-    put-number-requires-2
-    add-put-number-2
-    put-number-requires-3
-    add-put-number-3
-    put-number-requires-4
-    same-length
+    (λ c κs. (search needs, one))
+    (λ c. search needs)
+    (λ c κs. (search needs, eight))
+    (λ c. search needs)
+    (λ c κs. (search needs, four))
+    (λ c. search needs)
+    (λ c κs. (search needs, two))
+    (λ c. search needs)
     returns)

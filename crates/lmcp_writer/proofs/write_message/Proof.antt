@@ -1,77 +1,85 @@
--- `lmcp_writer::write_message` meets its contract: the version, and then the rest of the list by its table.
-use mathlib.Core.Path.{sym, ap, _∙_}
+-- `lmcp_writer::write_message` meets its contract: what is wrong with the list, no room, or the message.
+use mathlib.Core.Path.{_≡_, sym, ap, _∙_}
+use Prim.Native.Nat.{ℕ, _<_}
+use native.Mathlib.Omega.{arith}
 use lib.IntN.{ℤ, pos}
-use lib.ListN.{getD}
-use borrow.Author.Needs.{needs}
 use lib.Signed.{mag}
-use Rattle.lmcp.specs.Lists.{isVersion}
+use lib.ListN.{length, getD}
+use borrow.Author.Needs.{needs}
+use Rattle.lmcp.specs.declared.Made.the-variants.{Bytes}
+use Rattle.lmcp.specs.Lists.{writeList}
 use Rattle.lmcp.proofs.Sizes.{through}
-use Rattle.lmcp_writer.proofs.Answers.{list-empty, list-version, list-other}
+use Rattle.lmcp_size.specs.Size.{sized}
+use Rattle.lmcp_writer.proofs.Answers.{answer-refused, answer-short, some-list, root-of, root-ahead, list-good}
 use Rattle.lmcp_writer.proofs.write_message.Statement.{statement}
 use Rattle.lmcp_writer.proofs.write_message.Tie as tie
 
+-- the message has so many bytes
+abbrev start : tie.After-sized2 → tie.Start
+start c = c .before .before .before .before
+
+abbrev size : tie.After-sized2 → ℕ
+size c = c .sized2 .given .0 .0
+
+told : (c : tie.After-sized2) → Bytes (size c) ≡ sized (writeList (start c .args .calculate) (start c .args .list .now))
+told c = sym (c .sized2 .given .1) ∙ c .before .before .message-size .ensures (start c .args .calculate)
+
+some : (c : tie.After-sized2) → 0 < length (start c .args .list .now)
+some c = let s = some-list (start c .args .calculate) (start c .args .list .now) (size c) (told c) .0 in omega (arith, s)
+
+-- the list's version
+abbrev told-at : tie.After-size-of → tie.After-sized2
+told-at c = c .before .before .before .before
+
+version : (c : tie.After-size-of) → c .size-of .result ≡ mag (getD (start (told-at c) .args .list .now) 0 (pos 0))
+version c =
+    let z : ℤ = getD (start (told-at c) .args .list .now) 0 (pos 0) in
+    c .size-of .ensures ∙ ap mag (through z (record { sfits = c .before .first .given }))
+
 returns : tie.Need-returns
-returns c = let a = c .before .before .args in list-empty (a .calculate) (a .list .now) (a .out .now) (c .if1 .taken)
+returns c =
+    let w = c .before .before in
+    let a = start w .args in
+    answer-short (writeList (a .calculate) (a .list .now)) (a .out .now) (size w) (told w) (c .if1 .taken)
 
-shared-slice-copy-out-version : tie.Need-shared-slice-copy-out-version
-shared-slice-copy-out-version c = search needs
-
-is-version-requires : tie.Need-is-version-requires
-is-version-requires c κs = search needs
-
-sub-write-root : tie.Need-sub-write-root
-sub-write-root c = search needs
-
-part-write-root-start : tie.Need-part-write-root-start
-part-write-root-start c = search needs
-
-part-write-root-end : tie.Need-part-write-root-end
-part-write-root-end c = search needs
-
-size-of-requires : tie.Need-size-of-requires
-size-of-requires c κs = search needs
-
-write-root-requires : tie.Need-write-root-requires
-write-root-requires c κs = search needs
-
-same-length : tie.Need-same-length
-same-length c = search needs
+put-message-requires : tie.Need-put-message-requires
+put-message-requires c κs =
+    let v = c .before .before in
+    let w = told-at v in
+    let a = start w .args in
+    let R = root-of (a .calculate) (a .list .now) (size w) (told w) (v .size-of .result) (version v) in
+    (omega (arith, v .before .before .if1 .left, R .long), (omega (arith, R .long), root-ahead (a .calculate) (a .list .now) (size w) (told w) (v .size-of .result) (version v)))
 
 returns-2 : tie.Need-returns-2
 returns-2 c =
-    let w = c .before .before in
-    let n = w .before .before in
-    let y = n .before .before in
-    let i = y .before in
-    let e = i .before .before in
-    let a = e .before .before .args in
-    let z : ℤ = getD (a .list .now) 0 (pos 0) in
-    let same = through z (record { sfits = i .before .version .given }) in
-    list-version (a .calculate) (a .list .now) (a .out .now) (e .if1 .left) (sym (i .is-version .ensures ∙ ap isVersion same) ∙ y .if2 .taken)
-    (n .size-of .result) (n .size-of .ensures ∙ ap mag same)
-    (w .write-root .result) (w .write-root .last .1 .1 .1 .0) (w .write-root .ensures)
+    let f = c .before in
+    let d = f .before .before in
+    let a = d .before .before .args in
+    answer-refused (writeList (a .calculate) (a .list .now)) (a .out .now) (f .sized .given .0 .0) (sym (f .sized .given .1) ∙ d .message-size .ensures (a .calculate))
 
 returns-3 : tie.Need-returns-3
 returns-3 c =
-    let i = c .before in
-    let e = i .before .before in
-    let a = e .before .before .args in
-    let z : ℤ = getD (a .list .now) 0 (pos 0) in
-    let same = through z (record { sfits = i .before .version .given }) in
-    list-other (a .calculate) (a .list .now) (a .out .now) (e .if1 .left) (sym (i .is-version .ensures ∙ ap isVersion same) ∙ c .if2 .left)
+    let put = c .before .before in
+    let v = put .before .before .before in
+    let w = told-at v in
+    let a = start w .args in
+    list-good (a .calculate) (a .list .now) (size w) (told w) (v .size-of .result) (version v) (a .out .now) (put .put-message .last .1 .1 .1 .1 .0) (v .before .before .if1 .left) (put .put-message .ensures)
 
 pub write-message-spec : {M : Type 1} → statement M
 write-message-spec =
     tie.close
     (tie.spec
+    (λ c κs. search needs)
+    (λ c. search needs)
+    (λ c. search needs)
     returns
-    shared-slice-copy-out-version
-    is-version-requires
-    sub-write-root
-    part-write-root-start
-    part-write-root-end
-    size-of-requires
-    write-root-requires
-    same-length
+    (λ c. let l = some (c .before .before) in search needs)
+    (λ c κs. search needs)
+    (λ c. let l = some (told-at c) in search needs)
+    (λ c. let l = some (told-at c) in search needs)
+    (λ c. let l = some (told-at c) in search needs)
+    (λ c. let v = c .before in let w = told-at v in let a = start w .args in let l = root-of (a .calculate) (a .list .now) (size w) (told w) (v .size-of .result) (version v) .long in search needs)
+    put-message-requires
     returns-2
+    (λ c. search needs)
     returns-3)

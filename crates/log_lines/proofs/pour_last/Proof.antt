@@ -1,6 +1,6 @@
 -- `log_lines::pour_last` meets its contract. Assumes nothing.
 use mathlib.Core.Path.{sym, ap}
-use Rattle.output.proofs.Sending.{pours-is, pours-then, sends-is, sends-none}
+use Rattle.output.proofs.Sending.{pours-is, pours-then, pours-none}
 use Rattle.log.specs.declared.reader.Step.{Step}
 use Rattle.log_lines.specs.Lines.{lastLine}
 use borrow.Author.Needs.{needs}
@@ -28,7 +28,7 @@ returns-2 c =
 returns-3 : tie.Need-returns-3
 returns-3 c =
     let a = c .before .before .before .args in
-    λ room within. sends-is (sends-none (a .out .now) (a .at) within) (sym (ap (λ (s : Step). lastLine s (a .n)) (c .enum-told2 .given .1)))
+    pours-is (pours-none (a .out .now) (a .at)) (sym (ap (λ (s : Step). lastLine s (a .n)) (c .enum-told2 .given .1)))
 
 pub pour-last-spec : {M : Type 1} → statement M
 pour-last-spec =

@@ -1,16 +1,96 @@
--- The loop ends: it counts the entries, up to a number that no log reaches. Assumes nothing.
-use mathlib.Core.Path.{_≡_}
+-- Entry by entry. The loop's invariant: the entries passed have their lines. Assumes nothing.
+use mathlib.Core.Path.{_≡_, refl, sym, _∙_, subst}
+use mathlib.Core.Logic.{inl, inr}
+use mathlib.Core.List.{[], _∷_}
 use Prim.Native.Nat.{_-_}
+use native.Mathlib.Omega.{arith}
 use lib.ListN.{length}
+use types.Run.{OneOf}
+use denote.Enum.Declared.{tagOf}
+use Rattle.wire.specs.Bytes.{Bytes}
+use Rattle.log.proofs.reader.Step.{the-type}
+use Rattle.log.specs.declared.reader.EntryAt.{EntryAt}
+use Rattle.log.specs.declared.reader.Step.{Step}
+use Rattle.log.specs.declared.reader.Step.the-variants as step
+use Rattle.log_reader.proofs.Passing.{ahead}
+use Rattle.output.proofs.Sending.{finishes-shut}
+use Rattle.log_list.proofs.Listing.{Going, going-none, going-more, going-end, going-shut}
 use borrow.Author.Needs.{needs}
 use Rattle.log_list.proofs.listed.Statement.{statement}
 use Rattle.log_list.proofs.listed.Tie as tie
 
+-- the reading ended
+no-entry : (x : Step) → OneOf (1 ∷ 2 ∷ []) (tagOf the-type x) → (e : EntryAt) → x ≡ step.Found e → ⊥
+no-entry x o e q = elim (subst (λ (y : Step). OneOf (1 ∷ 2 ∷ []) (tagOf the-type y)) q o) [ inl z ↦ (let y : ⊥ = omega arith in y) | inr z ↦ (let y : ⊥ = omega arith in y) ]
+
 abbrev Inv-loop : tie.InvT-loop
-Inv-loop log out₀ place₀ at₀ n₀ out place at n = length out ≡ length out₀
+Inv-loop log out₀ place₀ at₀ n₀ out place at n = (length out ≡ length out₀) × Going log out₀ out place at n
 
 abbrev μ-loop : tie.MeasureT-loop
-μ-loop log out₀ place₀ at₀ n₀ out place at n = 18446744073709551615 - n
+μ-loop log out₀ place₀ at₀ n₀ out place at n = length log - place
+
+loop-holds : tie.Need-loop-holds Inv-loop μ-loop
+loop-holds c = let a = c .before .before .args in (refl, going-none (a .log .now) (a .out .now) (λ i. c .before .shared-slice-known .given i .fits))
+
+returns : tie.Need-returns Inv-loop μ-loop
+returns c =
+    let f = c .before .before in
+    let m = f .before .before in
+    let r = m .before in
+    let l = r .before .before in
+    let z = l .before .before in
+    let a = z .before .args in
+    let b : Bytes (a .log .now) = λ i. z .shared-slice-known .given i .fits in
+    let e = f .finish .ensures in
+    let o = no-entry (r .read-on .result) (m .match .keys2) in
+    record { end = e .end; poured = going-end b (l .loop .inv .1) (r .read-on .result) (sym (r .read-on .ensures)) o (e .poured); told = e .told }
+
+add-n : tie.Need-add-n Inv-loop μ-loop
+add-n c =
+    let s = c .before in
+    let r = s .before .before in
+    let l = r .before .before in
+    let z = l .before .before in
+    let a = z .before .args in
+    let b : Bytes (a .log .now) = λ i. z .shared-slice-known .given i .fits in
+    let q = sym (r .read-on .ensures) ∙ s .step .given .1 in
+    let v = l .loop .inv .1 in
+    let h = ahead (a .log .now) b _ (l .loop .place) q in
+    record { fits = omega (arith, v .count, v .passed .fewer, v .passed .within, h .on, h .within) }
+
+loop-less : tie.Need-loop-less Inv-loop μ-loop
+loop-less c =
+    let s = c .before .before .before .before .before in
+    let r = s .before .before in
+    let l = r .before .before in
+    let z = l .before .before in
+    let a = z .before .args in
+    let b : Bytes (a .log .now) = λ i. z .shared-slice-known .given i .fits in
+    let q = sym (r .read-on .ensures) ∙ s .step .given .1 in
+    let v = l .loop .inv .1 in
+    let h = ahead (a .log .now) b _ (l .loop .place) q in
+    omega (arith, h .on, h .within)
+
+loop-again : tie.Need-loop-again Inv-loop μ-loop
+loop-again c =
+    let p = c .before .before in
+    let s = c .before .before .before .before .before in
+    let r = s .before .before in
+    let l = r .before .before in
+    let z = l .before .before in
+    let a = z .before .args in
+    let b : Bytes (a .log .now) = λ i. z .shared-slice-known .given i .fits in
+    let q = sym (r .read-on .ensures) ∙ s .step .given .1 in
+    let v = l .loop .inv .1 in
+    (p .pour-entry .kept .0 ∙ l .loop .inv .0, going-more b v _ q (p .pour-entry .ensures))
+
+returns-2 : tie.Need-returns-2 Inv-loop μ-loop
+returns-2 c =
+    let l = c .before in
+    let z = l .before .before in
+    let a = z .before .args in
+    let b : Bytes (a .log .now) = λ i. z .shared-slice-known .given i .fits in
+    finishes-shut (c .loop-test .left) (going-shut b (l .loop .inv .1) (c .loop-test .left))
 
 pub listed-spec : {M : Type 1} → statement M
 listed-spec =
@@ -18,16 +98,15 @@ listed-spec =
     (tie.spec
     Inv-loop
     μ-loop
-    (λ c. search needs)
+    loop-holds
     (λ c κs. search needs)
     (λ c. search needs)
     (λ c κs. search needs)
+    (λ c. search needs)
+    returns
+    add-n
     (λ c κs. search needs)
+    loop-less
+    loop-again
     (λ c. search needs)
-    (λ c. search needs)
-    (λ c. search needs)
-    (λ c κs. search needs)
-    (λ c. search needs)
-    (λ c. search needs)
-    (λ c. search needs)
-    (λ c. search needs))
+    returns-2)

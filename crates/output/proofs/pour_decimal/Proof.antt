@@ -9,9 +9,22 @@ use Rattle.output.proofs.pour_decimal.Tie as tie
 returns : tie.Need-returns
 returns c =
     let p = c .before .before in
-    let d = p .before .before in
-    let s = d .before .before .before in
-    pours-put (omega (arith, length-word (s .args .n) (s .fits .n .fits))) (d .drain .ensures) (p .put-decimal .ensures)
+    let f = p .before .before in
+    let o = f .before in
+    let s = o .before .before in
+    pours-put (omega (arith, f .if1 .taken, o .room .ensures, length-word (s .args .n) (s .fits .n .fits))) (p .put-decimal .ensures)
+
+returns-2 : tie.Need-returns-2
+returns-2 c = c .before .before .decimal-apart .ensures
 
 pub pour-decimal-spec : {M : Type 1} → statement M
-pour-decimal-spec = tie.close (tie.spec (λ c κs. search needs) (λ c κs. search needs) (λ c. search needs) returns)
+pour-decimal-spec =
+    tie.close
+    (tie.spec
+    (λ c κs. search needs)
+    (λ c κs. search needs)
+    (λ c. search needs)
+    returns
+    (λ c κs. search needs)
+    (λ c. search needs)
+    returns-2)

@@ -1,0 +1,78 @@
+// The gauge's watch in four lent words: whether a session was heard, the number of its last message, and the session's ten bytes as numbers of eight and of two.
+ghost use mathlib.Core.Path.{_≡_};
+ghost use Rattle.wire.specs.Slices.{buffer};
+ghost use Rattle.wire.specs.Choice.{pick};
+ghost use Rattle.watch.specs.Noted.{notes};
+ghost use Rattle.host_gauge.specs.Watches.{gaugeIn, gaugeWords, heardCode, SeeTold};
+use gauge_watch::Gauge;
+use watch::Answer;
+
+// How many words hold the gauge.
+pub const GAUGE: usize = 4;
+
+// The gauge that words show.
+fn shown(w: &[u64]) -> Gauge
+    ensures { λ r. ⌜ r ≡ gaugeIn (now (w .entry)) ⌝ }
+{
+    let mut session = [0u8; moss::SESSION];
+    wire::put_number(&mut session, 0, 8, words::word(w, 2));
+    wire::put_number(&mut session, 8, 2, words::word(w, 3));
+    let last = words::word(w, 1) % 4294967296;
+    Gauge {
+        session: session,
+        last: last as u32,
+        started: words::word(w, 0) == 1,
+    }
+}
+
+// 1 for a gauge that has heard a session, else 0.
+fn begun(started: bool) -> u64
+    ensures { λ r. ⌜ r ≡ pick started 1 0 ⌝ }
+{
+    if started {
+        return 1;
+    }
+    0
+}
+
+// The words of a gauge.
+fn gauge_words(g: Gauge) -> [u64; GAUGE]
+    ensures { λ r. ⌜ r ≡ gaugeWords g ⌝ }
+{
+    let session = g.session;
+    let first = wire::number(&session, 0, 8);
+    let second = wire::number(&session, 8, 2);
+    [begun(g.started), g.last as u64, first, second]
+}
+
+// What the watch says, as one number: the kind times 2^32 and the number beside it, or the number of the refusal.
+fn heard_code(answer: Answer) -> u64
+    ensures { λ r. ⌜ r ≡ heardCode (notes answer) ⌝ }
+{
+    match answer {
+        Answer::First => 4294967296,
+        Answer::Forward(missing) => 2 * 4294967296 + missing as u64,
+        Answer::Same => 3 * 4294967296,
+        Answer::Late(by) => 4 * 4294967296 + by as u64,
+        Answer::Restarted(number) => 5 * 4294967296 + number as u64,
+        Answer::Refused(number) => number as u64,
+    }
+}
+
+// What the watch says of a packet; the gauge is written where the watch moves.
+#[no_mangle]
+pub extern "C" fn qm_gauge_see(gauge: &mut [u64], packet: &[u8]) -> u64
+    ensures { λ r. ⌜ SeeTold (buffer gauge) (now (packet .entry)) r ⌝ }
+{
+    if gauge.len() < GAUGE {
+        return 13;
+    }
+    let heard = gauge_watch::see_packet(shown(&*gauge), packet);
+    let answer = heard.answer;
+    if watch::does_move(answer) {
+        let numbers = gauge_words(heard.gauge);
+        words::put_words(gauge, 0, &numbers);
+        return heard_code(answer);
+    }
+    heard_code(answer)
+}

@@ -1,0 +1,2 @@
+pub mod InsideLines
+pub mod Lines

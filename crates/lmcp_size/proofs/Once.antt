@@ -1,0 +1,9 @@
+-- No second answer: how long a message is says one number, or one refusal. Assumes nothing.
+use mathlib.Core.Path.{_≡_, sym, _∙_}
+use mathlib.Core.Bool.{Bool, true}
+use Rattle.lmcp.specs.declared.Made.{Made}
+use Rattle.lmcp.specs.Write.{Write}
+use Rattle.lmcp_size.specs.Size.{SizeOf}
+
+pub size-once : (W : Bool → Write) (r r′ : Made) → SizeOf W r → SizeOf W r′ → r ≡ r′
+size-once W r r′ a b = a true ∙ sym (b true)
