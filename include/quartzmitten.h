@@ -497,7 +497,8 @@ qm_u32 qm_write_message(const qm_i64 *numbers, qm_size count, qm_u32 sum, qm_byt
    sure, 1 or 0; what stands there after them stays. They are the pits that the tile's line counts: as many as qm_count_lines tells, and as many of them sure.
 
    Answers 0 and writes to the first number of `told` how many there are. Otherwise 13, and writes nothing, where `number` or `certain` has fewer words than
-   there are pits, or `told` room for none. Sizes above what is lent count as what is lent. A tile that the map does not have has no pits. */
+   there are pits, or `told` room for none. Sizes above what is lent count as what is lent. A tile is a number below 2^32, and any other is
+   taken modulo that. One that the map does not have has no pits. */
 qm_u32 qm_pits(qm_u64 tile, const qm_u64 *pits, qm_size pits_length, const qm_u64 *sure, qm_size sure_length, qm_size had_pits, qm_size had_sure,
                qm_u64 *number, qm_size number_length, qm_u64 *certain, qm_size certain_length, qm_u64 *told, qm_size told_length);
 

@@ -16,6 +16,8 @@ OVER = {
 }
 # files of specs/ with definitions that nothing public reaches
 NOT_INSIDE = set()
+# the most characters of a line in proofs/
+LONGEST = 300
 OPERATORS = set("→ × ≡ λ ≤ < + * : ⌝ ⌜ ∷ ++ = ⊎ - / % ^ && || when else if then in let".split())
 # a word that hands on the number of a refusal
 REFUSES = r"(?:\w+\.)?(?:\w*[rR]efus\w*|bad|broken|noReport|Unread|Unwritten)"
@@ -168,8 +170,16 @@ def long_chains(faults, project):
         faults.note(f"{sum(counts)} chains of more than eight .before, in {sum(1 for c in counts if c)} files")
 
 
+def short_lines(faults, project):
+    """No line of a proof over 300 characters: a reader's window ends before that."""
+    for path in project.paths("*/proofs/**/*.antt"):
+        longest = max(map(len, read(path).split("\n")))
+        faults.rule(longest <= LONGEST, f"{path}: a line has {longest} characters, more than {LONGEST}")
+
+
 def check(faults, project):
     few_arguments(faults, project)
+    short_lines(faults, project)
     inside(faults, project)
     written(faults, project)
     bare_refusals(faults, project)

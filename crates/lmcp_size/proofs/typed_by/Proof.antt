@@ -26,7 +26,8 @@ returns-2 c =
     let at-size-of = c .before in
     let at-if1 = at-size-of .before in
     let start = at-if1 .before in
-    c .typed-in .ensures ∙ positive-typed (pitsurv (start .args .version)) (start .args .declared) (start .args .z) (at-size-of .size-of .result) (at-size-of .size-of .ensures ∙ ap mag (through (start .args .z) (start .fits .z))) (subst (λ (y : ℤ). ltZ y (pos 0) ≡ false) (through (start .args .z) (start .fits .z)) (at-if1 .if1 .left))
+    c .typed-in .ensures ∙ positive-typed (pitsurv (start .args .version)) (start .args .declared) (start .args .z) (at-size-of .size-of .result) (at-size-of .size-of .ensures ∙ ap mag (through (start .args .z) (start .fits .z)))
+    (subst (λ (y : ℤ). ltZ y (pos 0) ≡ false) (through (start .args .z) (start .fits .z)) (at-if1 .if1 .left))
 
 pub typed-by-spec : {M : Type 1} → statement M
 typed-by-spec = tie.close (tie.spec returns size-of-requires typed-in-requires returns-2)

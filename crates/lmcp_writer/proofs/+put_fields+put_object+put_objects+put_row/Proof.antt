@@ -97,7 +97,22 @@ abbrev put-objects-claims : ℕ → put-objects-lts.Claims
 put-objects-claims t = (put-object-below t, put-object.Post)
 
 abbrev put-row-claims : ℕ → put-row-lts.Claims
-put-row-claims t = (entry-reads.Asked, entry-reads.Learnt, put-object-below t, put-object.Post, bits-of-reads.Asked, bits-of-reads.Learnt, put-number-reads.Asked, put-number-reads.Learnt, put-values-reads.Asked, put-values-reads.Learnt, size-of-reads.Asked, size-of-reads.Learnt, put-objects-below t, put-objects.Post)
+put-row-claims t = (
+  entry-reads.Asked,
+  entry-reads.Learnt,
+  put-object-below t,
+  put-object.Post,
+  bits-of-reads.Asked,
+  bits-of-reads.Learnt,
+  put-number-reads.Asked,
+  put-number-reads.Learnt,
+  put-values-reads.Asked,
+  put-values-reads.Learnt,
+  size-of-reads.Asked,
+  size-of-reads.Learnt,
+  put-objects-below t,
+  put-objects.Post,
+)
 
 -- ---- fields
 
