@@ -13,10 +13,10 @@ abbrev pub fileByte : ℕ
 fileByte = 1
 
 abbrev pub headLength : ℕ
-headLength = 17
+headLength = 1 + (8 + 8)
 
 abbrev pub rowLength : ℕ
-rowLength = 20
+rowLength = 8 + (4 + 8)
 
 -- ---- written: the file of a covered length and rows
 

@@ -14,9 +14,9 @@ ghost use Rattle.index_file.specs.Inside.{Holds};
 const EDITION: u8 = 1;
 
 // The bytes of its head, and those of a row.
-pub const HEAD_LENGTH: usize = 17;
+pub const HEAD_LENGTH: usize = 1 + 8 + 8;
 
-pub const ROW_LENGTH: usize = 20;
+pub const ROW_LENGTH: usize = 8 + 4 + 8;
 
 // A row of an index: the sender and the sequence of an entry, and where it begins in the log.
 pub struct FileRow {
