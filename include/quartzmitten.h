@@ -2,10 +2,11 @@
    index of a log and the file that keeps it, and the count of a log, and of a season of logs; survey messages as numbers, and which pits a map has;
    acknowledge blocks; the tide gauge's packets.
 
-   Link libquartzmitten.a, which tools/install lays down beside this header with a file for pkg-config; or, out of the tree, the archives libhost.a,
-   libhost_state.a (qm_open, qm_forget, qm_lengths), libhost_receiver.a (qm_receive, qm_receive_within), libhost_flight.a (qm_log_first, qm_log_next,
-   qm_watch_see), libhost_index.a (qm_index, qm_find, qm_index_on, qm_index_file_write, qm_index_file_head, qm_index_file_rows, qm_index_file_find),
-   libhost_count.a (qm_count), libhost_season.a (qm_count_on, qm_count_lines), libhost_pits.a (qm_read_message, qm_pits, qm_marks), libhost_acks.a
+   Link libquartzmitten.a, which tools/install lays down beside this header with a file for pkg-config; or, out of the tree, the archives libhost.a
+   (qm_checksum, qm_read_datagram, qm_cut), libhost_append.a (qm_log_begin, qm_log_append), libhost_state.a (qm_open, qm_forget, qm_lengths),
+   libhost_receiver.a (qm_receive, qm_receive_within), libhost_flight.a (qm_log_first, qm_log_next, qm_watch_see), libhost_index.a (qm_index, qm_find,
+   qm_index_on), libhost_index_file.a (qm_index_file_write, qm_index_file_head, qm_index_file_rows, qm_index_file_find), libhost_count.a (qm_count),
+   libhost_season.a (qm_count_on), libhost_pits.a (qm_count_lines, qm_pits), libhost_marks.a (qm_read_message, qm_marks), libhost_acks.a
    (qm_acks_ask, qm_acks_write), libhost_gauge.a (qm_moss_read, qm_moss_message, qm_moss_write, qm_gauge_see) and libhost_messages.a
    (qm_write_message), or those whose functions are called: the toolchain's `rt staticlib host`, `rt staticlib host_state` and so on write them
    (x86-64 Linux). No other header is needed.
