@@ -2,18 +2,18 @@
    index of a log and the file that keeps it, and the count of a log, and of a season of logs; survey messages as numbers, and which pits a map has;
    acknowledge blocks; the tide gauge's packets.
 
-   Link libquartzmitten.a, which tools/install lays down beside this header with a file for pkg-config; or, out of the tree, the archives libhost.a,
-   libhost_state.a (qm_open, qm_forget, qm_lengths), libhost_receiver.a (qm_receive, qm_receive_within), libhost_flight.a (qm_log_first, qm_log_next,
-   qm_watch_see), libhost_index.a (qm_index, qm_find, qm_index_on, qm_index_file_write, qm_index_file_head, qm_index_file_rows, qm_index_file_find),
-   libhost_count.a (qm_count), libhost_season.a (qm_count_on, qm_count_lines), libhost_pits.a (qm_read_message, qm_pits, qm_marks), libhost_acks.a
-   (qm_acks_ask, qm_acks_write), libhost_gauge.a (qm_moss_read, qm_moss_message, qm_moss_write, qm_gauge_see) and libhost_messages.a
-   (qm_write_message), or those whose functions are called: the toolchain's `rt staticlib host`, `rt staticlib host_state` and so on write them
-   (x86-64 Linux). No other header is needed.
+   Link libquartzmitten.a, which tools/install lays down beside this header with a file for pkg-config; or, out of the tree, the archives libhost.a
+   (qm_checksum, qm_read_datagram, qm_cut, qm_log_begin, qm_log_append), libhost_state.a (qm_open, qm_forget, qm_lengths),
+   libhost_receiver.a (qm_receive, qm_receive_within), libhost_flight.a (qm_log_first, qm_log_next, qm_watch_see), libhost_index.a (qm_index,
+   qm_find, qm_index_on, qm_index_file_write, qm_index_file_head, qm_index_file_rows, qm_index_file_find), libhost_count.a (qm_count),
+   libhost_season.a (qm_count_on, qm_count_lines), libhost_pits.a (qm_read_message, qm_pits, qm_marks), libhost_acks.a (qm_acks_ask, qm_acks_write),
+   libhost_gauge.a (qm_moss_read, qm_moss_message, qm_moss_write, qm_gauge_see) and libhost_messages.a (qm_write_message), or those whose functions
+   are called: the toolchain's `rt staticlib host`, `rt staticlib host_state` and so on write them (x86-64 Linux). No other header is needed.
 
    What holds for all of them:
    - They end for any bytes and any lengths, keep no state of their own, ask the system for nothing, and may be called from any thread. qm_count
-     needs QM_COUNT_STACK bytes of its stack, since the receiver that it counts with stands there, and qm_acks_write 65 KiB; the others need
-     16 KiB at most.
+     needs QM_COUNT_STACK bytes of its stack, since the receiver that it counts with stands there, and qm_acks_write QM_ACKS_STACK, since it
+     lays the blocks there before it writes them; the others need QM_STACK at most.
    - They read and write only the memory lent in the call. A refusal writes nothing, but for what qm_count and qm_count_on say
      of three of their own.
    - Lent memory is a pointer and how many elements stand there. The pointer is never null, also where the length is 0, and
@@ -31,6 +31,9 @@ extern "C" {
 /* Which header this is. */
 #define QM_VERSION 100
 #define QM_VERSION_TEXT "1.0"
+
+/* The stack that each function needs, in bytes, but for qm_count (QM_COUNT_STACK) and qm_acks_write (QM_ACKS_STACK): a thread that has less dies. */
+#define QM_STACK (32 * 1024)
 
 typedef unsigned char qm_byte;
 typedef unsigned int qm_u32;
@@ -536,6 +539,9 @@ qm_u32 qm_marks(const qm_i64 *numbers, qm_size numbers_length, qm_i64 *rows, qm_
 /* The most bytes of a list of blocks. */
 #define QM_MAX_BLOCKS 65535
 
+/* The stack that qm_acks_write needs, in bytes: a thread that has less dies. */
+#define QM_ACKS_STACK (80 * 1024)
+
 /* Whether the blocks in `length` bytes acknowledge a number. Answers 0 and writes 1 or 0 to the first number of `told`; what stands after it stays. Otherwise answers
    a refusal, and then nothing is written: 13 where `told` has room for none; then 77; then at each block 71, 70, 72, 73, 74. All blocks are read, so a bad one
    refuses after one that acknowledges the number. */
@@ -544,7 +550,7 @@ qm_u32 qm_acks_ask(const qm_byte *blocks, qm_size length, qm_u64 number, qm_u64 
 /* Writes the blocks of `count` numbers, which must rise, to the start of `out`: a lone number as a single, each longer unbroken run as first to last. No bitmaps.
 
    Answers 0 and writes to the first number of `told` how many bytes they take; what stands after them stays. Otherwise answers a refusal, and then nothing is
-   written: 13 where `told` has room for none; then 75, 77, 76. It needs 65 KiB of stack. */
+   written: 13 where `told` has room for none; then 75, 77, 76. It needs QM_ACKS_STACK bytes of stack. */
 qm_u32 qm_acks_write(const qm_u64 *numbers, qm_size count, qm_byte *out, qm_size out_length, qm_u64 *told, qm_size told_length);
 
 /* The tide gauge's packets: 4 bytes of length, a session of QM_SESSION bytes, 4 of sequence, a type, 'U' data, 'H' heartbeat or 'E' end of session, and of U
@@ -657,6 +663,12 @@ static inline qm_u32 qm_host_take(struct qm_host *h, qm_u64 sender, const qm_byt
         if (QM_WATCH_KIND(*seen) == QM_WATCH_RESTARTED) qm_receiver_forget(&h->receiver, sender);
     }
     return qm_receiver_take(&h->receiver, sender, datagram, length, o);
+}
+
+/* Adds to an index of `rows` rows what was added to its log since this had `from` bytes: qm_index_on, with the most rows that qm_index gives. It answers and leaves
+   what qm_index does of the whole log. */
+static inline qm_u64 qm_extend(const qm_byte *log, qm_size length, qm_size from, qm_u64 *index, qm_size index_length, qm_size rows) {
+    return qm_index_on(log, length, from, index, index_length, rows, QM_MAX_INDEX);
 }
 
 /* A season's map: three lists that the host lends, with how many words each has, and how many numbers stand in it, 0 at first. */

@@ -8,7 +8,7 @@ enum { MOST_LOG = 1 << 20 };
 static qm_byte log_bytes[MOST_LOG];
 static struct qm_receiver ours, plain;
 static struct qm_host host;
-static qm_u64 lengths[QM_LENGTHS];
+static qm_u64 lengths[QM_LENGTHS], afresh[QM_INDEX], extended[QM_INDEX];
 static int passed, failed_;
 
 static void held(int good, const char *what) {
@@ -50,6 +50,15 @@ static void restart(void) {
     held(qm_host_take(&host, 7, d, 3, &o, &seen) == QM_TOO_FEW_BYTES && seen == 0 && !o.payload, "a refusal");
 }
 
+/* The index of the first entries of a log, up to some place, and what comes behind it: what qm_index has of the whole. */
+static void extend(qm_size length, qm_size place) {
+    qm_u64 whole = qm_index(log_bytes, length, afresh, QM_INDEX), before = qm_index(log_bytes, place, extended, QM_INDEX);
+    held(whole >> 32 == 1 && before >> 32 == 1 && QM_INDEX_ROWS(before) < QM_INDEX_ROWS(whole), "an index");
+    held(qm_extend(log_bytes, length, place, extended, QM_INDEX, QM_INDEX_ROWS(before)) == whole, "an extended index is told otherwise");
+    held(memcmp(afresh, extended, sizeof (qm_u64) * QM_ROW * QM_INDEX_ROWS(whole)) == 0, "an extended index is another");
+    held(qm_extend(log_bytes, length, 0, extended, QM_ROW * QM_INDEX_ROWS(whole) - 1, 0) == QM_INDEX_FULL, "an index without room");
+}
+
 int main(void) {
     qm_u64 head[QM_HEAD], entry[QM_ENTRY];
     qm_size length = fread(log_bytes, 1, MOST_LOG, stdin);
@@ -60,8 +69,10 @@ int main(void) {
          lengths[QM_LENGTH_OUTCOME] == QM_TOLD && lengths[QM_LENGTH_NAME] == QM_MAX_NAME && lengths[QM_LENGTH_PAYLOAD] == QM_MAX_PAYLOAD, "lengths");
     held(qm_receiver_open(&ours) == 0 && qm_open(plain.state, QM_STATE, plain.names, QM_NAMES, QM_STORE) == 0, "open");
     held(qm_log_first(log_bytes, length, head, QM_HEAD) == 0, "a log");
+    qm_size half = 0;
     for (qm_size at = head[QM_HEAD_FIRST_PLACE]; at < length; at = entry[QM_ENTRY_NEXT_PLACE]) {
         held(qm_log_next(log_bytes, length, at, entry, QM_ENTRY) == 0, "an entry");
+        if (at <= length / 2) half = at;
         compare(entry[QM_ENTRY_SENDER], log_bytes + entry[QM_ENTRY_PLACE], entry[QM_ENTRY_LENGTH]);
     }
     held(sizeof longest == QM_MAX_NAME + 1, "the longest name");
@@ -71,6 +82,7 @@ int main(void) {
     qm_forget(plain.state, QM_STATE, plain.names, QM_NAMES, 7);
     compare(7, d, QM_CUT_LENGTH(answer));
     restart();
+    extend(length, half);
     printf("%d passed, %d failed\n", passed, failed_);
     return failed_ != 0;
 }
