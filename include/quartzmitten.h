@@ -3,7 +3,7 @@
    acknowledge blocks; the tide gauge's packets.
 
    Link libquartzmitten.a, which tools/install lays down beside this header with a file for pkg-config; or, out of the tree, the archives libhost.a
-   (qm_checksum, qm_read_datagram, qm_cut, qm_log_begin, qm_log_append), libhost_state.a (qm_open, qm_forget, qm_lengths),
+   (qm_checksum, qm_read_datagram, qm_cut, qm_log_begin, qm_log_append), libhost_state.a (qm_open, qm_forget, qm_lengths, qm_version),
    libhost_receiver.a (qm_receive, qm_receive_within), libhost_flight.a (qm_log_first, qm_log_next, qm_watch_see), libhost_index.a (qm_index,
    qm_find, qm_index_on, qm_index_file_write, qm_index_file_head, qm_index_file_rows, qm_index_file_find), libhost_count.a (qm_count),
    libhost_season.a (qm_count_on, qm_count_lines), libhost_pits.a (qm_read_message, qm_pits, qm_marks), libhost_acks.a (qm_acks_ask, qm_acks_write),
@@ -28,7 +28,7 @@
 extern "C" {
 #endif
 
-/* Which header this is. */
+/* Which header this is: a hundred times the major number and the minor. qm_version tells which one the archive goes with. */
 #define QM_VERSION 100
 #define QM_VERSION_TEXT "1.0"
 
@@ -312,7 +312,8 @@ enum {
     QM_TOLD_EMPTIED,      /* 1 where an open message was given up for this one, else 0, as the next two */
     QM_TOLD_EMPTIED_SENDER, /* whose it was */
     QM_TOLD_EMPTIED_SEQUENCE, /* and its sequence number */
-    QM_TOLD               /* seven */
+    QM_TOLD_SEQUENCE,     /* the sequence number of the datagram that was received: with its sender the key of its message */
+    QM_TOLD               /* eight */
 };
 
 enum { QM_ANSWER_KEPT = 1, QM_ANSWER_REPEAT, QM_ANSWER_DELIVERED };
@@ -320,7 +321,7 @@ enum { QM_IN_DATAGRAM = 1, QM_IN_STORE };
 
 /* Receives one datagram of a sender.
 
-   Answers 0 and writes the seven numbers above to the start of `told` and QM_MAX_NAME bytes to the start of `name`: a delivered message's name with zeros
+   Answers 0 and writes the eight numbers above to the start of `told` and QM_MAX_NAME bytes to the start of `name`: a delivered message's name with zeros
    after it, else zeros. The payload stays where it is until the next call. Otherwise answers a refusal, and then nothing at all was written: 13 where `told`
    has room for fewer than QM_TOLD numbers or `name` for fewer than QM_MAX_NAME bytes; then 9; then the datagram reader's, 3, 1, 2, 5, 6, 4, 7,
    6 by the slot size; then 8. */
@@ -382,6 +383,9 @@ enum {
 
 /* Writes them to the start of `lengths` and answers 0; or 13, and writes nothing, where fewer than QM_LENGTHS numbers fit. */
 qm_u32 qm_lengths(qm_u64 *lengths, qm_size lengths_length);
+
+/* The QM_VERSION of the header that the archive goes with. Nothing is written. */
+qm_u32 qm_version(void);
 
 /* The count of a flight: how often each answer was given, and for each tile its distinct pits. */
 

@@ -60,7 +60,7 @@ static void *receive(void *given) {
 static void *cut(void *given) {
     qm_u32 sum = qm_checksum(log_bytes, log_length);
     if (qm_log_begin(out, sizeof out, QM_MAX_PAYLOAD) >> 32 == 0 || qm_log_append(out, sizeof out, 0, sum, 1, log_bytes, 1000) >> 32 == 0) return 0;
-    return qm_cut((const qm_byte *) "TILE", 4, log_bytes, log_length, 1, 1400, 0, out, sizeof out) >> 32 != 0 && qm_lengths(report, QM_REPORT) == 0 ? given : 0;
+    return qm_cut((const qm_byte *) "TILE", 4, log_bytes, log_length, 1, 1400, 0, out, sizeof out) >> 32 != 0 && qm_version() == QM_VERSION && qm_lengths(report, QM_REPORT) == 0 ? given : 0;
 }
 
 static void *index_log(void *given) {

@@ -1,4 +1,4 @@
-/* The header's wrappers beside the plain calls, over the datagrams of a log: the same answers, the same memory afterwards, and names with their zero byte. */
+/* The header's version and its wrappers beside the plain calls, over the datagrams of a log: the same answers, the same memory afterwards, and names with their zero byte. */
 
 #include <quartzmitten.h>
 #include "../../tools/system.h"
@@ -20,6 +20,7 @@ static void held(int good, const char *what) {
 static void compare(qm_u64 sender, const qm_byte *d, qm_size length) {
     struct qm_outcome o;
     qm_u64 told[QM_TOLD] = {0};
+    qm_u32 fields[QM_FIELDS];
     qm_byte name[QM_MAX_NAME] = {0};
     memset(&o, 0x5a, sizeof o);
     qm_u32 a = qm_receiver_take(&ours, sender, d, length, &o);
@@ -28,6 +29,7 @@ static void compare(qm_u64 sender, const qm_byte *d, qm_size length) {
     const qm_byte *payload = !delivered ? 0 : told[QM_TOLD_WHERE] == QM_IN_STORE ? ours.store + told[QM_TOLD_PAYLOAD_PLACE] : d + told[QM_TOLD_PAYLOAD_PLACE];
     held(a == b && memcmp(o.told, told, sizeof told) == 0 && memcmp(o.name, name, QM_MAX_NAME) == 0 && o.name[QM_MAX_NAME] == 0, "an answer is another");
     held(o.payload == payload && o.length == (delivered ? told[QM_TOLD_PAYLOAD_LENGTH] : 0), "a payload is another");
+    held(b != 0 || (qm_read_datagram(d, length, fields, QM_FIELDS) == 0 && o.told[QM_TOLD_SEQUENCE] == fields[QM_FIELD_SEQUENCE]), "a sequence is another");
     held(memcmp(ours.state, plain.state, sizeof ours.state) == 0 && memcmp(ours.names, plain.names, sizeof ours.names) == 0, "the memory is another");
 }
 
@@ -64,7 +66,8 @@ int main(void) {
     qm_size length = fread(log_bytes, 1, MOST_LOG, stdin);
     static const char longest[] = "a name of sixty-three bytes, the most that there may be: ......";
     qm_byte d[200];
-    /* the archive has the lengths of the header */
+    /* the archive has the version and the lengths of the header */
+    held(qm_version() == QM_VERSION, "version");
     held(qm_lengths(lengths, QM_LENGTHS) == 0 && lengths[QM_LENGTH_STATE] == QM_STATE && lengths[QM_LENGTH_NAMES] == QM_NAMES && lengths[QM_LENGTH_LEDGER] == QM_LEDGER &&
          lengths[QM_LENGTH_OUTCOME] == QM_TOLD && lengths[QM_LENGTH_NAME] == QM_MAX_NAME && lengths[QM_LENGTH_PAYLOAD] == QM_MAX_PAYLOAD, "lengths");
     held(qm_receiver_open(&ours) == 0 && qm_open(plain.state, QM_STATE, plain.names, QM_NAMES, QM_STORE) == 0, "open");
