@@ -22,7 +22,7 @@ enum { LIST, REPLAY, GAPS, COUNT, PITS, STRAYS, INDEX, FIND, SHOW, TAKE, CUT, JO
 enum { ANY = -1 };
 
 struct command {
-    const char *name, *takes, *does, *option, *says;
+    const char *name, *takes, *does, *says;
     int operands;
 };
 extern const struct command commands[COMMANDS];

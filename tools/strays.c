@@ -36,9 +36,8 @@ static qm_byte names[QM_NAMES];
 static qm_byte store[QM_STORE];
 static qm_u32 ledger[QM_LEDGER];
 
-/* Whether the datagram at hand is answered Repeat, within the log's limits. */
-static int is_repeat(const struct walk *w) {
-    qm_u64 told[QM_OUTCOME];
+/* Whether the datagram at hand is answered Repeat, within the log's limits; `told` is then what is told of it. */
+static int is_repeat(const struct walk *w, qm_u64 *told) {
     qm_byte name[QM_MAX_NAME];
     qm_u32 refusal = qm_receive_within(state, QM_STATE, names, QM_NAMES, store, QM_STORE, ledger, QM_LEDGER, w->head[QM_LOG_PAYLOAD],
                                        (qm_u32) w->head[QM_LOG_FRAGMENTS], w->entry[QM_SENDER], walk_datagram(w), w->entry[QM_ENTRY_LENGTH], told, QM_OUTCOME, name,
@@ -46,25 +45,19 @@ static int is_repeat(const struct walk *w) {
     return refusal == 0 && told[QM_ANSWER] == QM_ANSWER_REPEAT;
 }
 
-static void print_stray(const struct walk *w) {
-    qm_u32 fields[QM_FIELDS];
-    /* what was answered Repeat is of good form */
-    qm_read_datagram(walk_datagram(w), w->entry[QM_ENTRY_LENGTH], fields, QM_FIELDS);
-    printf("log %s sender %llu entry %llu tick %llu sequence %u\n", w->path, w->entry[QM_SENDER], w->entries, w->entry[QM_TICK], fields[QM_SEQUENCE]);
-}
-
 /* The strays of one log. Answers its status, and adds how many there are. */
 static int list_strays(const char *path, struct mapped log, qm_u64 *found) {
     struct strays strays = {0};
     struct walk w;
+    qm_u64 told[QM_TOLD];
     int stray = STRAY_NONE;
     walk_over(&w, "strays", path, log);
     /* memory of the header's lengths: 9 does not come */
     qm_open(state, QM_STATE, names, QM_NAMES, QM_STORE);
     while (stray != STRAY_FAILED && walk_on(&w)) {
-        stray = strays_note(&strays, &w, is_repeat(&w));
+        stray = strays_note(&strays, &w, is_repeat(&w, told));
         if (stray != STRAY) continue;
-        print_stray(&w);
+        printf("log %s sender %llu entry %llu tick %llu sequence %llu\n", w.path, w.entry[QM_SENDER], w.entries, w.entry[QM_TICK], told[QM_TOLD_SEQUENCE]);
         ++*found;
     }
     strays_close(&strays);
