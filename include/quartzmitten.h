@@ -34,7 +34,7 @@ extern "C" {
 #define QM_VERSION_TEXT "1.0"
 
 /* The stack that each function needs, in bytes, but for qm_count (QM_COUNT_STACK) and qm_acks_write (QM_ACKS_STACK): a thread that has less dies. */
-#define QM_STACK (32 * 1024)
+#define QM_STACK (40 * 1024)
 
 typedef unsigned char qm_byte;
 typedef unsigned int qm_u32;

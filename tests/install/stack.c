@@ -1,5 +1,5 @@
-/* How much of a thread's stack the calls need: each runs in a thread whose stack was filled with a pattern before. Prints the limits of the header, and of each call, or
-   of some that go together, the bytes that were touched. */
+/* How much of a thread's stack the calls need: each runs in a thread whose stack was filled with a pattern before. Prints the limits of the header, and of a thread that
+   does nothing and of each call, or of some that go together, the bytes that were touched. */
 
 #include <quartzmitten.h>
 #include "../../tools/system.h"
@@ -116,12 +116,10 @@ int main(void) {
     static const struct {
         const char *name;
         void *(*run)(void *);
-    } calls[] = {{"qm_count", count}, {"qm_acks_write", acks_write}, {"qm_acks_ask", acks_ask}, {"qm_count_on", count_on}, {"qm_receive", receive}, {"qm_cut", cut},
+    } calls[] = {{"nothing", nothing}, {"qm_count", count}, {"qm_acks_write", acks_write}, {"qm_acks_ask", acks_ask}, {"qm_count_on", count_on}, {"qm_receive", receive}, {"qm_cut", cut},
                  {"qm_index", index_log}, {"qm_index_on", index_on}, {"qm_index_file_find", index_file}, {"qm_write_message", messages}, {"qm_moss_write", packets}};
-    /* a thread that does nothing touches some of it too */
-    long empty = touched(nothing);
     log_length = fread(log_bytes, 1, MOST_LOG, stdin);
     printf("QM_COUNT_STACK %d\nQM_ACKS_STACK %d\nQM_STACK %d\n", QM_COUNT_STACK, QM_ACKS_STACK, QM_STACK);
-    for (unsigned i = 0; i < sizeof calls / sizeof *calls; i++) printf("%s %ld\n", calls[i].name, touched(calls[i].run) - empty);
+    for (unsigned i = 0; i < sizeof calls / sizeof *calls; i++) printf("%s %ld\n", calls[i].name, touched(calls[i].run));
     return 0;
 }
