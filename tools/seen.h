@@ -12,10 +12,13 @@ struct seen_row {
     qm_size place;   /* of the entry in the log; no entry is at 0, which says that the row is free */
 };
 
+/* Powers of the key that the hash goes by. */
+enum { POWERS = 4 };
+
 struct seen {
     struct seen_row *rows;
     qm_size room, used;   /* room is a power of two */
-    qm_u64 key;
+    qm_u64 power[POWERS]; /* of the key, the first being the key itself */
 };
 
 enum { SEEN_BEFORE, SEEN_FIRST, SEEN_FAILED };
