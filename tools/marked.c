@@ -10,7 +10,7 @@ enum { FIRST_ROOM = 1 << 10 };
 /* ---- tables that grow; at most half of a table by hash is in use */
 
 static qm_u32 *slot_of(const struct marked *t, qm_u64 tile, qm_u64 pit) {
-    qm_size i = hash_of_message(tile, (qm_u32) pit) & (t->room - 1);
+    qm_size i = hash_of_number(tile << 32 ^ pit) & (t->room - 1);
     while (t->slots[i] != 0 && (t->pits[t->slots[i] - 1].last.tile != tile || t->pits[t->slots[i] - 1].last.pit != pit)) i = (i + 1) & (t->room - 1);
     return &t->slots[i];
 }
@@ -38,7 +38,7 @@ static int grow_marks(struct marked *t) {
 }
 
 static qm_u64 *pair_of(qm_u64 *pairs, qm_size room, qm_u64 pair) {
-    qm_size i = hash_of_message(pair, 0) & (room - 1);
+    qm_size i = hash_of_number(pair) & (room - 1);
     while (pairs[i] != 0 && pairs[i] != pair) i = (i + 1) & (room - 1);
     return &pairs[i];
 }
@@ -68,9 +68,17 @@ static qm_u32 number_of(struct marked *t, const struct mark *m) {
     return *slot;
 }
 
-/* Who has marked which pit. */
+/* The number of a sender, from 1, or 0 where there is no memory. The marks of a list are of one. */
+static qm_size number_of_sender(struct marked *t, qm_u64 sender) {
+    if (t->sender == 0 || t->senders.rows[t->sender - 1].sender != sender) t->sender = senders_add(&t->senders, sender);
+    return t->sender;
+}
+
+/* Who has marked which pit. Often it is who has marked it last. */
 static int note_sender(struct marked *t, qm_u32 pit, qm_u64 sender) {
-    qm_size number = senders_add(&t->senders, sender);
+    qm_size number = number_of_sender(t, sender);
+    if (number != 0 && t->pits[pit - 1].sender == number) return 1;
+    t->pits[pit - 1].sender = number;
     if (number == 0 || (2 * t->pairs_many >= t->pairs_room && !grow_pairs(t))) return 0;
     qm_u64 *pair = pair_of(t->pairs, t->pairs_room, (qm_u64) pit << 32 | number);
     if (*pair != 0) return 1;

@@ -16,6 +16,7 @@ struct marked_pit {
     struct mark last;
     qm_u64 marks;
     qm_u64 senders;           /* how many have marked it */
+    qm_size sender;           /* the number of the last of them */
     int sure;                 /* by any mark: known when it was printed */
     qm_size first, latest;    /* of its marks that are kept, the number of the first and of the last among all, from 1 */
     struct outline places;
@@ -38,6 +39,7 @@ struct marked {
     struct first_mark *marks;
     qm_size kept, marks_room;
     struct senders senders;   /* that have brought marks */
+    qm_size sender;           /* the number of the last of them */
     qm_u64 *pairs;            /* by hash: the numbers of a pit and of a sender that has marked it, or 0 */
     qm_size pairs_many, pairs_room;
 };

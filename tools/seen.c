@@ -54,6 +54,11 @@ qm_u64 hash_of_message(qm_u64 sender, qm_u32 sequence) {
     return times(times(times((sender >> 32) + 1, key) + (qm_u32) sender, key) + sequence, key);
 }
 
+qm_u64 hash_of_number(qm_u64 n) {
+    qm_u64 key = key_of_run();
+    return times(times((n >> 32) + 1, key) + (qm_u32) n, key);
+}
+
 /* Whether the entry at a place has sender and bytes of the one at hand. */
 static int is_copy(const struct walk *w, qm_size place) {
     qm_u64 other[QM_ENTRY];

@@ -25,6 +25,8 @@ enum { SEEN_BEFORE, SEEN_FIRST, SEEN_FAILED };
 
 /* The hash of a message's key, by the key of the run. */
 qm_u64 hash_of_message(qm_u64 sender, qm_u32 sequence);
+/* The hash of a number, by the same. */
+qm_u64 hash_of_number(qm_u64 n);
 
 /* Zeros are a table without rows; seen_close makes it that again. */
 void seen_close(struct seen *s);

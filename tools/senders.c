@@ -7,7 +7,7 @@ enum { FIRST_ROOM = 64 };
 static const qm_size most = 0xffffffff;
 
 static qm_u32 *slot_of(const struct senders *s, qm_u64 sender) {
-    qm_size i = hash_of_message(sender, 0) & (s->room - 1);
+    qm_size i = hash_of_number(sender) & (s->room - 1);
     while (s->slots[i] != 0 && s->rows[s->slots[i] - 1].sender != sender) i = (i + 1) & (s->room - 1);
     return &s->slots[i];
 }
