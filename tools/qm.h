@@ -16,7 +16,7 @@ enum {
 
 /* ---- how it is called */
 
-enum { LIST, REPLAY, GAPS, COUNT, PITS, STRAYS, INDEX, FIND, SHOW, TAKE, CUT, JOIN, KEEP, CHECK, IMPORT, COMMANDS };
+enum { LIST, REPLAY, GAPS, COUNT, PITS, STRAYS, INDEX, FIND, SHOW, TAKE, CUT, JOIN, KEEP, CHECK, IMPORT, SUMS, COMMANDS };
 
 /* Options of its own and any number of logs: the command reads its words itself. */
 enum { ANY = -1 };
@@ -117,5 +117,6 @@ int cut_command(int words, char **word);
 int join_command(int words, char **word);
 int keep_command(int words, char **word);
 int import_command(int words, char **word);
+int sums_command(int words, char **word);
 
 #endif

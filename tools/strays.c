@@ -3,9 +3,6 @@
 #include "strays.h"
 #include "logs.h"
 
-/* So many senders of a log are told of one by one. */
-enum { TOLD_SENDERS = 16 };
-
 int strays_note(struct strays *s, const struct walk *w, int repeated) {
     int seen = seen_note(&s->seen, w);
     if (seen == SEEN_FAILED) return STRAY_FAILED;
@@ -15,13 +12,13 @@ int strays_note(struct strays *s, const struct walk *w, int repeated) {
 
 void strays_tell(struct strays *s, const struct walk *w) {
     tally_sort(&s->of);
-    for (qm_size i = 0; i < s->of.used && i < TOLD_SENDERS; i++) {
+    for (qm_size i = 0; i < s->of.used && i < STRAYS_TOLD; i++) {
         const struct tally_row *row = &s->of.rows[i];
         fprintf(stderr, "qm %s: %s: repeats that are no copies: %llu of sender %llu, from entry %llu on; what they bring is not counted. `qm strays %s` lists them; where "
                 "the sender began anew, `qm count --forget-at %llu:%llu %s` counts them\n", w->command, w->path, row->times, row->sender, row->first, w->path, row->sender,
                 row->first, w->path);
     }
-    if (s->of.used > TOLD_SENDERS) fprintf(stderr, "qm %s: %s: repeats that are no copies: of %llu senders more\n", w->command, w->path, s->of.used - TOLD_SENDERS);
+    if (s->of.used > STRAYS_TOLD) fprintf(stderr, "qm %s: %s: repeats that are no copies: of %llu senders more\n", w->command, w->path, s->of.used - STRAYS_TOLD);
 }
 
 void strays_close(struct strays *s) {

@@ -103,6 +103,18 @@ const struct command commands[COMMANDS] = {
                 "`pieces Q` that found no whole, `cut C` that were captured in part, `broken B` whose lengths do not fit, and for each sender\n"
                 "`sender 3232235527500 datagrams 12 bytes 9000 first T last U port 7667 address 10.0.0.7`. LOG is LOG.part until it is whole; a file that is there is left alone,\n"
                 "unless --replace says otherwise. A capture that was cut off is imported up to there (status 3).\n", ANY},
+    [SUMS] = {"sums", "LOG..", "what a page shows of a flight or of a season, added up: flight-page draws it", 0,
+              "Prints for each log `log LOG`, `end N` or `refused R after N`, `first T last U`, the ticks of its first and its last entry; `senders S`, and of the first 100,\n"
+              "rising, `sender 7 datagrams 12 delivered 3 kept 8 repeated 1 refused 0`; of each sender of which the sequence watch has something to say\n"
+              "`watch sender 7 passed 3 late 1 restarts 0`, the numbers passed over, what came late and how often it began anew, and `unwatched` where a 17th sender came;\n"
+              "`steps N` of its clock that are drawn short, and of the first five `step on 31536000000 entry 151 tick 99` or `step back ..`; of each of the 16 busiest\n"
+              "senders `lane sender 7 datagrams 12`, of all others together `lane others 5 datagrams 30`, each followed by its bars,\n"
+              "`bar 17 delivered 3 kept 8 repeated 1 refused 0 passed 3 late 1 restarts 0`, of 120 from 0; `incomplete N given-up M`, the messages that never completed and\n"
+              "those of them that were given up for another, and of the first 100 `incomplete sender 7 sequence 500 kept 3 of 9 first T last U missing 1, 3 to 5, 8`;\n"
+              "`strays N`, the senders of repeats that are no copies, and of the first 16 `stray sender 7 times 12 entry 120`; `refused 7 datagrams 3` for each number.\n"
+              "Then `season` and the lines of `qm count LOG..`, or `refused 61`; the lines of `qm pits LOG..`, and behind a pit whose marks may lie over 50 metres apart\n"
+              "`corners LAT LON ..`, the outermost, and of its first 20 marks `mark sure 0 lat 1 lon -2 sender 7 tick 99 log LOG`; at last `brought N`, the senders of lists, and\n"
+              "of the first 100 `brought sender 7 lists 12 pits 30 sure 20 alone 4`, the pits that it marked, those that are sure, and those that nobody else marked.\n", ANY},
 };
 
 static const char statuses[] = "Status: 0 done, 1 a file or the output failed, 2 called otherwise, 3 the log is refused.\n";
