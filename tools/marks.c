@@ -22,7 +22,7 @@ int marks_read(const struct walk *w, const struct received *r, struct listed *l)
     qm_u64 read, told[QM_MARKS];
     if (!is_delivered(r) || qm_read_message(delivered_payload(w, r), delivered_length(r), numbers, QM_NUMBERS, &read, 1) != 0) return 0;
     if (qm_marks(numbers, read, rows, ROWS, told, QM_MARKS) != 0 || !told[QM_MARKS_LIST]) return 0;
-    *l = (struct listed) {.tile = told[QM_MARKS_TILE], .sequence = r.told[QM_TOLD_SEQUENCE], .many = told[QM_MARKS_COUNT]};
+    *l = (struct listed) {.tile = told[QM_MARKS_TILE], .sequence = r->told[QM_TOLD_SEQUENCE], .many = told[QM_MARKS_COUNT]};
     return 1;
 }
 
