@@ -103,7 +103,7 @@ const struct command commands[COMMANDS] = {
                 "`pieces Q` that found no whole, `cut C` that were captured in part, `broken B` whose lengths do not fit, and for each sender\n"
                 "`sender 3232235527500 datagrams 12 bytes 9000 first T last U port 7667 address 10.0.0.7`. LOG is LOG.part until it is whole; a file that is there is left alone,\n"
                 "unless --replace says otherwise. A capture that was cut off is imported up to there (status 3).\n", ANY},
-    [SUMS] = {"sums", "LOG..", "what a page shows of a flight or of a season, added up: flight-page draws it", 0,
+    [SUMS] = {"sums", "LOG..", "what a page shows of a flight or of a season, added up: flight-page draws it",
               "Prints for each log `log LOG`, `end N` or `refused R after N`, `first T last U`, the ticks of its first and its last entry; `senders S`, and of the first 100,\n"
               "rising, `sender 7 datagrams 12 delivered 3 kept 8 repeated 1 refused 0`; of each sender of which the sequence watch has something to say\n"
               "`watch sender 7 passed 3 late 1 restarts 0`, the numbers passed over, what came late and how often it began anew, and `unwatched` where a 17th sender came;\n"
