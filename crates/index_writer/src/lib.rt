@@ -42,7 +42,11 @@ fn put_rows(index: &[u64], n: usize, file: &mut [u8])
             sequence: index[k + 1],
             place: index[k + 2],
         };
-        put_row(&mut *file, index_file::HEAD_LENGTH + index_file::ROW_LENGTH * i, row);
+        put_row(
+            &mut *file,
+            index_file::HEAD_LENGTH + index_file::ROW_LENGTH * i,
+            row,
+        );
         i += 1;
     }
 }
