@@ -2,18 +2,19 @@
    index of a log and the file that keeps it, and the count of a log, and of a season of logs; survey messages as numbers, and which pits a map has;
    acknowledge blocks; the tide gauge's packets.
 
-   Link libquartzmitten.a, which tools/install lays down beside this header with a file for pkg-config; or, out of the tree, the archives libhost.a,
-   libhost_state.a (qm_open, qm_forget, qm_lengths), libhost_receiver.a (qm_receive, qm_receive_within), libhost_flight.a (qm_log_first, qm_log_next,
-   qm_watch_see), libhost_index.a (qm_index, qm_find, qm_index_on, qm_index_file_write, qm_index_file_head, qm_index_file_rows, qm_index_file_find),
-   libhost_count.a (qm_count), libhost_season.a (qm_count_on, qm_count_lines), libhost_pits.a (qm_read_message, qm_pits, qm_marks), libhost_acks.a
+   Link libquartzmitten.a, which tools/install lays down beside this header with a file for pkg-config; or, out of the tree, the archives libhost.a
+   (qm_checksum, qm_read_datagram, qm_cut), libhost_append.a (qm_log_begin, qm_log_append), libhost_state.a (qm_open, qm_forget, qm_lengths,
+   qm_version), libhost_receiver.a (qm_receive, qm_receive_within), libhost_flight.a (qm_log_first, qm_log_next, qm_watch_see), libhost_index.a (qm_index, qm_find,
+   qm_index_on), libhost_index_file.a (qm_index_file_write, qm_index_file_head, qm_index_file_rows, qm_index_file_find), libhost_count.a (qm_count),
+   libhost_season.a (qm_count_on), libhost_pits.a (qm_count_lines, qm_pits), libhost_marks.a (qm_read_message, qm_marks), libhost_acks.a
    (qm_acks_ask, qm_acks_write), libhost_gauge.a (qm_moss_read, qm_moss_message, qm_moss_write, qm_gauge_see) and libhost_messages.a
    (qm_write_message), or those whose functions are called: the toolchain's `rt staticlib host`, `rt staticlib host_state` and so on write them
    (x86-64 Linux). No other header is needed.
 
    What holds for all of them:
    - They end for any bytes and any lengths, keep no state of their own, ask the system for nothing, and may be called from any thread. qm_count
-     needs QM_COUNT_STACK bytes of its stack, since the receiver that it counts with stands there, and qm_acks_write 65 KiB; the others need
-     16 KiB at most.
+     needs QM_COUNT_STACK bytes of its stack, since the receiver that it counts with stands there, and qm_acks_write QM_ACKS_STACK, since it
+     lays the blocks there before it writes them; the others need QM_STACK at most.
    - They read and write only the memory lent in the call. A refusal writes nothing, but for what qm_count and qm_count_on say
      of three of their own.
    - Lent memory is a pointer and how many elements stand there. The pointer is never null, also where the length is 0, and
@@ -28,9 +29,12 @@
 extern "C" {
 #endif
 
-/* Which header this is. */
+/* Which header this is: a hundred times the major number and the minor. qm_version tells which one the archive goes with. */
 #define QM_VERSION 100
 #define QM_VERSION_TEXT "1.0"
+
+/* The stack that each function needs, in bytes, but for qm_count (QM_COUNT_STACK) and qm_acks_write (QM_ACKS_STACK): a thread that has less dies. */
+#define QM_STACK (40 * 1024)
 
 typedef unsigned char qm_byte;
 typedef unsigned int qm_u32;
@@ -309,7 +313,8 @@ enum {
     QM_TOLD_EMPTIED,      /* 1 where an open message was given up for this one, else 0, as the next two */
     QM_TOLD_EMPTIED_SENDER, /* whose it was */
     QM_TOLD_EMPTIED_SEQUENCE, /* and its sequence number */
-    QM_TOLD               /* seven */
+    QM_TOLD_SEQUENCE,     /* the sequence number of the datagram that was received: with its sender the key of its message */
+    QM_TOLD               /* eight */
 };
 
 enum { QM_ANSWER_KEPT = 1, QM_ANSWER_REPEAT, QM_ANSWER_DELIVERED };
@@ -317,7 +322,7 @@ enum { QM_IN_DATAGRAM = 1, QM_IN_STORE };
 
 /* Receives one datagram of a sender.
 
-   Answers 0 and writes the seven numbers above to the start of `told` and QM_MAX_NAME bytes to the start of `name`: a delivered message's name with zeros
+   Answers 0 and writes the eight numbers above to the start of `told` and QM_MAX_NAME bytes to the start of `name`: a delivered message's name with zeros
    after it, else zeros. The payload stays where it is until the next call. Otherwise answers a refusal, and then nothing at all was written: 13 where `told`
    has room for fewer than QM_TOLD numbers or `name` for fewer than QM_MAX_NAME bytes; then 9; then the datagram reader's, 3, 1, 2, 5, 6, 4, 7,
    6 by the slot size; then 8. */
@@ -379,6 +384,9 @@ enum {
 
 /* Writes them to the start of `lengths` and answers 0; or 13, and writes nothing, where fewer than QM_LENGTHS numbers fit. */
 qm_u32 qm_lengths(qm_u64 *lengths, qm_size lengths_length);
+
+/* The QM_VERSION of the header that the archive goes with. Nothing is written. */
+qm_u32 qm_version(void);
 
 /* The count of a flight: how often each answer was given, and for each tile its distinct pits. */
 
@@ -536,6 +544,9 @@ qm_u32 qm_marks(const qm_i64 *numbers, qm_size numbers_length, qm_i64 *rows, qm_
 /* The most bytes of a list of blocks. */
 #define QM_MAX_BLOCKS 65535
 
+/* The stack that qm_acks_write needs, in bytes: a thread that has less dies. */
+#define QM_ACKS_STACK (80 * 1024)
+
 /* Whether the blocks in `length` bytes acknowledge a number. Answers 0 and writes 1 or 0 to the first number of `told`; what stands after it stays. Otherwise answers
    a refusal, and then nothing is written: 13 where `told` has room for none; then 77; then at each block 71, 70, 72, 73, 74. All blocks are read, so a bad one
    refuses after one that acknowledges the number. */
@@ -544,7 +555,7 @@ qm_u32 qm_acks_ask(const qm_byte *blocks, qm_size length, qm_u64 number, qm_u64 
 /* Writes the blocks of `count` numbers, which must rise, to the start of `out`: a lone number as a single, each longer unbroken run as first to last. No bitmaps.
 
    Answers 0 and writes to the first number of `told` how many bytes they take; what stands after them stays. Otherwise answers a refusal, and then nothing is
-   written: 13 where `told` has room for none; then 75, 77, 76. It needs 65 KiB of stack. */
+   written: 13 where `told` has room for none; then 75, 77, 76. It needs QM_ACKS_STACK bytes of stack. */
 qm_u32 qm_acks_write(const qm_u64 *numbers, qm_size count, qm_byte *out, qm_size out_length, qm_u64 *told, qm_size told_length);
 
 /* The tide gauge's packets: 4 bytes of length, a session of QM_SESSION bytes, 4 of sequence, a type, 'U' data, 'H' heartbeat or 'E' end of session, and of U
@@ -657,6 +668,12 @@ static inline qm_u32 qm_host_take(struct qm_host *h, qm_u64 sender, const qm_byt
         if (QM_WATCH_KIND(*seen) == QM_WATCH_RESTARTED) qm_receiver_forget(&h->receiver, sender);
     }
     return qm_receiver_take(&h->receiver, sender, datagram, length, o);
+}
+
+/* Adds to an index of `rows` rows what was added to its log since this had `from` bytes: qm_index_on, with the most rows that qm_index gives. It answers and leaves
+   what qm_index does of the whole log. */
+static inline qm_u64 qm_extend(const qm_byte *log, qm_size length, qm_size from, qm_u64 *index, qm_size index_length, qm_size rows) {
+    return qm_index_on(log, length, from, index, index_length, rows, QM_MAX_INDEX);
 }
 
 /* A season's map: three lists that the host lends, with how many words each has, and how many numbers stand in it, 0 at first. */

@@ -65,25 +65,12 @@ static qm_u32 first_broken(const struct logs *logs) {
     return 0;
 }
 
-/* ---- the lines */
-
-static void print_count(const struct asked *a, struct counted *c) {
-    const struct totals *t = &c->totals;
-    printf("entries %llu\nkept %llu\nrepeated %llu\ndelivered %llu\n", t->entries, t->kept, t->repeated, t->delivered);
-    for (unsigned n = 0; n < QM_REFUSALS; n++)
-        if (t->refused[n] > 0) printf("refused %u %llu\n", n, t->refused[n]);
-    printf("lists %llu\n", t->lists);
-    tally_sort(&c->lists);
-    for (qm_size i = 0; a->senders && i < c->lists.used; i++) printf("sender %llu lists %llu\n", c->lists.rows[i].sender, c->lists.rows[i].times);
-    season_print();
-}
-
 static int count_all(const struct asked *a, const struct logs *logs, struct counted *c) {
     if (a->whole) c->refusal = first_broken(logs);
     if (c->refusal != 0) c->status = REFUSED;
     if (count_flights(&a->how, logs, c) != DONE) return FAILED;
     if (c->refusal != 0) printf("refused %u\n", c->refusal);
-    else print_count(a, c);
+    else counted_print(c, a->senders);
     return printed("count") == DONE ? c->status : FAILED;
 }
 

@@ -14,17 +14,15 @@ static void tell_forgets(const struct counting *how, const struct walk *w) {
             fprintf(stderr, "qm %s: %s: --forget-at %s: nothing was forgotten, since %llu entries were read\n", w->command, w->path, how->forgets[i].given, w->entries);
 }
 
-/* The entry at hand. Answers whether there was memory; a refusal of what is lent ends the count. */
-static int count_entry(struct counted *c, struct strays *strays, const struct walk *w) {
+int count_entry(struct counted *c, const struct walk *w, int *repeated) {
     struct totals told;
     c->refusal = flight_take(w, &told);
     totals_add(&c->totals, &told);
-    if (told.lists > 0 && !tally_add(&c->lists, w->entry[QM_SENDER], w->entries)) return 0;
-    return strays_note(strays, w, told.repeated > 0) != STRAY_FAILED;
+    *repeated = told.repeated > 0;
+    return told.lists == 0 || tally_add(&c->lists, w->entry[QM_SENDER], w->entries);
 }
 
-/* What is lent is full: the count ends at the entry at hand. */
-static int tell_full(const struct walk *w, qm_u32 refusal) {
+int tell_full(const struct walk *w, qm_u32 refusal) {
     worked(w->shown > 0);
     fprintf(stderr, "qm %s: %s: refused %u at entry %llu: a season has room for %d tiles and %d pits\n", w->command, w->path, refusal, w->entries, SEASON_TILES, SEASON_PITS);
     return REFUSED;
@@ -34,12 +32,12 @@ static int tell_full(const struct walk *w, qm_u32 refusal) {
 static int count_flight(const struct counting *how, struct counted *c, const char *path, struct mapped log) {
     struct strays strays = {0};
     struct walk w;
-    int good = 1;
+    int good = 1, repeated;
     walk_over(&w, how->command, path, log);
     flight_begin();
     while (good && c->refusal == 0 && walk_on(&w)) {
         forget_before(how, w.entries);
-        if (from_has(&how->from, w.entry[QM_SENDER])) good = count_entry(c, &strays, &w);
+        if (from_has(&how->from, w.entry[QM_SENDER])) good = count_entry(c, &w, &repeated) && strays_note(&strays, &w, repeated) != STRAY_FAILED;
     }
     if (good) {
         if (c->refusal != 0) c->status = tell_full(&w, c->refusal);
@@ -55,6 +53,17 @@ int count_flights(const struct counting *how, const struct logs *logs, struct co
     for (unsigned i = 0; c->refusal == 0 && i < logs->many; i++)
         if (count_flight(how, c, logs->path[i], logs->mapped[i]) != DONE) return FAILED;
     return DONE;
+}
+
+void counted_print(struct counted *c, int senders) {
+    const struct totals *t = &c->totals;
+    printf("entries %llu\nkept %llu\nrepeated %llu\ndelivered %llu\n", t->entries, t->kept, t->repeated, t->delivered);
+    for (unsigned n = 0; n < QM_REFUSALS; n++)
+        if (t->refused[n] > 0) printf("refused %u %llu\n", n, t->refused[n]);
+    printf("lists %llu\n", t->lists);
+    tally_sort(&c->lists);
+    for (qm_size i = 0; senders && i < c->lists.used; i++) printf("sender %llu lists %llu\n", c->lists.rows[i].sender, c->lists.rows[i].times);
+    season_print();
 }
 
 void counted_close(struct counted *c) {

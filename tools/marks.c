@@ -1,7 +1,6 @@
 /* The marks of a flight. The count reads the same lists, through a receiver that is lent as much; here each of their marks is looked at. */
 
 #include "marks.h"
-#include "receiver.h"
 
 /* Rows for as many marks as the longest list has: a mark is four numbers at least, so that 13 does not come. */
 enum { ROWS = QM_NUMBERS / 4 * QM_MARK };
@@ -13,20 +12,17 @@ void marks_begin(void) {
     receiver_open();
 }
 
-static qm_u64 sequence_of(const struct walk *w) {
-    qm_u32 fields[QM_FIELDS];
-    /* what was delivered is of good form */
-    qm_read_datagram(walk_datagram(w), w->entry[QM_ENTRY_LENGTH], fields, QM_FIELDS);
-    return fields[QM_SEQUENCE];
-}
-
 int marks_take(const struct walk *w, struct listed *l) {
     struct received r;
-    qm_u64 read, told[QM_MARKS];
     receiver_take(w, &r);
-    if (!is_delivered(&r) || qm_read_message(delivered_payload(w, &r), delivered_length(&r), numbers, QM_NUMBERS, &read, 1) != 0) return 0;
+    return marks_read(w, &r, l);
+}
+
+int marks_read(const struct walk *w, const struct received *r, struct listed *l) {
+    qm_u64 read, told[QM_MARKS];
+    if (!is_delivered(r) || qm_read_message(delivered_payload(w, r), delivered_length(r), numbers, QM_NUMBERS, &read, 1) != 0) return 0;
     if (qm_marks(numbers, read, rows, ROWS, told, QM_MARKS) != 0 || !told[QM_MARKS_LIST]) return 0;
-    *l = (struct listed) {.tile = told[QM_MARKS_TILE], .sequence = sequence_of(w), .many = told[QM_MARKS_COUNT]};
+    *l = (struct listed) {.tile = told[QM_MARKS_TILE], .sequence = r->told[QM_TOLD_SEQUENCE], .many = told[QM_MARKS_COUNT]};
     return 1;
 }
 

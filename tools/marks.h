@@ -3,7 +3,7 @@
 #ifndef QM_MARKS_H
 #define QM_MARKS_H
 
-#include "qm.h"
+#include "receiver.h"
 
 struct mark {
     qm_u64 tile, pit;
@@ -23,6 +23,8 @@ struct listed {
 void marks_begin(void);
 /* It takes the entry at hand. Answers whether that brought a list. */
 int marks_take(const struct walk *w, struct listed *l);
+/* The same of what the receiver has said of it. */
+int marks_read(const struct walk *w, const struct received *r, struct listed *l);
 /* The mark number i of the list that the entry at hand brought. */
 struct mark mark_of(const struct walk *w, const struct listed *l, qm_size i);
 

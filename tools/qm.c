@@ -64,6 +64,7 @@ static int run_any(unsigned i, int words, char **word) {
     case REPLAY: status = replay_command(words, word); break;
     case KEEP: status = keep_command(words, word); break;
     case IMPORT: status = import_command(words, word); break;
+    case SUMS: status = sums_command(words, word); break;
     default: status = strays_command(words, word);
     }
     return status == USAGE ? command_usage(stderr, i, USAGE) : status;

@@ -16,13 +16,13 @@ enum {
 
 /* ---- how it is called */
 
-enum { LIST, REPLAY, GAPS, COUNT, PITS, STRAYS, INDEX, FIND, SHOW, TAKE, CUT, JOIN, KEEP, CHECK, IMPORT, COMMANDS };
+enum { LIST, REPLAY, GAPS, COUNT, PITS, STRAYS, INDEX, FIND, SHOW, TAKE, CUT, JOIN, KEEP, CHECK, IMPORT, SUMS, COMMANDS };
 
 /* Options of its own and any number of logs: the command reads its words itself. */
 enum { ANY = -1 };
 
 struct command {
-    const char *name, *takes, *does, *option, *says;
+    const char *name, *takes, *does, *says;
     int operands;
 };
 extern const struct command commands[COMMANDS];
@@ -117,5 +117,6 @@ int cut_command(int words, char **word);
 int join_command(int words, char **word);
 int keep_command(int words, char **word);
 int import_command(int words, char **word);
+int sums_command(int words, char **word);
 
 #endif

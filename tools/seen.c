@@ -10,28 +10,41 @@ static const qm_u64 prime = (1ull << 61) - 1, first_bytes = (1ull << 8 * CHUNK) 
 /* The system gives each run of a program random bytes. */
 static qm_u64 key_of_run(void) {
     static qm_u64 key;
+    if (key != 0) return key;
     const void *random = (const void *) getauxval(RANDOM_BYTES);
-    if (key == 0 && random) __builtin_memcpy(&key, random, sizeof key);
+    if (random) __builtin_memcpy(&key, random, sizeof key);
     key &= prime;
-    return key > 1 ? key : prime - 2;
+    if (key < 2) key = prime - 2;
+    return key;
 }
 
-static qm_u64 times(qm_u64 a, qm_u64 b) {
-    unsigned __int128 product = (unsigned __int128) a * b;
-    qm_u64 sum = (qm_u64) (product & prime) + (qm_u64) (product >> 61);
+/* Of a number below 2^124. */
+static qm_u64 remainder_of(unsigned __int128 n) {
+    qm_u64 sum = (qm_u64) (n & prime) + (qm_u64) (n >> 61);
+    sum = (sum & prime) + (sum >> 61);
     return sum >= prime ? sum - prime : sum;
 }
 
-/* A polynomial in the key, whose coefficients are sender, length and bytes: two datagrams of one hash are one chance in 2^47. */
-static qm_u64 hash_of(const struct walk *w, qm_u64 key) {
+static qm_u64 times(qm_u64 a, qm_u64 b) {
+    return remainder_of((unsigned __int128) a * b);
+}
+
+static qm_u64 chunk_at(const qm_byte *at) {
+    qm_u64 chunk;
+    __builtin_memcpy(&chunk, at, sizeof chunk);
+    return chunk & first_bytes;
+}
+
+/* A polynomial in the key, whose coefficients are sender, length and bytes: two datagrams of one hash are one chance in 2^47. Four steps at a time, by powers of the
+   key, so that three of four products wait for nothing. */
+static qm_u64 hash_of(const struct walk *w, const qm_u64 *power) {
     const qm_byte *at = walk_datagram(w);
     qm_size left = w->entry[QM_ENTRY_LENGTH];
-    qm_u64 hash = times(times(times(left + 1, key) + (w->entry[QM_SENDER] >> 32), key) + (qm_u32) w->entry[QM_SENDER], key);
-    for (; left > CHUNK; at += CHUNK, left -= CHUNK) {
-        qm_u64 chunk;
-        __builtin_memcpy(&chunk, at, sizeof chunk);
-        hash = times(hash + (chunk & first_bytes), key);
-    }
+    qm_u64 key = power[0], hash = times(times(times(left + 1, key) + (w->entry[QM_SENDER] >> 32), key) + (qm_u32) w->entry[QM_SENDER], key);
+    for (; left > POWERS * CHUNK; at += POWERS * CHUNK, left -= POWERS * CHUNK)
+        hash = remainder_of((unsigned __int128) (hash + chunk_at(at)) * power[3] + (unsigned __int128) chunk_at(at + CHUNK) * power[2] +
+                            (unsigned __int128) chunk_at(at + 2 * CHUNK) * power[1] + (unsigned __int128) chunk_at(at + 3 * CHUNK) * key);
+    for (; left > CHUNK; at += CHUNK, left -= CHUNK) hash = times(hash + chunk_at(at), key);
     for (; left > 0; at++, left--) hash = times(hash + *at, key);
     return hash;
 }
@@ -39,6 +52,11 @@ static qm_u64 hash_of(const struct walk *w, qm_u64 key) {
 qm_u64 hash_of_message(qm_u64 sender, qm_u32 sequence) {
     qm_u64 key = key_of_run();
     return times(times(times((sender >> 32) + 1, key) + (qm_u32) sender, key) + sequence, key);
+}
+
+qm_u64 hash_of_number(qm_u64 n) {
+    qm_u64 key = key_of_run();
+    return times(times((n >> 32) + 1, key) + (qm_u32) n, key);
 }
 
 /* Whether the entry at a place has sender and bytes of the one at hand. */
@@ -58,9 +76,10 @@ static qm_size row_of(const struct seen *s, qm_u64 hash, qm_size from) {
 
 /* At most half of the rows are in use. */
 static int grow(struct seen *s) {
-    struct seen wider = {.room = s->room ? 2 * s->room : FIRST_ROOM, .used = s->used, .key = key_of_run()};
+    struct seen wider = {.room = s->room ? 2 * s->room : FIRST_ROOM, .used = s->used, .power = {key_of_run()}};
     wider.rows = calloc(wider.room, sizeof *wider.rows);
     if (!wider.rows) return 0;
+    for (unsigned i = 1; i < POWERS; i++) wider.power[i] = times(wider.power[i - 1], wider.power[0]);
     for (qm_size i = 0; i < s->room; i++) {
         if (s->rows[i].place == 0) continue;
         qm_size to = s->rows[i].hash & (wider.room - 1);
@@ -74,7 +93,7 @@ static int grow(struct seen *s) {
 
 int seen_note(struct seen *s, const struct walk *w) {
     if (2 * s->used >= s->room && !grow(s)) return SEEN_FAILED;
-    qm_u64 hash = hash_of(w, s->key);
+    qm_u64 hash = hash_of(w, s->power);
     qm_size i = row_of(s, hash, hash);
     for (; s->rows[i].place != 0; i = row_of(s, hash, i + 1))
         if (is_copy(w, s->rows[i].place)) return SEEN_BEFORE;

@@ -12,16 +12,21 @@ struct seen_row {
     qm_size place;   /* of the entry in the log; no entry is at 0, which says that the row is free */
 };
 
+/* Powers of the key that the hash goes by. */
+enum { POWERS = 4 };
+
 struct seen {
     struct seen_row *rows;
     qm_size room, used;   /* room is a power of two */
-    qm_u64 key;
+    qm_u64 power[POWERS]; /* of the key, the first being the key itself */
 };
 
 enum { SEEN_BEFORE, SEEN_FIRST, SEEN_FAILED };
 
 /* The hash of a message's key, by the key of the run. */
 qm_u64 hash_of_message(qm_u64 sender, qm_u32 sequence);
+/* The hash of a number, by the same. */
+qm_u64 hash_of_number(qm_u64 n);
 
 /* Zeros are a table without rows; seen_close makes it that again. */
 void seen_close(struct seen *s);

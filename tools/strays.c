@@ -3,9 +3,6 @@
 #include "strays.h"
 #include "logs.h"
 
-/* So many senders of a log are told of one by one. */
-enum { TOLD_SENDERS = 16 };
-
 int strays_note(struct strays *s, const struct walk *w, int repeated) {
     int seen = seen_note(&s->seen, w);
     if (seen == SEEN_FAILED) return STRAY_FAILED;
@@ -15,13 +12,13 @@ int strays_note(struct strays *s, const struct walk *w, int repeated) {
 
 void strays_tell(struct strays *s, const struct walk *w) {
     tally_sort(&s->of);
-    for (qm_size i = 0; i < s->of.used && i < TOLD_SENDERS; i++) {
+    for (qm_size i = 0; i < s->of.used && i < STRAYS_TOLD; i++) {
         const struct tally_row *row = &s->of.rows[i];
         fprintf(stderr, "qm %s: %s: repeats that are no copies: %llu of sender %llu, from entry %llu on; what they bring is not counted. `qm strays %s` lists them; where "
                 "the sender began anew, `qm count --forget-at %llu:%llu %s` counts them\n", w->command, w->path, row->times, row->sender, row->first, w->path, row->sender,
                 row->first, w->path);
     }
-    if (s->of.used > TOLD_SENDERS) fprintf(stderr, "qm %s: %s: repeats that are no copies: of %llu senders more\n", w->command, w->path, s->of.used - TOLD_SENDERS);
+    if (s->of.used > STRAYS_TOLD) fprintf(stderr, "qm %s: %s: repeats that are no copies: of %llu senders more\n", w->command, w->path, s->of.used - STRAYS_TOLD);
 }
 
 void strays_close(struct strays *s) {
@@ -36,9 +33,8 @@ static qm_byte names[QM_NAMES];
 static qm_byte store[QM_STORE];
 static qm_u32 ledger[QM_LEDGER];
 
-/* Whether the datagram at hand is answered Repeat, within the log's limits. */
-static int is_repeat(const struct walk *w) {
-    qm_u64 told[QM_OUTCOME];
+/* Whether the datagram at hand is answered Repeat, within the log's limits; `told` is then what is told of it. */
+static int is_repeat(const struct walk *w, qm_u64 *told) {
     qm_byte name[QM_MAX_NAME];
     qm_u32 refusal = qm_receive_within(state, QM_STATE, names, QM_NAMES, store, QM_STORE, ledger, QM_LEDGER, w->head[QM_LOG_PAYLOAD],
                                        (qm_u32) w->head[QM_LOG_FRAGMENTS], w->entry[QM_SENDER], walk_datagram(w), w->entry[QM_ENTRY_LENGTH], told, QM_OUTCOME, name,
@@ -46,25 +42,19 @@ static int is_repeat(const struct walk *w) {
     return refusal == 0 && told[QM_ANSWER] == QM_ANSWER_REPEAT;
 }
 
-static void print_stray(const struct walk *w) {
-    qm_u32 fields[QM_FIELDS];
-    /* what was answered Repeat is of good form */
-    qm_read_datagram(walk_datagram(w), w->entry[QM_ENTRY_LENGTH], fields, QM_FIELDS);
-    printf("log %s sender %llu entry %llu tick %llu sequence %u\n", w->path, w->entry[QM_SENDER], w->entries, w->entry[QM_TICK], fields[QM_SEQUENCE]);
-}
-
 /* The strays of one log. Answers its status, and adds how many there are. */
 static int list_strays(const char *path, struct mapped log, qm_u64 *found) {
     struct strays strays = {0};
     struct walk w;
+    qm_u64 told[QM_TOLD];
     int stray = STRAY_NONE;
     walk_over(&w, "strays", path, log);
     /* memory of the header's lengths: 9 does not come */
     qm_open(state, QM_STATE, names, QM_NAMES, QM_STORE);
     while (stray != STRAY_FAILED && walk_on(&w)) {
-        stray = strays_note(&strays, &w, is_repeat(&w));
+        stray = strays_note(&strays, &w, is_repeat(&w, told));
         if (stray != STRAY) continue;
-        print_stray(&w);
+        printf("log %s sender %llu entry %llu tick %llu sequence %llu\n", w.path, w.entry[QM_SENDER], w.entries, w.entry[QM_TICK], told[QM_TOLD_SEQUENCE]);
         ++*found;
     }
     strays_close(&strays);

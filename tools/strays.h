@@ -12,6 +12,9 @@ struct strays {
     struct tally of;   /* of each sender, how many, and at which entry the first */
 };
 
+/* So many senders of a log are told of one by one. */
+enum { STRAYS_TOLD = 16 };
+
 enum { STRAY_NONE, STRAY, STRAY_FAILED };
 
 /* Notes the entry at hand, and whether it was answered Repeat. Answers whether it is a stray: no earlier entry of its sender in the log has its bytes. */

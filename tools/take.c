@@ -42,13 +42,14 @@ static int read_words(struct asked *a, int words, char **word) {
 
 /* ---- one message */
 
-/* The sequence of the datagram at hand, and which fragment of how many it is. Answers whether the reader accepts it by its own limits. */
-static int read_entry(const struct walk *w, qm_u32 *fields) {
-    return qm_read_datagram(walk_datagram(w), w->entry[QM_ENTRY_LENGTH], fields, QM_FIELDS) == 0;
+/* Whether the entry at hand is of the key, by the reader's own limits; then which fragment of how many it is stands in `fields`. */
+static int is_of_key(const struct asked *a, const struct walk *w, qm_u32 *fields) {
+    return w->entry[QM_SENDER] == a->sender && qm_read_datagram(walk_datagram(w), w->entry[QM_ENTRY_LENGTH], fields, QM_FIELDS) == 0 && fields[QM_SEQUENCE] == a->sequence;
 }
 
-static int is_of_key(const struct asked *a, const struct walk *w, qm_u32 *fields) {
-    return w->entry[QM_SENDER] == a->sender && read_entry(w, fields) && fields[QM_SEQUENCE] == a->sequence;
+/* Whether the receiver delivered the key's message. */
+static int is_answer(const struct asked *a, const struct walk *w, const struct received *r) {
+    return is_delivered(r) && w->entry[QM_SENDER] == a->sender && r->told[QM_TOLD_SEQUENCE] == a->sequence;
 }
 
 static void print_delivered(const struct asked *a, const struct walk *w, const struct received *r) {
@@ -84,11 +85,10 @@ static int replay(const struct asked *a, struct walk *w, struct mapped log, stru
     walk_over(w, "take", a->log, log);
     receiver_open();
     while (walk_on(w)) {
-        int ours = !found && is_of_key(a, w, fields);
-        if (found || (alone && !ours)) continue;
+        if (found || (alone && !is_of_key(a, w, fields))) continue;
         receiver_take(w, &r);
         if (alone) note(alone, &r, fields);
-        found = ours && is_delivered(&r);
+        found = is_answer(a, w, &r);
         if (found) print_delivered(a, w, &r);
     }
     return found;
@@ -137,14 +137,15 @@ static int take_one(const struct asked *a, struct mapped log) {
 /* ---- all of them */
 
 /* The delivered payload as a file of the folder, SENDER-SEQUENCE; where the key was delivered before, with how often behind it. Its line says which. */
-static int put_payload(const struct asked *a, const struct walk *w, const struct received *r, qm_u32 sequence, qm_u32 times) {
+static int put_payload(const struct asked *a, const struct walk *w, const struct received *r, qm_u32 times) {
     struct out o;
     char again[16] = "";
+    qm_u64 sequence = r->told[QM_TOLD_SEQUENCE];
     char *path = malloc(strlen(a->folder) + 64);
     if (!path) return failed("take", a->folder);
     if (times > 1) sprintf(again, "-%u", times);
     int folder = sprintf(path, "%s/", a->folder);
-    sprintf(path + folder, "%llu-%u%s", w->entry[QM_SENDER], sequence, again);
+    sprintf(path + folder, "%llu-%llu%s", w->entry[QM_SENDER], sequence, again);
     int status = out_begin(&o, "take", path, 0);
     if (status == DONE) {
         status = out_put(&o, delivered_payload(w, r), delivered_length(r));
@@ -152,7 +153,7 @@ static int put_payload(const struct asked *a, const struct walk *w, const struct
         else out_drop(&o);
     }
     if (status == DONE) {
-        printf("sender %llu sequence %u tick %llu payload %llu file %s name ", w->entry[QM_SENDER], sequence, w->entry[QM_TICK], delivered_length(r), path + folder);
+        printf("sender %llu sequence %llu tick %llu payload %llu file %s name ", w->entry[QM_SENDER], sequence, w->entry[QM_TICK], delivered_length(r), path + folder);
         print_name(stdout, r->name, delivered_name_length(r));
         printf("\n");
     }
@@ -163,13 +164,12 @@ static int put_payload(const struct asked *a, const struct walk *w, const struct
 /* The entry at hand through the receiver, and what it delivers into the folder. */
 static int take_entry(const struct asked *a, const struct walk *w, struct keys *keys, qm_u64 *taken) {
     struct received r;
-    qm_u32 fields[QM_FIELDS];
     receiver_take(w, &r);
-    if (!is_delivered(&r) || !read_entry(w, fields)) return DONE;
-    qm_u32 times = keys_add(keys, w->entry[QM_SENDER], fields[QM_SEQUENCE]);
+    if (!is_delivered(&r)) return DONE;
+    qm_u32 times = keys_add(keys, w->entry[QM_SENDER], (qm_u32) r.told[QM_TOLD_SEQUENCE]);
     if (times == 0) return failed("take", a->log);
     ++*taken;
-    return put_payload(a, w, &r, fields[QM_SEQUENCE], times);
+    return put_payload(a, w, &r, times);
 }
 
 static int take_all(const struct asked *a, struct mapped log) {

@@ -7,7 +7,7 @@ enum { LONG = 1 << 24 };
 
 /* Whether a command prints its lines while it reads. */
 static int prints_on_the_way(const char *command) {
-    static const char *const such[] = {"list", "replay", "gaps", "take", "strays", "pits"};
+    static const char *const such[] = {"list", "replay", "gaps", "take", "strays", "pits", "sums"};
     for (unsigned i = 0; i < sizeof such / sizeof *such; i++)
         if (strcmp(command, such[i]) == 0) return 1;
     return 0;
@@ -22,13 +22,13 @@ static void wipe(void) {
     fprintf(stderr, "\r\33[K");
 }
 
-/* What was walked over is given back in such pieces, so that a long log does not fill the memory. Who looks back has it from the disk again. */
-enum { PIECE = 1 << 26 };
+/* What was walked over is given back in such pieces, so that a long log does not fill the memory. Who looks back has it from the disk again, until the next piece. */
+enum { PIECE = 1 << 24 };
 
 static void give_back(struct walk *w) {
     qm_size whole = w->at / PIECE * PIECE;
     if (whole == w->given) return;
-    madvise((void *) (w->log.bytes + w->given), whole - w->given, NOT_NEEDED);
+    madvise((void *) w->log.bytes, whole, NOT_NEEDED);
     w->given = whole;
 }
 

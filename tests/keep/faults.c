@@ -5,6 +5,7 @@
 #include "../../tools/system.h"
 
 char *getenv(const char *name);
+int usleep(unsigned microseconds);
 enum { NO_LOCKS = 37, INPUT_OUTPUT = 5, NO_SPACE = 28 };
 
 int __real_flock(int file, int how);
@@ -26,7 +27,12 @@ int __wrap_flock(int file, int how) {
     return fails("flock", NO_LOCKS) ? -1 : __real_flock(file, how);
 }
 
+/* `told` is no fault: each sync is told, and takes as long as on a busy disk. */
 int __wrap_fdatasync(int file) {
+    if (fails("told", 0)) {
+        fprintf(stderr, "a sync\n");
+        usleep(20000);
+    }
     return fails("fdatasync", INPUT_OUTPUT) ? -1 : __real_fdatasync(file);
 }
 

@@ -12,7 +12,7 @@ static u64 *state, old_state[QM_STATE];
 static u8 *names, old_names[QM_NAMES], *store, ref_store[STORE];
 static u32 *ledger;
 static struct ref_receiver ref;
-static u64 passed, failed, met[4], refused_by[16], forgotten, emptied_keys, names_seen, too_short, within[16];
+static u64 passed, failed, met[4], refused_by[16], forgotten, emptied_keys, names_seen, too_short, within[16], large_sequences;
 
 void held(int good, const char *what, u64 call) {
     if (good) passed++;
@@ -37,6 +37,13 @@ static void hold_delivered(const struct ref_answer *a, const u64 *told, const u8
         held(told[QM_WHERE] == 0 && told[QM_PAYLOAD_PLACE] == 0 && told[QM_PAYLOAD_LENGTH] == 0, "place", call);
     }
     held(memcmp(name, ref_name, MAX_NAME) == 0, "name", call);
+}
+
+/* The sequence that is told is the one that the reference reads. */
+static void hold_sequence(const u64 *told, const u8 *d, u64 length, u64 call) {
+    struct ref_header h = {0};
+    held(ref_read(d, length, MAX_PAYLOAD, &h) == 0 && told[QM_TOLD_SEQUENCE] == h.sequence, "sequence", call);
+    large_sequences += h.sequence >> 24 != 0;
 }
 
 /* The receiver's call, or that within a log's limits. */
@@ -80,6 +87,7 @@ static void give(u64 sender, const u8 *d, u64 length, int odd, u64 call) {
         held(memcmp(told, old_told, told_length * 8) == 0 && memcmp(name, old_name, name_length) == 0, "outcome after a refusal", call);
     } else {
         hold_delivered(&a, told, name, d, call);
+        hold_sequence(told, d, length, call);
         held(!more || (told[QM_OUTCOME] == old_told[QM_OUTCOME] && name[MAX_NAME] == old_name[MAX_NAME]), "number after the outcome", call);
     }
     held(memcmp(store, ref_store, STORE) == 0, "store", call);
@@ -132,8 +140,9 @@ static void run(u64 senders, u64 window) {
     held(memcmp(state, old_state, sizeof old_state) == 0, "state after a refused opening", 0);
     open_both();
     keeping = 0;
+    u32 first = chance(50) ? (u32) random_64() : 0;
     for (u64 call = 1; call <= CALLS; call++) {
-        if (keeping == 0 || chance(30)) send_message(below(senders), (u32) below(window));
+        if (keeping == 0 || chance(30)) send_message(below(senders), first + (u32) below(window));
         u64 back = keeping < KEEP ? keeping : KEEP;
         if (back > 40 && !chance(10)) back = 40;
         u64 i = (keeping - 1 - below(back)) % KEEP;
@@ -200,7 +209,7 @@ static void long_run(void) {
     }
 }
 
-/* The header's lengths are the archive's. */
+/* The header's lengths and its version are the archive's. */
 static void lengths_run(void) {
     static const u64 header[QM_LENGTHS] = {QM_SLOTS, QM_MAX_PAYLOAD, QM_MAX_FRAGMENTS, QM_MAX_NAME, QM_STATE, QM_NAMES, QM_LEDGER, QM_OUTCOME, QM_WATCH_SENDERS, QM_MAX_INDEX};
     u64 lengths[QM_LENGTHS + 1];
@@ -208,6 +217,7 @@ static void lengths_run(void) {
     held(qm_lengths(lengths, QM_LENGTHS - 1) == QM_TOO_SHORT && lengths[0] == ~0ULL, "answer of lengths", 0);
     held(qm_lengths(lengths, QM_LENGTHS + 1) == 0 && lengths[QM_LENGTHS] == ~(u64) QM_LENGTHS, "answer of lengths", 0);
     for (u64 i = 0; i < QM_LENGTHS; i++) held(lengths[i] == header[i], "length in the header", i);
+    held(qm_version() == QM_VERSION, "version in the header", qm_version());
     held(QM_STORE == QM_SLOTS * lengths[QM_LENGTH_PAYLOAD] && QM_SLOTS == SLOTS && QM_LEDGER == LEDGER && QM_MAX_NAME == MAX_NAME && QM_MAX_INDEX == INDEXED, "length in the header", 9);
 }
 
@@ -236,6 +246,8 @@ int main(void) {
     }
     if (too_short < 20) held(0, "mixture is needed: no room comes too seldom", too_short);
     printf(" 13: %llu", too_short);
+    printf("; sequences above 2^24 %llu", large_sequences);
+    if (large_sequences < 1000) held(0, "mixture is needed: a large sequence comes too seldom", large_sequences);
     printf("; within a log's limits received %llu, refused 5: %llu 6: %llu", within[0], within[5], within[6]);
     if (within[0] < 1000 || within[5] < 1000 || within[6] < 1000) held(0, "mixture is needed: limits bind too seldom", within[5]);
     static const int heads[] = {0, 13, 40, 41, 43, 45}, indexes[] = {0, 40, 41, 42, 43, 44};

@@ -1,4 +1,5 @@
 pub mod Computed
+pub mod StepCases
 pub mod Answered
 pub mod Works
 pub mod Needed

@@ -11,11 +11,6 @@ ghost use Rattle.host.specs.Fields.{kindOf, Told};
 ghost use Rattle.host.specs.Inside.{PlacesFit};
 ghost use Rattle.host.specs.Code.{CutTold};
 
-mod flight;
-
-pub use flight::qm_log_append;
-pub use flight::qm_log_begin;
-
 // The sum of all bytes, modulo 2^32.
 #[no_mangle]
 pub extern "C" fn qm_checksum(bytes: &[u8]) -> u32

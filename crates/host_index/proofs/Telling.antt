@@ -20,12 +20,7 @@ use Rattle.index_builder.specs.declared.Indexed.{Indexed}
 use Rattle.index_builder.specs.declared.Indexed.the-variants.{Entries}
 use Rattle.index_builder.proofs.Answers.{room-rows, answer-full, answer-holds}
 use Rattle.index_builder.proofs.Promises.{index-left, finds-first}
-use Rattle.index_file.specs.Files.{headIn}
-use Rattle.index_file.specs.declared.Head.{Head}
-use Rattle.index_look.specs.Look.{lookedUp}
-use Rattle.index_look.specs.declared.Looked.{Looked}
-use Rattle.host_index.specs.Files.{OnTold, headCode, headNumbers, HeadTold, lookedCode, lookedNumbers, LookTold}
-use Rattle.host_index.specs.Told.{indexCode, indexRows, Few, IndexTold, placeCount, placeNumbers, FindTold}
+use Rattle.host_index.specs.Told.{indexCode, indexRows, Few, IndexTold, OnTold, placeCount, placeNumbers, FindTold}
 
 -- ---- an index has at most as many rows as are asked for, in 32 bits
 
@@ -54,29 +49,6 @@ index-told log w r w′ x i e = record { gave = e ∙ ap indexCode (i .answer); 
 
 pub on-told : (log : List ℕ) (from : ℕ) (w : List ℕ) (n most : ℕ) (r : Indexed) (w′ : List ℕ) (x : ℕ) → adds.IndexesOn log from w n most r w′ → x ≡ indexCode (adds.says r) → OnTold log from w n most x w′
 on-told log from w n most r w′ x i e = record { gave = e ∙ ap indexCode (i .answer); left = i .index }
-
--- an answer by its case
-pub tells : {X : Type 0} (code : X → ℕ) (numbers : X → List ℕ) (r x : X) → r ≡ x → (list list′ : List ℕ) → list′ ≡ overlay list 0 (numbers x) → (code x ≡ code r) × (list′ ≡ overlay list 0 (numbers r))
-tells {X} code numbers r x e list list′ l = (ap code (sym e), l ∙ ap (λ (o : X). overlay list 0 (numbers o)) (sym e))
-
-pub head-short : (f list : List ℕ) → length list < placeCount → HeadTold f list 13 list
-head-short f list h = let t = lt-ltb (length list) placeCount h in record { gave = rw t; left = rw t }
-
-pub head-told : (f list : List ℕ) (x : ℕ) (list′ : List ℕ) (r : Head) → placeCount ≤ length list → r ≡ headIn f → x ≡ headCode r → list′ ≡ overlay list 0 (headNumbers r) → HeadTold f list x list′
-head-told f list x list′ r h e c l =
-    let t = le-ltb (length list) placeCount h in
-    record { gave = rw t (c ∙ ap headCode e); left = rw t (l ∙ ap (λ (o : Head). overlay list 0 (headNumbers o)) e) }
-
-pub look-short : (log f : List ℕ) (s q : ℕ) (list : List ℕ) → length list < placeCount → LookTold log f s q list 13 list
-look-short log f s q list h = let t = lt-ltb (length list) placeCount h in record { gave = rw t; left = rw t }
-
--- the sequence goes in as a word
-pub look-told : (log f : List ℕ) (s q : ℕ) (list : List ℕ) (word x : ℕ) (list′ : List ℕ) (r : Looked) → placeCount ≤ length list → word ≡ q → r ≡ lookedUp log f s word → x ≡ lookedCode r → list′ ≡ overlay list 0 (lookedNumbers r)
-    → LookTold log f s q list x list′
-look-told log f s q list word x list′ r h v e c l =
-    let t = le-ltb (length list) placeCount h in
-    let g : r ≡ lookedUp log f s q = e ∙ ap (lookedUp log f s) v in
-    record { gave = rw t (c ∙ ap lookedCode g); left = rw t (l ∙ ap (λ (o : Looked). overlay list 0 (lookedNumbers o)) g) }
 
 module _ (w : List ℕ) (n s q : ℕ) (list : List ℕ) where
   pub find-short : length list < placeCount → FindTold w n s q list 13 list
@@ -110,9 +82,3 @@ find-told-once w n s q list x y a b p r = (one-answer x y (p .gave) (r .gave), o
 
 pub on-told-once : (log : List ℕ) (from : ℕ) (w : List ℕ) (n most x y : ℕ) (a b : List ℕ) → OnTold log from w n most x a → OnTold log from w n most y b → (x ≡ y) × (a ≡ b)
 on-told-once log from w n most x y a b p q = (one-answer x y (p .gave) (q .gave), one-answer a b (p .left) (q .left))
-
-pub head-told-once : (f list : List ℕ) (x y : ℕ) (a b : List ℕ) → HeadTold f list x a → HeadTold f list y b → (x ≡ y) × (a ≡ b)
-head-told-once f list x y a b p q = (one-answer x y (p .gave) (q .gave), one-answer a b (p .left) (q .left))
-
-pub look-told-once : (log f : List ℕ) (s q : ℕ) (list : List ℕ) (x y : ℕ) (a b : List ℕ) → LookTold log f s q list x a → LookTold log f s q list y b → (x ≡ y) × (a ≡ b)
-look-told-once log f s q list x y a b p r = (one-answer x y (p .gave) (r .gave), one-answer a b (p .left) (r .left))

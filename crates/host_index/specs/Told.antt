@@ -7,9 +7,10 @@ use lib.Dec.{ltb}
 use lib.ListN.{length}
 use Rattle.wire.specs.Choice.{pick}
 use Rattle.wire.specs.Overlay.{overlay}
-use Rattle.log_index.specs.Index.{rowsIn, Answer, holds, refuses, answerOf}
+use Rattle.log_index.specs.Limits.{largeBatch}
+use Rattle.log_index.specs.Index.{rowsIn, Answer, holds, refuses, answerIn, answerOf}
 use Rattle.log_index.specs.Words.{foundIn}
-use Rattle.index_builder.specs.Adds.{indexWords}
+use Rattle.index_builder.specs.Adds.{extendedIn, indexWords, rowsOn}
 
 -- ---- the index: 2^32 and how many rows it has, or the refusal number alone
 
@@ -29,6 +30,12 @@ Few (refuses k) = Unit
 pub record IndexTold (log w : List ℕ) (answer : ℕ) (w′ : List ℕ) : Type 0 where
   pub gave : answer ≡ indexCode (answerOf (length w) 0 (rowsIn log))
   pub left : w′ ≡ indexWords (answerOf (length w) 0 (rowsIn log)) (rowsIn log) w
+
+-- ---- an index of n rows that goes on from a place of the log: 2^32 and how many rows there are then, or the refusal
+
+pub record OnTold (log : List ℕ) (from : ℕ) (w : List ℕ) (n most answer : ℕ) (w′ : List ℕ) : Type 0 where
+  pub gave : answer ≡ indexCode (answerIn most (length w) n (rowsOn log from))
+  pub left : w′ ≡ extendedIn largeBatch (answerIn most (length w) n (rowsOn log from)) (rowsOn log from) w n
 
 -- ---- a key: 1 and where its first entry begins, or 0 and 0
 

@@ -1,1 +1,2 @@
+pub mod LineTelling
 pub mod Telling

@@ -1,30 +1,54 @@
-// Survey messages as numbers, the pits of a tile and the marks of a list, for a C host.
+// What a C host asks of the sets of a count: the tile lines, and the pits of a tile.
+ghost use mathlib.Core.Path.{_≡_};
+ghost use mathlib.Core.Bool.{_||_};
+ghost use lib.Dec.{ltb};
+ghost use lib.ListN.{length};
 ghost use Rattle.wire.specs.Slices.{buffer};
+ghost use Rattle.pit_marks.specs.Sets.{setsBefore};
 ghost use Rattle.tile_pits.specs.Pits.{mapOf};
-ghost use Rattle.host_pits.specs.Told.{MessageTold, PitsTold, MarksTold};
-use lmcp::Found;
-use mark_rows::Rows;
+ghost use Rattle.host_pits.specs.Lines.{LinesTold};
+ghost use Rattle.host_pits.specs.Told.{PitsTold};
+use pit_marks::Sizes;
 use tile_pits::Pits;
 
-// How many numbers tell of a list's marks.
-pub const MARKS: usize = 3;
-
-// Reads a survey message: 0, and how many numbers it has at the start of told; or the number of the refusal, and then nothing is written.
-#[no_mangle]
-pub extern "C" fn qm_read_message(message: &[u8], numbers: &mut [i64], told: &mut [u64]) -> u32
-    ensures { λ r. ⌜ MessageTold (now (message .entry)) (now (numbers .entry)) (now (numbers .exit)) (buffer told) r ⌝ }
+// Whether one of three outputs has less room than for n numbers.
+fn no_room(tile: &[u64], pit: &[u64], certain: &[u64], n: usize) -> bool
+    ensures { λ r. ⌜ r ≡ (ltb (length (now (tile .entry))) n || (ltb (length (now (pit .entry))) n || ltb (length (now (certain .entry))) n)) ⌝ }
 {
-    if told.len() < 1 {
+    if tile.len() < n {
+        return true;
+    }
+    if pit.len() < n {
+        return true;
+    }
+    certain.len() < n
+}
+
+// The tile lines of sets: 0, and of each tile its number, its pits and its sure pits. Where one of the three has no room it is 13, and nothing is written.
+#[no_mangle]
+pub extern "C" fn qm_count_lines(
+    tile: &mut [u64],
+    pit: &mut [u64],
+    certain: &mut [u64],
+    tiles: &[u64],
+    pits: &[u64],
+    sure: &[u64],
+    had_tiles: usize,
+    had_pits: usize,
+    had_sure: usize,
+) -> u32
+    ensures { λ r. ⌜ LinesTold (setsBefore tiles pits sure) (record { tiles = «had_tiles»; pits = «had_pits»; sure = «had_sure» }) (buffer tile) (buffer pit) (buffer certain) r ⌝ }
+{
+    let had = Sizes {
+        tiles: wire::least(had_tiles, tiles.len()),
+        pits: wire::least(had_pits, pits.len()),
+        sure: wire::least(had_sure, sure.len()),
+    };
+    if no_room(&*tile, &*pit, &*certain, had.tiles) {
         return 13;
     }
-    let found = lmcp_reader::read_message(message, numbers);
-    match found {
-        Found::Numbers(n) => {
-            words::put_word(told, 0, n as u64);
-            0
-        }
-        Found::Refused(e) => e,
-    }
+    pit_marks::put_lines(tile, pit, certain, tiles, pits, sure, had);
+    0
 }
 
 // The pits of a tile out of sets: 0, and how many they are at the start of told. Where one of the three has no room it is 13, and nothing is written.
@@ -51,30 +75,5 @@ pub extern "C" fn qm_pits(
             0
         }
         Pits::Refused(e) => e,
-    }
-}
-
-// The marks of a list that was read: 0, and at the start of told whether it is a PitList, its tile, and how many rows there are. Where the rows or told have no
-// room it is 13, and nothing is written.
-#[no_mangle]
-pub extern "C" fn qm_marks(numbers: &[i64], rows: &mut [i64], told: &mut [u64]) -> u32
-    ensures { λ r. ⌜ MarksTold (now (numbers .entry)) (now (rows .entry)) (now (rows .exit)) (buffer told) r ⌝ }
-{
-    if told.len() < MARKS {
-        return 13;
-    }
-    let given = mark_rows::marks_of(numbers, rows);
-    match given {
-        Rows::Of(tile, n) => {
-            let said = [1, tile, n as u64];
-            words::put_words(told, 0, &said);
-            0
-        }
-        Rows::Other => {
-            let said = [0u64; MARKS];
-            words::put_words(told, 0, &said);
-            0
-        }
-        Rows::Refused(e) => e,
     }
 }

@@ -30,11 +30,11 @@ two-runs d s t x y s′ t′ at p q e f n =
     overlay-next d s′ t′ x y at (p ∙ ap (overlay d 0) e) (sym n) (q ∙ ap (overlay x at) f)
 
 -- an answer that is no refusal: its outcome is written
-pub done-tells : (o : Outcome) (told name : Buffer) (answer : ℕ) (a : Answer) → o .answer ≡ a → answerCode a ≡ 0
-    → ((l m : List ℕ) → unlessRefused a l m ≡ m) → Writes o told name answer → Tells o told name answer
-done-tells o told name answer a e z u w = record {
+pub done-tells : (sequence : ℕ) (o : Outcome) (told name : Buffer) (answer : ℕ) (a : Answer) → o .answer ≡ a → answerCode a ≡ 0
+    → ((l m : List ℕ) → unlessRefused a l m ≡ m) → Writes sequence o told name answer → Tells sequence o told name answer
+done-tells sequence o told name answer a e z u w = record {
   gave = w .gave ∙ sym (ap answerCode e ∙ z);
-  numbers = w .numbers ∙ stays (told .before) (outcomeNumbers o);
+  numbers = w .numbers ∙ stays (told .before) (outcomeNumbers sequence o);
   bytes = w .bytes ∙ stays (name .before) (o .name);
 }
   where

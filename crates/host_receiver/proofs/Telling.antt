@@ -25,15 +25,15 @@ has-numbers told name h = rw (le-ltb (length told) outcomeCount h)
 
 -- ---- what is told then
 
-module _ (call : Outcome → Lent → Type 0) (l : Lent) where
-  pub short-told : (told name : List ℕ) → lacking told name ≡ true → Told call l (told ⇒ told) (name ⇒ name) 13 l
+module _ (call : Outcome → Lent → Type 0) (sequence : ℕ) (l : Lent) where
+  pub short-told : (told name : List ℕ) → lacking told name ≡ true → Told call sequence l (told ⇒ told) (name ⇒ name) 13 l
   short-told told name t = record {
     short = λ _. record { gave = refl; stays = refl; list = refl; given = refl };
     heard = λ f. never t f;
   }
 
   pub heard-told : (told name : Buffer) (o : Outcome) (answer : ℕ) (l′ : Lent) → lacking (told .before) (name .before) ≡ false
-      → call o l′ → Tells o told name answer → Told call l told name answer l′
+      → call o l′ → Tells sequence o told name answer → Told call sequence l told name answer l′
   heard-told told name o answer l′ f r t = record {
     short = λ e. never e f;
     heard = λ _. record { outcome = o; receives = r; tells = t };

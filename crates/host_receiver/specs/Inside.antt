@@ -7,7 +7,7 @@ use Rattle.wire.specs.Slices.{Buffer}
 use Rattle.host_receiver.specs.Outcomes.{outcomeNumbers}
 
 -- the numbers and the name at the start of what was lent, whatever the answer
-pub record Writes (o : Outcome) (told name : Buffer) (answer : ℕ) : Type 0 where
+pub record Writes (sequence : ℕ) (o : Outcome) (told name : Buffer) (answer : ℕ) : Type 0 where
   pub gave : answer ≡ 0
-  pub numbers : told .after ≡ overlay (told .before) 0 (outcomeNumbers o)
+  pub numbers : told .after ≡ overlay (told .before) 0 (outcomeNumbers sequence o)
   pub bytes : name .after ≡ overlay (name .before) 0 (o .name)

@@ -1,4 +1,4 @@
--- An outcome as the C host is told it: seven numbers at the start of a lent list, and the name's bytes at the start of lent bytes. Definitions only.
+-- An outcome as the C host is told it: eight numbers at the start of a lent list, and the name's bytes at the start of lent bytes. Definitions only.
 use mathlib.Core.Path.{_≡_}
 use mathlib.Core.List.{List, [], _∷_, _++_}
 use Prim.Native.Nat.{ℕ}
@@ -29,8 +29,12 @@ abbrev pub emptiedNumbers : Emptied → List ℕ
 emptiedNumbers Nobody = 0 ∷ 0 ∷ 0 ∷ []
 emptiedNumbers (Was key) = 1 ∷ key .sender ∷ key .sequence ∷ []
 
-abbrev pub outcomeNumbers : Outcome → List ℕ
-outcomeNumbers o = answerNumbers (o .answer) ++ emptiedNumbers (o .emptied)
+-- and the sequence of the datagram that was received
+abbrev pub laterNumbers : Emptied → ℕ → List ℕ
+laterNumbers e sequence = emptiedNumbers e ++ sequence ∷ []
+
+abbrev pub outcomeNumbers : ℕ → Outcome → List ℕ
+outcomeNumbers sequence o = answerNumbers (o .answer) ++ laterNumbers (o .emptied) sequence
 
 -- the number of a refusal, or 0
 abbrev pub answerCode : Answer → ℕ
@@ -46,8 +50,8 @@ unlessRefused Kept lent new = new
 unlessRefused Repeat lent new = new
 unlessRefused (Delivered place len) lent new = new
 
--- as the answer has it
-pub record Tells (o : Outcome) (told name : Buffer) (answer : ℕ) : Type 0 where
+-- as the answer has it, to a datagram with that sequence
+pub record Tells (sequence : ℕ) (o : Outcome) (told name : Buffer) (answer : ℕ) : Type 0 where
   pub gave : answer ≡ answerCode (o .answer)
-  pub numbers : told .after ≡ unlessRefused (o .answer) (told .before) (overlay (told .before) 0 (outcomeNumbers o))
+  pub numbers : told .after ≡ unlessRefused (o .answer) (told .before) (overlay (told .before) 0 (outcomeNumbers sequence o))
   pub bytes : name .after ≡ unlessRefused (o .answer) (name .before) (overlay (name .before) 0 (o .name))

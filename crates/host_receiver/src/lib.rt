@@ -7,7 +7,8 @@ use steps::PayloadAt;
 ghost use mathlib.Core.Path.{_≡_};
 ghost use Rattle.receiver.specs.Lent.{lentBefore, lentAfter};
 ghost use Rattle.wire.specs.Slices.{buffer};
-ghost use Rattle.host_receiver.specs.Outcomes.{placeNumbers, answerNumbers, emptiedNumbers, Tells};
+ghost use Rattle.datagram.specs.Read.{sequenceIn};
+ghost use Rattle.host_receiver.specs.Outcomes.{placeNumbers, answerNumbers, laterNumbers, Tells};
 ghost use Rattle.host_receiver.specs.Inside.{Writes};
 ghost use Rattle.host_receiver.specs.Calls.{lacking, ReceiveTold, WithinTold};
 
@@ -32,24 +33,25 @@ fn answer_numbers(answer: Answer) -> [u64; host_state::ANSWERED]
     }
 }
 
-fn emptied_numbers(emptied: Emptied) -> [u64; 3]
-    ensures { λ r. ⌜ r ≡ emptiedNumbers emptied ⌝ }
+fn later_numbers(emptied: Emptied, sequence: u64) -> [u64; host_state::LATER]
+    ensures { λ r. ⌜ r ≡ laterNumbers emptied sequence ⌝ }
 {
     match emptied {
-        Emptied::Nobody => [0, 0, 0],
-        Emptied::Was(key) => [1, key.sender, key.sequence],
+        Emptied::Nobody => [0, 0, 0, sequence],
+        Emptied::Was(key) => [1, key.sender, key.sequence, sequence],
     }
 }
 
-// The outcome's numbers and name.
-fn put_outcome(told: &mut [u64], name: &mut [u8], outcome: Outcome) -> u32
-    ensures { λ r. ⌜ Writes outcome (buffer told) (buffer name) r ⌝ }
+// The outcome's numbers and name. The sequence stands at the same place in both forms of a datagram.
+fn put_outcome(told: &mut [u64], name: &mut [u8], datagram: &[u8], outcome: Outcome) -> u32
+    ensures { λ r. ⌜ Writes (sequenceIn (now (datagram .entry))) outcome (buffer told) (buffer name) r ⌝ }
 {
+    let sequence = wire::number(datagram, 4, 4);
     let answer = outcome.answer;
     let emptied = outcome.emptied;
     let given = outcome.name;
     let first = answer_numbers(answer);
-    let second = emptied_numbers(emptied);
+    let second = later_numbers(emptied, sequence);
     words::put_words(&mut *told, 0, &first);
     words::put_words(told, host_state::ANSWERED, &second);
     wire::put_bytes(name, 0, &given);
@@ -57,15 +59,15 @@ fn put_outcome(told: &mut [u64], name: &mut [u8], outcome: Outcome) -> u32
 }
 
 // Of a refusal its number is told, and nothing written.
-fn tell(told: &mut [u64], name: &mut [u8], outcome: Outcome) -> u32
-    ensures { λ r. ⌜ Tells outcome (buffer told) (buffer name) r ⌝ }
+fn tell(told: &mut [u64], name: &mut [u8], datagram: &[u8], outcome: Outcome) -> u32
+    ensures { λ r. ⌜ Tells (sequenceIn (now (datagram .entry))) outcome (buffer told) (buffer name) r ⌝ }
 {
     let answer = outcome.answer;
     match answer {
         Answer::Refused(n) => n,
-        Answer::Kept => put_outcome(told, name, outcome),
-        Answer::Repeat => put_outcome(told, name, outcome),
-        Answer::Delivered(_, _) => put_outcome(told, name, outcome),
+        Answer::Kept => put_outcome(told, name, datagram, outcome),
+        Answer::Repeat => put_outcome(told, name, datagram, outcome),
+        Answer::Delivered(_, _) => put_outcome(told, name, datagram, outcome),
     }
 }
 
@@ -97,7 +99,7 @@ pub extern "C" fn qm_receive(
         return 13;
     }
     let outcome = receiver::receive(state, names, store, ledger, sender, datagram);
-    tell(told, name, outcome)
+    tell(told, name, datagram, outcome)
 }
 
 // The same with a datagram out of a log, whose limits bind beside the receiver's: its largest payload and its most fragments.
@@ -130,5 +132,5 @@ pub extern "C" fn qm_receive_within(
         sender,
         datagram,
     );
-    tell(told, name, outcome)
+    tell(told, name, datagram, outcome)
 }

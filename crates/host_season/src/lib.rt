@@ -1,16 +1,12 @@
-// The count that goes on, for a C host: a stretch as a run of numbers in a lent list, and the tile lines of lent sets.
+// The count that goes on, for a C host: a stretch as a run of numbers in a lent list.
 ghost use mathlib.Core.Path.{_≡_};
-ghost use mathlib.Core.Bool.{_||_};
-ghost use lib.Dec.{ltb};
-ghost use lib.ListN.{length};
 ghost use Rattle.wire.specs.Overlay.{overlay};
 ghost use Rattle.wire.specs.Slices.{buffer};
 ghost use Rattle.receiver.specs.Lent.{lentBefore, lentAfter};
-ghost use Rattle.pit_marks.specs.Sets.{setsBefore};
 ghost use Rattle.pit_payloads.specs.Looks.{bookBefore, bookAfter};
 ghost use Rattle.stretch.specs.Stretch.{desk};
 ghost use Rattle.host_season.specs.Numbers.{stopNumbers, stretchNumbers};
-ghost use Rattle.host_season.specs.Told.{StretchTold, LinesTold};
+ghost use Rattle.host_season.specs.Told.{StretchTold};
 use pit_marks::Sizes;
 use stretch::Stop;
 use stretch::Stretch;
@@ -105,45 +101,5 @@ pub extern "C" fn qm_count_on(
         had,
     );
     put_stretch(told, done);
-    0
-}
-
-// Whether one of three outputs has less room than for n numbers.
-fn no_room(tile: &[u64], pit: &[u64], certain: &[u64], n: usize) -> bool
-    ensures { λ r. ⌜ r ≡ (ltb (length (now (tile .entry))) n || (ltb (length (now (pit .entry))) n || ltb (length (now (certain .entry))) n)) ⌝ }
-{
-    if tile.len() < n {
-        return true;
-    }
-    if pit.len() < n {
-        return true;
-    }
-    certain.len() < n
-}
-
-// The tile lines of sets: 0, and of each tile its number, its pits and its sure pits. Where one of the three has no room it is 13, and nothing is written.
-#[no_mangle]
-pub extern "C" fn qm_count_lines(
-    tile: &mut [u64],
-    pit: &mut [u64],
-    certain: &mut [u64],
-    tiles: &[u64],
-    pits: &[u64],
-    sure: &[u64],
-    had_tiles: usize,
-    had_pits: usize,
-    had_sure: usize,
-) -> u32
-    ensures { λ r. ⌜ LinesTold (setsBefore tiles pits sure) (record { tiles = «had_tiles»; pits = «had_pits»; sure = «had_sure» }) (buffer tile) (buffer pit) (buffer certain) r ⌝ }
-{
-    let had = Sizes {
-        tiles: wire::least(had_tiles, tiles.len()),
-        pits: wire::least(had_pits, pits.len()),
-        sure: wire::least(had_sure, sure.len()),
-    };
-    if no_room(&*tile, &*pit, &*certain, had.tiles) {
-        return 13;
-    }
-    pit_marks::put_lines(tile, pit, certain, tiles, pits, sure, had);
     0
 }

@@ -1,4 +1,4 @@
--- The lengths that a C host goes by, for a test to hold the header's macros to. Definitions only.
+-- The lengths that a C host goes by, and the version of the header, for a test to hold the header's macros to. Definitions only.
 use mathlib.Core.Path.{_≡_}
 use mathlib.Core.List.{List, [], _∷_}
 use Prim.Native.Nat.{ℕ, _+_}
@@ -12,9 +12,9 @@ use Rattle.receiver_state.specs.View.{stateWords, nameBytes}
 use Rattle.watch.specs.Limits.{maxSenders}
 use Rattle.log_index.specs.Limits.{maxIndex}
 
--- the numbers of an outcome: four of the answer, three of the emptied key
+-- the numbers of an outcome: four of the answer, three of the emptied key, and the sequence of the datagram
 abbrev pub outcomeCount : ℕ
-outcomeCount = 4 + 3
+outcomeCount = 4 + 3 + 1
 
 -- slots, payload, fragments, name; words of a state, bytes of its names, numbers of a ledger; numbers of an outcome; senders of a watch; rows of an index
 abbrev pub lengthsAre : List ℕ
@@ -34,3 +34,7 @@ lengthsAre =
 pub record LengthsTold (list : List ℕ) (answer : ℕ) (list′ : List ℕ) : Type 0 where
   pub gave : answer ≡ pick (ltb (length list) (length lengthsAre)) 13 0
   pub left : list′ ≡ pick (ltb (length list) (length lengthsAre)) list (overlay list 0 lengthsAre)
+
+-- QM_VERSION: a hundred times the major number and the minor
+abbrev pub version : ℕ
+version = 100

@@ -3,15 +3,20 @@ use receiver::Call;
 ghost use mathlib.Core.Path.{_≡_};
 ghost use Rattle.receiver.specs.Calls.{refusalOf};
 ghost use Rattle.host_state.specs.Calls.{callCode, OpenTold, ForgetTold};
-ghost use Rattle.host_state.specs.Lengths.{LengthsTold};
+ghost use Rattle.host_state.specs.Lengths.{LengthsTold, version};
 
-// How many numbers tell of an answer, and of an outcome.
+// How many numbers tell of an answer, how many come after them, and how many tell of an outcome.
 pub const ANSWERED: usize = 4;
 
-pub const OUTCOME: usize = ANSWERED + 3;
+pub const LATER: usize = 4;
+
+pub const OUTCOME: usize = ANSWERED + LATER;
 
 // How many lengths there are.
 pub const LENGTHS: usize = 10;
+
+// The header that this code goes with: a hundred times the major number and the minor.
+pub const VERSION: u32 = 100;
 
 // ---- opening and forgetting
 
@@ -40,7 +45,7 @@ pub extern "C" fn qm_forget(state: &mut [u64], names: &mut [u8], sender: u64) ->
     call_code(receiver::forget(state, names, sender))
 }
 
-// ---- lengths
+// ---- lengths and the version
 
 // The lengths that a host goes by, as this code has them, at the start of a lent list: 0, or 13.
 #[no_mangle]
@@ -64,4 +69,12 @@ pub extern "C" fn qm_lengths(lengths: &mut [u64]) -> u32
     ];
     words::put_words(lengths, 0, &all);
     0
+}
+
+// Which header this code goes with.
+#[no_mangle]
+pub extern "C" fn qm_version() -> u32
+    ensures { λ r. ⌜ r ≡ version ⌝ }
+{
+    VERSION
 }

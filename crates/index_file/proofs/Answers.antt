@@ -1,8 +1,8 @@
--- The answers of the reader and the writer, and no second one. Assumes nothing.
+-- The answers of the reader, and no second one. Assumes nothing.
 use mathlib.Core.Path.{_≡_, refl, sym, ap, _∙_}
 use mathlib.Core.Bool.{Bool, true, false, _&&_}
 use mathlib.Core.List.{List}
-use Prim.Native.Nat.{ℕ, _+_, _*_, _≤_, _<_}
+use Prim.Native.Nat.{ℕ, _*_, _≤_, _<_}
 use native.Mathlib.Omega.{arith}
 use lib.Dec.{ltb}
 use lib.ListN.{length}
@@ -10,9 +10,9 @@ use borrow.Author.Tests.{lt-ltb, le-ltb}
 use Rattle.wire.specs.Overlay.{overlay}
 use Rattle.wire.proofs.Once.{one-answer}
 use Rattle.log_index.specs.Rows.{Row}
-use Rattle.log_index.specs.Words.{wordsOf, rowAt}
-use Rattle.index_file.specs.File.{fileOf, coveredIn, countIn, isFile, fileRow, firstRows, inOrder}
-use Rattle.index_file.specs.Files.{rowSaid, headIn, rowsAnswer, ReadsRows, fileAnswer, WritesFile}
+use Rattle.log_index.specs.Words.{wordsOf}
+use Rattle.index_file.specs.File.{coveredIn, countIn, isFile, fileRow, firstRows, inOrder}
+use Rattle.index_file.specs.Files.{rowSaid, headIn, rowsAnswer, ReadsRows}
 use Rattle.index_file.specs.declared.FileRow.{FileRow}
 use Rattle.index_file.specs.declared.Head.the-variants.{Of, Refused}
 
@@ -87,27 +87,6 @@ module _ (f w : List ℕ) where
         let t : ltb (length w) (3 * countIn f) ≡ false = le-ltb (length w) (3 * countIn f) (let c = told .count in omega (arith, c, h)) in
         record { gave = rw (good e, t); left = rw (good e, t) (g ∙ ap (λ (k : ℕ). overlay w 0 (wordsOf (firstRows k (fileRow f)))) (told .count)) }
 
--- ---- the file
-
-module _ (w : List ℕ) (n covered : ℕ) (f : List ℕ) where
-  pub writes-fewer : length w < 3 * n → WritesFile w n covered f 13 f
-  unfolding fileAnswer
-  writes-fewer h = let t = lt-ltb (length w) (3 * n) h in record { gave = rw t; left = rw t }
-
-  pub writes-short : 3 * n ≤ length w → length f < 17 + 20 * n → WritesFile w n covered f 13 f
-  unfolding fileAnswer
-  writes-short h g =
-      let t = le-ltb (length w) (3 * n) h in
-      let u = lt-ltb (length f) (17 + 20 * n) g in
-      record { gave = rw (t, u); left = rw (t, u) }
-
-  pub writes-all : 3 * n ≤ length w → 17 + 20 * n ≤ length f → (f′ : List ℕ) → f′ ≡ overlay f 0 (fileOf covered (firstRows n (rowAt w))) → WritesFile w n covered f 0 f′
-  unfolding fileAnswer
-  writes-all h g f′ e =
-      let t = le-ltb (length w) (3 * n) h in
-      let u = le-ltb (length f) (17 + 20 * n) g in
-      record { gave = rw (t, u); left = rw (t, u) e }
-
 -- ---- no second answer
 
 -- the row that a contract tells
@@ -116,6 +95,3 @@ row-once r s x p q = let e = p ∙ sym q in λ j. record { sender = e j .sender;
 
 pub reads-once : (f w : List ℕ) (x y : ℕ) (a b : List ℕ) → ReadsRows f w x a → ReadsRows f w y b → (x ≡ y) × (a ≡ b)
 reads-once f w x y a b p q = (one-answer x y (p .gave) (q .gave), one-answer a b (p .left) (q .left))
-
-pub writes-once : (w : List ℕ) (n covered : ℕ) (f : List ℕ) (x y : ℕ) (a b : List ℕ) → WritesFile w n covered f x a → WritesFile w n covered f y b → (x ≡ y) × (a ≡ b)
-writes-once w n covered f x y a b p q = (one-answer x y (p .gave) (q .gave), one-answer a b (p .left) (q .left))

@@ -1,15 +1,15 @@
--- What the reader and the writer of an index file answer and leave. Definitions only.
+-- What the reader of an index file answers and leaves. Definitions only.
 use mathlib.Core.Path.{_≡_}
 use mathlib.Core.Bool.{not}
 use mathlib.Core.List.{List}
-use Prim.Native.Nat.{ℕ, _+_, _*_}
+use Prim.Native.Nat.{ℕ, _*_}
 use lib.Dec.{eqb, ltb}
 use lib.ListN.{length}
 use Rattle.wire.specs.Choice.{pick, _when_else_}
 use Rattle.wire.specs.Overlay.{overlay}
 use Rattle.log_index.specs.Rows.{Row, rowOf}
-use Rattle.log_index.specs.Words.{wordsOf, rowAt}
-use Rattle.index_file.specs.File.{headLength, rowLength, fileOf, coveredIn, countIn, isFile, firstRows, rowsOfFile, isIndexFile}
+use Rattle.log_index.specs.Words.{wordsOf}
+use Rattle.index_file.specs.File.{coveredIn, countIn, isFile, rowsOfFile, isIndexFile}
 use Rattle.index_file.specs.declared.Head.{Head}
 use Rattle.index_file.specs.declared.Head.the-variants.{Of, Refused}
 use Rattle.index_file.specs.declared.FileRow as coded
@@ -33,15 +33,3 @@ rowsAnswer f words =
 pub record ReadsRows (f w : List ℕ) (answer : ℕ) (w′ : List ℕ) : Type 0 where
   pub gave : answer ≡ rowsAnswer f (length w)
   pub left : w′ ≡ pick (eqb (rowsAnswer f (length w)) 0) (overlay w 0 (wordsOf (rowsOfFile f))) w
-
--- ---- the first n rows of lent words go into a file; 13 where there are fewer, or too few bytes
-
-unfoldable pub fileAnswer : ℕ → ℕ → ℕ → ℕ
-fileAnswer words n room =
-    13 when ltb words (3 * n) else
-    13 when ltb room (headLength + rowLength * n) else
-    0
-
-pub record WritesFile (w : List ℕ) (n covered : ℕ) (f : List ℕ) (answer : ℕ) (f′ : List ℕ) : Type 0 where
-  pub gave : answer ≡ fileAnswer (length w) n (length f)
-  pub left : f′ ≡ pick (eqb (fileAnswer (length w) n (length f)) 0) (overlay f 0 (fileOf covered (firstRows n (rowAt w)))) f

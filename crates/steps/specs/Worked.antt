@@ -62,8 +62,9 @@ ABC = delivered (0x41 ∷ 0x42 ∷ 0x43 ∷ [])
 abbrev pub eight : List (List ℕ) → List Heard → Case
 eight ds hs = case (begunBelow 8 ds) (replicate 8 (only kept) ++ hs)
 
-abbrev pub cases : List Case
-cases =
+-- of one message
+abbrev pub ofOne : List Case
+ofOne =
     -- a copy completes nothing
     case (B-of 7 ∷ B-of 7 ∷ A-of 7 ∷ []) (only kept ∷ only repeat ∷ only ABC ∷ [])
     -- two neighbours that leave a gap: 1 byte from 0, then 2 from 2
@@ -88,8 +89,13 @@ cases =
     ∷ case (smallOne 7 ∷ smallOne 7 ∷ []) (only (delivered (0x41 ∷ [])) ∷ only repeat ∷ [])
     -- an empty payload
     ∷ case (headOf 7 0 0 0 1 (0x50 ∷ 0 ∷ []) ∷ []) (only (delivered []) ∷ [])
+    ∷ []
+
+-- of nine messages and more
+abbrev pub ofMany : List Case
+ofMany =
     -- a ninth message empties the oldest; of one fragment, it is delivered besides
-    ∷ eight (B-of 8 ∷ []) (emptying 0 kept ∷ [])
+    eight (B-of 8 ∷ []) (emptying 0 kept ∷ [])
     ∷ eight (headOf 8 1 0 0 1 (0x50 ∷ 0 ∷ 0x41 ∷ []) ∷ []) (emptying 0 (delivered (0x41 ∷ [])) ∷ [])
     -- the second is finished, a ninth takes its slot, and each that follows empties the one that was opened longest ago, the ninth in its turn
     ∷ eight (A-of 1 ∷ B-of 8 ∷ B-of 9 ∷ B-of 10 ∷ B-of 11 ∷ B-of 12 ∷ B-of 13 ∷ B-of 14 ∷ B-of 15 ∷ B-of 16 ∷ [])

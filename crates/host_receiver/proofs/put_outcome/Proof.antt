@@ -1,5 +1,6 @@
 -- `host_receiver::put_outcome` meets its contract. Assumes nothing.
-use mathlib.Core.Path.{refl}
+use mathlib.Core.Path.{refl, ap, _∙_}
+use Rattle.host_receiver.specs.Outcomes.{laterNumbers}
 use Rattle.host_receiver.proofs.Numbers.{answer-four, two-runs}
 use borrow.Author.Needs.{needs}
 use Rattle.host_receiver.proofs.put_outcome.Statement.{statement}
@@ -10,13 +11,14 @@ returns c =
     let named = c .before .before in
     let second = named .before .before .before .before .before in
     let first = second .before .before .before .before .before in
-    let emptied = first .before .before .before in
-    let answer = emptied .before in
-    let a = answer .before .before .before .before .args in
+    let later = first .before .before .before in
+    let answer = later .before in
+    let read = answer .before .before in
+    let a = read .before .before .before .before .args in
+    let rest = later .later-numbers .ensures ∙ ap (laterNumbers (a .outcome .emptied)) (read .number .ensures .value) in
     record {
       gave = refl;
-      numbers = two-runs _ _ _ _ _ _ _ 4 (first .put-words .ensures) (second .put-words2 .ensures) (answer .answer-numbers .ensures) (emptied .emptied-numbers .ensures)
-          (answer-four (a .outcome .answer));
+      numbers = two-runs _ _ _ _ _ _ _ 4 (first .put-words .ensures) (second .put-words2 .ensures) (answer .answer-numbers .ensures) rest (answer-four (a .outcome .answer));
       bytes = named .put-bytes .ensures;
     }
 
@@ -24,6 +26,7 @@ pub put-outcome-spec : {M : Type 1} → statement M
 put-outcome-spec =
     tie.close
     (tie.spec
+    (λ c κs. search needs)
     (λ c κs. search needs)
     (λ c κs. search needs)
     (λ c. search needs)

@@ -8,7 +8,7 @@ use Rattle.host_receiver.proofs.qm_receive.Statement.{statement}
 use Rattle.host_receiver.proofs.qm_receive.Tie as tie
 
 returns : tie.Need-returns
-returns c = short-told _ _ _ _ (sym (c .before .no-room .ensures) ∙ c .if1 .taken)
+returns c = short-told _ _ _ _ _ (sym (c .before .no-room .ensures) ∙ c .if1 .taken)
 
 returns-2 : tie.Need-returns-2
 returns-2 c =
@@ -17,7 +17,7 @@ returns-2 c =
     let hearing = earlier .before .before .before in
     let test = hearing .before .before .before .before .before in
     let room = sym (test .before .no-room .ensures) ∙ test .if1 .left in
-    heard-told _ (lent _ _ _ _) (_ ⇒ _) (_ ⇒ _) _ _ (lent _ _ _ _) room (hearing .receive .ensures) (telling .tell .ensures)
+    heard-told _ _ (lent _ _ _ _) (_ ⇒ _) (_ ⇒ _) _ _ (lent _ _ _ _) room (hearing .receive .ensures) (telling .tell .ensures)
 
 pub qm-receive-spec : {M : Type 1} → statement M
 qm-receive-spec =

@@ -9,13 +9,13 @@ enum-told : tie.Need-enum-told
 enum-told c = search needs
 
 returns-2 : tie.Need-returns-2
-returns-2 c = done-tells _ _ _ _ _ (c .before .before .before .before .before .before .before .enum-told .given .1) refl (λ l m. refl) (c .before .before .before .before .put-outcome .ensures)
+returns-2 c = done-tells _ _ _ _ _ _ (c .before .before .before .before .before .before .before .enum-told .given .1) refl (λ l m. refl) (c .before .before .before .before .put-outcome .ensures)
 
 returns-3 : tie.Need-returns-3
-returns-3 c = done-tells _ _ _ _ _ (c .before .before .before .before .before .before .before .enum-told2 .given .1) refl (λ l m. refl) (c .before .before .before .before .put-outcome2 .ensures)
+returns-3 c = done-tells _ _ _ _ _ _ (c .before .before .before .before .before .before .before .enum-told2 .given .1) refl (λ l m. refl) (c .before .before .before .before .put-outcome2 .ensures)
 
 returns-4 : tie.Need-returns-4
-returns-4 c = done-tells _ _ _ _ _ (c .before .before .before .before .before .before .before .enum-told3 .given .1) refl (λ l m. refl) (c .before .before .before .before .put-outcome3 .ensures)
+returns-4 c = done-tells _ _ _ _ _ _ (c .before .before .before .before .before .before .before .enum-told3 .given .1) refl (λ l m. refl) (c .before .before .before .before .put-outcome3 .ensures)
 
 pub tell-spec : {M : Type 1} → statement M
 tell-spec =
