@@ -13,11 +13,12 @@ ghost use Rattle.lmcp.specs.Run.{repeat, prepend, whole};
 ghost use Rattle.lmcp.specs.Table.{fieldsOf, rowsOf, pitsurv};
 ghost use Rattle.lmcp.specs.Packed.{cell};
 ghost use Rattle.lmcp.specs.InsidePacked.{widthOf};
+ghost use Rattle.lmcp.specs.InsideAhead.{Lays};
 ghost use Rattle.lmcp.specs.Message.{ReadTo};
 ghost use Rattle.lmcp.specs.Lists.{readList};
 ghost use Rattle.lmcp_check.specs.InsideSteps.{readObject, readRow, readFields, readRoot};
 ghost use Rattle.lmcp_check.specs.InsideChecks.{Lent};
-ghost use Rattle.lmcp_reader.specs.InsidePuts.{Ahead, Lays, Rooms, coded, codedAll};
+ghost use Rattle.lmcp_reader.specs.InsidePuts.{Ahead, Rooms, coded, codedAll};
 
 // Where the walk stands, in the bytes and in the list.
 struct Spot {

@@ -12,12 +12,13 @@ ghost use Rattle.wire.specs.Signed.{unsigned};
 ghost use Rattle.lmcp.specs.Run.{repeat};
 ghost use Rattle.lmcp.specs.Table.{rowsOf, fieldsOf, pitsurv};
 ghost use Rattle.lmcp.specs.Packed.{cell};
+ghost use Rattle.lmcp.specs.InsideAhead.{Ahead, Lays};
 ghost use Rattle.lmcp.specs.Write.{header};
 ghost use Rattle.lmcp.specs.Message.{checksumOf, WrittenTo};
 ghost use Rattle.lmcp.specs.Lists.{writeList};
 ghost use Rattle.lmcp_size.specs.InsideSteps.{writeObject, writeRow, writeFields};
 ghost use Rattle.lmcp_size.specs.InsideWeighs.{Wide};
-ghost use Rattle.lmcp_writer.specs.InsidePuts.{Ahead, Lays, Stands, Laid, spelled};
+ghost use Rattle.lmcp_writer.specs.InsidePuts.{Stands, Laid, spelled};
 
 // Where the walk stands, in the list and in the bytes.
 struct Spot {

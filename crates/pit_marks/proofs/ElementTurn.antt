@@ -46,7 +46,7 @@ takes-one two l =
 pub moves-on : (place n len next : ℕ) → place < len → 1 ≤ n → next ≡ min (place + n) len → len - next < len - place
 moves-on place n len next h g e = omega arith
 
-drop-most : (j : ℕ) (l : List ℤ) → drop j l ≡ drop (min j (length l)) l
+pub drop-most : (j : ℕ) (l : List ℤ) → drop j l ≡ drop (min j (length l)) l
 drop-most j l = elim (either (ltb j (length l))) [
   | inl e ↦ let h : j < length l = ltb-true j (length l) e in let q : j ≡ min j (length l) = omega arith in ap (λ (i : ℕ). drop i l) q
   | inr e ↦ let h : length l ≤ j = ltb-false j (length l) e in let m : length l ≤ min j (length l) = omega arith in drop-of-length-le l h ∙ sym (drop-of-length-le l m)

@@ -16,7 +16,8 @@ abbrev μ-loop : tie.MeasureT-loop
 loop-again : tie.Need-loop-again Inv-loop μ-loop
 loop-again c =
     let p = c .before .before in
-    let r = p .before .before .before .before .before .before .before .before .before .before .before in
+    let judged = p .before .before .before .before .before .before in
+    let r = judged .before .before .before .before .before in
     let l = r .before .before .before .loop .inv in
     (omega (arith, r .next-record .kept .0, l .0), omega (arith, p .pour-line .kept .0, l .1))
 

@@ -13,8 +13,9 @@ use Rattle.lmcp.proofs.WalkPlaces.{repeat-all}
 use Rattle.lmcp_check.specs.InsideSteps.{readObject, readFields}
 use Rattle.lmcp.specs.Packed.{packedOf, cell}
 use Rattle.lmcp_check.specs.InsideChecks.{Upto}
-use Rattle.lmcp_check.proofs.Goes.{begins, items-turn, items-stop, items-end}
-use Rattle.lmcp_check.proofs.Steps.{few-rows, step-run, step-object, step-cut, step-chars, step-objects, fields-turn, fields-stop, fields-done, bounds, step-inside, object-null, object-stops, object-some, object-fields}
+use Rattle.lmcp_check.proofs.CheckTurns.{begins, items-turn, items-stop, items-end}
+use Rattle.lmcp.proofs.Rows.{few-rows, bounds}
+use Rattle.lmcp_check.proofs.Steps.{step-run, step-object, step-cut, step-chars, step-objects, fields-turn, fields-stop, fields-done, step-inside, object-null, object-stops, object-some, object-fields}
 use borrow.Fn.Kinds.{In}
 use borrow.Fn.PlainCycle.{Measures, is, falls, and}
 use Rattle.lmcp_check.proofs.check_fields.Reads as check-fields

@@ -5,7 +5,7 @@ use lib.Seq.{drop-drop}
 use Rattle.wire.specs.Bytes.{be}
 use Rattle.lmcp.specs.Table.{pitsurv}
 use Rattle.lmcp.specs.Read.{typed}
-use Rattle.lmcp_check.proofs.Cases.{not-series, not-version, known-typed}
+use Rattle.lmcp_check.proofs.ReadCases.{not-series, not-version, known-typed}
 use borrow.Author.Needs.{needs}
 use Rattle.lmcp_check.proofs.known_at.Statement.{statement}
 use Rattle.lmcp_check.proofs.known_at.Tie as tie

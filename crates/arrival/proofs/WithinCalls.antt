@@ -10,7 +10,7 @@ use Rattle.receiver.specs.declared.Outcome.{Outcome}
 use Rattle.receiver_state.specs.View.{view, shaped}
 use Rattle.receiver.specs.Lent.{Lent}
 use Rattle.receiver.specs.Calls.{received, Follows, Receives}
-use Rattle.arrival.specs.Takes.{receivedWithin, LetThrough, Takes, freely, within, TurnsAway}
+use Rattle.arrival.specs.ArrivalCalls.{receivedWithin, LetThrough, Takes, freely, within, TurnsAway}
 
 module _ (l : Lent) (x : Arrival) where
   received-same : (payload fragments : ℕ) → LetThrough payload fragments l x → receivedWithin payload fragments l x ≡ received l (x .sender) (x .datagram)

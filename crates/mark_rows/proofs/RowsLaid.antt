@@ -88,6 +88,3 @@ module _ (ms ns : List PlacedMark) (rows : List ℤ) (q : ℕ) (rows′ : List �
       let n : r ≡ q + length (rowsOf ms) = omega (arith, h .next, rows-long ms) in
       (λ i. sets (h .laid i) (n i) (rowsOf ns))
       ∙ sym (ap (sets rows q) (gather-append rowOf ms ns) ∙ sets-append rows q (rowsOf ms) (rowsOf ns))
-
-  pub then-room : (room : ℕ) → q + 8 * length (ms ++ ns) ≤ room → r + 8 * length ns ≤ room
-  then-room room o = omega (arith, h .next, length-append ms ns)

@@ -23,8 +23,8 @@ use Rattle.watch.specs.Watching.{asked, moves, after}
 use Rattle.watch.specs.Runs.{answers}
 use Rattle.watch.specs.Worked.{Come, noted}
 use Rattle.watch.proofs.Places.{place-le, place-at, place-new}
-use Rattle.watch.proofs.Cases.{asked-known, asked-new, asked-full, moved-known, moved-new, after-moves, after-stays}
-use Rattle.watch_laws.specs.Own.{Sound, lastOf, OthersStay, OwnMoves, numbersOf, notedOf, isRefused, NoneRefused, OneForEach}
+use Rattle.watch.proofs.WatchCases.{asked-known, asked-new, asked-full, moved-known, moved-new, after-moves, after-stays}
+use Rattle.watch_laws.specs.EachSender.{Sound, lastOf, OthersStay, OwnMoves, numbersOf, notedOf, isRefused, NoneRefused, OneForEach}
 
 -- ---- a sender's place, with another at the end of the list
 

@@ -1,4 +1,4 @@
--- "ONE WATCH FOR EACH SENDER": what the others send alters nothing of it. Its proofs are `others-stay`, `own-moves` and `one-for-each` of proofs/Own. Definitions only.
+-- "ONE WATCH FOR EACH SENDER": what the others send alters nothing of it. Its proofs are `others-stay`, `own-moves` and `one-for-each` of proofs/EachSender. Definitions only.
 use mathlib.Core.Path.{_≡_}
 use mathlib.Core.Logic.{_≢_}
 use mathlib.Core.Bool.{Bool, true, false}

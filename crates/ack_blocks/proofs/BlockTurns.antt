@@ -11,7 +11,7 @@ use Rattle.ack_blocks.specs.Limits.{maxBlocks}
 use Rattle.ack_blocks.specs.Blocks.{Block, has, acknowledges}
 use Rattle.ack_blocks.specs.Read.{Given, gives, refuses, sizeIn, blockIn, faultIn, before, firstThen, blocksWithin, blocksIn, told, asked}
 use Rattle.ack_blocks.specs.InsideWalk.{also}
-use Rattle.ack_blocks.proofs.Cases.{size-some}
+use Rattle.ack_blocks.proofs.BlockCases.{size-some}
 
 -- any number of turns that is enough gives the same
 pub same-turns : (s t : ℕ) (b : List ℕ) → length b ≤ s → length b ≤ t → blocksWithin s b ≡ blocksWithin t b

@@ -1,7 +1,7 @@
 -- How the walk that checks goes on, in places. Assumes nothing.
 use mathlib.Core.Path.{_≡_, refl, ap, sym, _∙_, subst}
-use mathlib.Core.List.{List, [], _∷_, _++_, append-assoc, append-nil}
-use Prim.Native.Nat.{ℕ, zero, suc, _+_, _-_, _≤_, _<_}
+use mathlib.Core.List.{List, [], _∷_, _++_, append-nil}
+use Prim.Native.Nat.{ℕ, _+_, _-_, _≤_, _<_}
 use native.Mathlib.Omega.{arith}
 use lib.IntN.{ℤ}
 use lib.ListN.{length, drop}
@@ -9,16 +9,11 @@ use Rattle.lmcp.specs.declared.Row.{Row}
 use Rattle.lmcp.specs.Run.{got, refused, Tag, tag, prepend, andThen, after, repeat}
 use Rattle.lmcp.specs.Read.{Read}
 use Rattle.lmcp.specs.Walk.{Way, field, fields}
-use Rattle.lmcp.proofs.WalkPlaces.{prepend-nil, repeat-more, repeat-end}
+use Rattle.lmcp.proofs.WalkPlaces.{prepend-nil, prepend-append, repeat-more, repeat-end}
+use Rattle.lmcp.proofs.RunParts.{then-nil}
 use Rattle.lmcp_check.specs.InsideChecks.{fault0, Upto, Checks}
 
-prepend-append : (a b : List ℤ) (X : Read) → prepend (a ++ b) X ≡ prepend a (prepend b X)
-unfolding prepend
-prepend-append a b (got ys r) = ap (λ (l : List ℤ). got l r) (append-assoc a b ys)
-prepend-append a b (refused n) = refl
-
--- a leaf made ys
-
+-- a leaf refused
 pub stopped : {s : List ℕ} {X : Read} (n : ℕ) → n < fault0 → X ≡ refused n → Checks s X (fault0 + n)
 stopped n b e =
     let m : n ≡ fault0 + n - fault0 = omega arith in
@@ -97,21 +92,6 @@ module _ {s : List ℕ} {X : Read} (f : List ℕ → Read) (n k : ℕ) {p : ℕ}
 
   pub items-end : length s < fault0 → n ≤ k → Checks s X p
   items-end short l = ends h short (repeat-end f (drop p s) n k l)
-
-repeat-then : (f g : List ℕ → Read) → ((l : List ℕ) → f l ≡ g l) → (n : ℕ) (X : Read) → ((l : List ℕ) → repeat n f l ≡ repeat n g l) → andThen X (repeat n f) ≡ andThen X (repeat n g)
-unfolding andThen
-repeat-then f g h n (got ys r) k = ap (prepend ys) (k r)
-repeat-then f g h n (refused m) k = refl
-
-pub repeat-same : (f g : List ℕ → Read) → ((l : List ℕ) → f l ≡ g l) → (n : ℕ) (l : List ℕ) → repeat n f l ≡ repeat n g l
-unfolding repeat
-repeat-same f g h zero l = refl
-repeat-same f g h (suc n) l = ap (λ (X : Read). andThen X (repeat n f)) (h l) ∙ repeat-then f g h n (g l) (repeat-same f g h n)
-
-pub then-nil : (X : Read) → andThen X (got []) ≡ X
-unfolding andThen prepend
-then-nil (got ys r) = ap (λ (l : List ℤ). got l r) (append-nil ys)
-then-nil (refused n) = refl
 
 -- ---- rows, some and then the others
 
