@@ -31,4 +31,4 @@ line n b = decimal n ++ answerText (recordAnswer b)
 
 -- of all records, with the last line
 abbrev pub lines : Stream → List ℕ
-lines = linesOf line
+lines = linesOf (λ n x. line n (x .body))

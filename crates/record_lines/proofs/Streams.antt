@@ -7,16 +7,16 @@ use Prim.Native.Nat.{ℕ, zero, suc, _+_, _≤_, _<_, min}
 use native.Mathlib.Omega.{arith}
 use native.Mathlib.Decide.{decLt}
 use lib.Dec.{leb}
-use lib.ListN.{length, take, drop, length-append, length-drop}
+use lib.ListN.{length, drop, length-append, length-drop}
 use lib.Seq.{slice, take-append-le, drop-append-le}
 use borrow.Author.Tests.{leb-true, le-leb, lt-leb}
 use Rattle.wire.specs.Choice.{pick}
 use Rattle.wire.proofs.Choices.{and-l, and-r, either, never}
 use Rattle.stream.specs.declared.Kind.{Kind}
-use Rattle.stream.specs.Records.{headOf, bodyLength, isWhole, holds, Roomy}
+use Rattle.stream.specs.Records.{headOf, bodyLength, isWhole, holds}
 use Rattle.stream.proofs.Slices.{slice-append}
 use Rattle.stream.proofs.Taking.{body-front, whole-true, whole-none, some-head}
-use Rattle.record_lines.specs.Streams.{Rec, firstOf, afterFirst, Stream, ended, cut, also, ifWhole, oneMore, readBy, upTo, recordsIn}
+use Rattle.record_lines.specs.Streams.{firstOf, afterFirst, Stream, ended, cut, also, ifWhole, readBy, upTo, recordsIn}
 
 -- ---- a whole record
 
@@ -48,12 +48,12 @@ module _ (kind : Kind) (b more : List ℕ) (h : isWhole kind b ≡ true) where
       let size : ℕ → ℕ = λ (k : ℕ). min k (holds kind n) in
       let low : headOf kind + size (bodyLength kind b) ≤ length b = omega (arith, z .body) in
       λ j.
-          record {
-            head = take-append-le (headOf kind) b more (z .head) j;
-            body =
-                (ap (λ (k : ℕ). slice (headOf kind) (headOf kind + size k) (b ++ more)) same-body
-                ∙ slice-append b more (headOf kind) (headOf kind + size (bodyLength kind b)) low) j;
-          }
+      record {
+        head = take-append-le (headOf kind) b more (z .head) j;
+        body =
+            (ap (λ (k : ℕ). slice (headOf kind) (headOf kind + size k) (b ++ more)) same-body
+            ∙ slice-append b more (headOf kind) (headOf kind + size (bodyLength kind b)) low) j;
+      }
 
   after-more : afterFirst kind (b ++ more) ≡ afterFirst kind b ++ more
   after-more =

@@ -25,11 +25,11 @@ linesAfter p n s ended = p .last End n
 linesAfter p n s cut = p .last Cut n
 linesAfter p n s (also x xs) = p .line (n + 1) s x ++ linesAfter p (n + 1) (p .after s x) xs
 
--- a program that knows nothing of the records before, and says line n by a record's body
-abbrev pub each : (ℕ → List ℕ → List ℕ) → Says Unit
-each line = record { line = λ n s x. line n (x .body); after = λ s x. s; last = lastLine }
+-- a program that knows nothing of the records before
+abbrev pub each : (ℕ → Rec → List ℕ) → Says Unit
+each line = record { line = λ n s x. line n x; after = λ s x. s; last = lastLine }
 
-abbrev pub linesOf : (ℕ → List ℕ → List ℕ) → Stream → List ℕ
+abbrev pub linesOf : (ℕ → Rec → List ℕ) → Stream → List ℕ
 linesOf line = linesAfter (each line) 0 tt
 
 -- Of all that was unread in a buffer, and of what came behind it, the lines went out, from a place on.
