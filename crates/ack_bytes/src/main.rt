@@ -10,7 +10,7 @@ ghost use Rattle.wire.specs.Text.{ascii};
 ghost use Rattle.ack_blocks.specs.Limits.{maxBlocks};
 ghost use Rattle.text.specs.Text.{decimal};
 ghost use Rattle.stream.specs.declared.Kind.the-variants.{Bytes4};
-ghost use Rattle.output.specs.Output.{Pours};
+ghost use Rattle.output.specs.Output.{Pours, lineLimit};
 ghost use Rattle.record_lines.specs.Lines.{Tells};
 ghost use Rattle.ack_bytes.specs.Lines.{numbersOf, listLimit, bytesText, longerText, writtenText, line, lines};
 use ack_writer::Written;
@@ -111,7 +111,7 @@ fn one_more(
 
 // One line a record of the input, and the last line. Answers whether the system took all of them; it stops where it did not.
 fn run(buf: &mut [u8], input: Input, list: &mut [u64], blocks: &mut [u8], out: &mut [u8]) -> bool
-    requires { ⌜ (length (now list) ≡ listLimit) × (length (now blocks) ≡ maxBlocks) ⌝ }
+    requires { ⌜ ((length (now list) ≡ listLimit) × (length (now blocks) ≡ maxBlocks)) × (lineLimit ≤ length (now out)) ⌝ }
     ensures { λ r. ⌜ Tells Bytes4 lines (now (buf .entry)) input (buffer out) 0 r ⌝ }
 {
     let mut rest = input;

@@ -1,11 +1,13 @@
 // Is a packet acknowledged? Standard input holds records, each after a 4-byte big-endian length: an 8-byte number and then acknowledge blocks;
 // a line says whether the blocks acknowledge the number, or why they are refused.
+ghost use Prim.Native.Nat.{_≤_};
+ghost use lib.ListN.{length};
 ghost use mathlib.Core.List.{_++_};
 ghost use Rattle.wire.specs.Slices.{buffer};
 ghost use Rattle.wire.specs.Text.{ascii};
 ghost use Rattle.ack_blocks.specs.Read.{answers};
 ghost use Rattle.stream.specs.declared.Kind.the-variants.{Bytes4};
-ghost use Rattle.output.specs.Output.{Pours};
+ghost use Rattle.output.specs.Output.{Pours, lineLimit};
 ghost use Rattle.record_lines.specs.Lines.{Tells};
 ghost use Rattle.text.specs.Text.{decimal};
 ghost use Rattle.acks.specs.Lines.{answerText, line, lines};
@@ -49,6 +51,7 @@ fn one_more(out: &mut [u8], at: usize, n: u64, b: &[u8]) -> usize
 // One line a record of the input, and the last line. Answers whether the system took all of them; it stops where it did not. The buffer holds
 // more than the longest record, so that a longer one is refused by its front.
 fn run(buf: &mut [u8], input: Input, out: &mut [u8]) -> bool
+    requires { ⌜ lineLimit ≤ length (now out) ⌝ }
     ensures { λ r. ⌜ Tells Bytes4 lines (now (buf .entry)) input (buffer out) 0 r ⌝ }
 {
     let mut rest = input;

@@ -1,8 +1,10 @@
 // Which numbers of a flight were missed. Standard input holds datagrams, each after a 2-byte big-endian length, from one sender; of each that
 // has good form the sequence watch is asked, and a line says what it notes.
+ghost use Prim.Native.Nat.{_≤_};
+ghost use lib.ListN.{length};
 ghost use Rattle.wire.specs.Slices.{buffer};
 ghost use Rattle.stream.specs.declared.Kind.the-variants.{Bytes2};
-ghost use Rattle.output.specs.Output.{Pours};
+ghost use Rattle.output.specs.Output.{Pours, lineLimit};
 ghost use Rattle.record_lines.specs.Lines.{Tells};
 ghost use Rattle.watch.specs.Noted.{notes};
 ghost use Rattle.gaps.specs.Lines.{answerText, line, lines, Judged};
@@ -61,6 +63,7 @@ fn pour_line(out: &mut [u8], at: usize, n: u64, answer: Answer) -> usize
 
 // One line a datagram of the input, and the last line. Answers whether the system took all of them; it stops where it did not.
 fn run(buf: &mut [u8], input: Input, out: &mut [u8]) -> bool
+    requires { ⌜ lineLimit ≤ length (now out) ⌝ }
     ensures { λ r. ⌜ Tells Bytes2 lines (now (buf .entry)) input (buffer out) 0 r ⌝ }
 {
     let mut w = watch::new();

@@ -1,6 +1,7 @@
 // What the tide gauge's packets say, and which messages were missed. Standard input holds MossUDP packets, each after a 2-byte big-endian
 // length; one gauge hears them all, and a line says what it notes of each.
-ghost use lib.ListN.{drop};
+ghost use Prim.Native.Nat.{_≤_};
+ghost use lib.ListN.{length, drop};
 ghost use mathlib.Core.Path.{_≡_};
 ghost use Rattle.watch.specs.Noted.{notes};
 ghost use Rattle.moss.specs.Blocks.{messagesIn};
@@ -8,7 +9,7 @@ ghost use Rattle.moss.specs.Packet.{gives, packetOf, fillFault};
 ghost use Rattle.moss.specs.Answers.{headersOf};
 ghost use Rattle.wire.specs.Slices.{buffer};
 ghost use Rattle.stream.specs.declared.Kind.the-variants.{Bytes2};
-ghost use Rattle.output.specs.Output.{Pours};
+ghost use Rattle.output.specs.Output.{Pours, lineLimit};
 ghost use Rattle.record_lines.specs.Lines.{Tells};
 ghost use Rattle.gauge.specs.Lines.{notedText, spaced, messagesText, line, lines, Told};
 ghost use Rattle.gauge.specs.Inside.{lengthsIn, lengthsOf};
@@ -98,6 +99,7 @@ fn one_more(out: &mut [u8], at: usize, n: u64, g: Gauge, p: &[u8]) -> Step
 
 // One line a packet of the input, and the last line. Answers whether the system took all of them; it stops where it did not.
 fn run(buf: &mut [u8], input: Input, out: &mut [u8]) -> bool
+    requires { ⌜ lineLimit ≤ length (now out) ⌝ }
     ensures { λ r. ⌜ Tells Bytes2 lines (now (buf .entry)) input (buffer out) 0 r ⌝ }
 {
     let mut g = gauge_watch::new();

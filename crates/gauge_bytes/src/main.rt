@@ -1,5 +1,6 @@
 // MossUDP packets from their parts. Standard input holds records, each after a 4-byte big-endian length: 10 session bytes, a 4-byte
 // sequence, a type byte, and the message blocks as they will lie; a line gives the bytes of each packet, or its refusal.
+ghost use Prim.Native.Nat.{_≤_};
 ghost use mathlib.Core.Path.{_≡_};
 ghost use mathlib.Core.List.{_++_};
 ghost use lib.ListN.{length, take, drop};
@@ -9,7 +10,7 @@ ghost use Rattle.wire.specs.Bytes.{be};
 ghost use Rattle.moss.specs.Limits.{maxPacket};
 ghost use Rattle.text.specs.Text.{decimal, hex};
 ghost use Rattle.stream.specs.declared.Kind.the-variants.{Bytes4};
-ghost use Rattle.output.specs.Output.{Pours};
+ghost use Rattle.output.specs.Output.{Pours, lineLimit};
 ghost use Rattle.record_lines.specs.Lines.{Tells};
 ghost use Rattle.gauge_bytes.specs.Lines.{line, lines};
 use moss_writer::Written;
@@ -69,7 +70,7 @@ fn one_more(out: &mut [u8], at: usize, n: u64, packet: &mut [u8], b: &[u8]) -> u
 // One line a record of the input, and the last line. Answers whether the system took all of them; it stops where it did not. The buffer holds
 // more than the longest record, so that a longer one is refused by its front.
 fn run(buf: &mut [u8], input: Input, packet: &mut [u8], out: &mut [u8]) -> bool
-    requires { ⌜ length (now packet) ≡ maxPacket ⌝ }
+    requires { ⌜ (length (now packet) ≡ maxPacket) × (lineLimit ≤ length (now out)) ⌝ }
     ensures { λ r. ⌜ Tells Bytes4 lines (now (buf .entry)) input (buffer out) 0 r ⌝ }
 {
     let mut rest = input;

@@ -8,7 +8,7 @@ ghost use lib.Seq.{sets};
 ghost use Rattle.wire.specs.Slices.{buffer};
 ghost use Rattle.wire.specs.Signed.{signed};
 ghost use Rattle.stream.specs.declared.Kind.the-variants.{Numbers};
-ghost use Rattle.output.specs.Output.{Pours};
+ghost use Rattle.output.specs.Output.{Pours, lineLimit};
 ghost use Rattle.record_lines.specs.Lines.{Tells};
 ghost use Rattle.lmcp_bytes.specs.Lines.{numbersOf, calculated, longerText, madeText, Written, lines};
 ghost use Rattle.lmcp_bytes.specs.Inside.{holdsBefore, holdsAfter};
@@ -108,6 +108,7 @@ fn one_more(
 
 // One line a list of the input, and the last line. Answers whether the system took all of them; it stops where it did not.
 fn run(buf: &mut [u8], input: Input, list: &mut [i64], bytes: &mut [u8], out: &mut [u8]) -> bool
+    requires { ⌜ lineLimit ≤ length (now out) ⌝ }
     ensures { λ r. ⌜ Tells Numbers (lines (length (now (list .entry))) (length (now (bytes .entry)))) (now (buf .entry)) input (buffer out) 0 r ⌝ }
 {
     let mut rest = input;

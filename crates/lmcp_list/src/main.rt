@@ -1,9 +1,10 @@
 // What is in survey messages. Standard input holds messages, each after a 4-byte big-endian length; a line gives the numbers of each,
 // or its refusal.
+ghost use Prim.Native.Nat.{_≤_};
 ghost use lib.ListN.{take, length};
 ghost use Rattle.wire.specs.Slices.{buffer};
 ghost use Rattle.stream.specs.declared.Kind.the-variants.{Bytes4};
-ghost use Rattle.output.specs.Output.{Pours};
+ghost use Rattle.output.specs.Output.{Pours, lineLimit};
 ghost use Rattle.record_lines.specs.Lines.{Tells};
 ghost use Rattle.lmcp_list.specs.Lines.{spaced, foundText, foundLine, lines, Listed};
 use lmcp::Found;
@@ -60,6 +61,7 @@ fn one_more(out: &mut [u8], at: usize, n: u64, list: &mut [i64], message: &[u8])
 
 // One line a message of the input, and the last line. Answers whether the system took all of them; it stops where it did not.
 fn run(buf: &mut [u8], input: Input, list: &mut [i64], out: &mut [u8]) -> bool
+    requires { ⌜ lineLimit ≤ length (now out) ⌝ }
     ensures { λ r. ⌜ Tells Bytes4 (lines (length (now (list .entry)))) (now (buf .entry)) input (buffer out) 0 r ⌝ }
 {
     let mut rest = input;

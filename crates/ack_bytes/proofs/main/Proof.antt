@@ -18,7 +18,7 @@ slice-aggregate-run-4 : tie.Need-slice-aggregate-run-4
 slice-aggregate-run-4 c = zeros _
 
 run-requires : tie.Need-run-requires
-run-requires c κs = (sym (zeros _), sym (zeros _))
+run-requires c κs = ((sym (zeros _), sym (zeros _)), search needs)
 
 returns : tie.Need-returns
 returns c = tt

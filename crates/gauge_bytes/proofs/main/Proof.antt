@@ -15,7 +15,7 @@ slice-aggregate-run-3 : tie.Need-slice-aggregate-run-3
 slice-aggregate-run-3 c = zeros _
 
 run-requires : tie.Need-run-requires
-run-requires c κs = sym (zeros _)
+run-requires c κs = (sym (zeros _), search needs)
 
 returns : tie.Need-returns
 returns c = tt
