@@ -17,7 +17,8 @@ use Rattle.lmcp.specs.Run.{got, refused}
 use Rattle.lmcp.specs.Write.{Write}
 use Rattle.lmcp.specs.Message.{made, written, WrittenTo}
 use Rattle.lmcp.specs.Lists.{writeList}
-use Rattle.lmcp_bytes.specs.Lines.{numbersOf, longerText, bytesText, refusedText, writeText, listText, madeText}
+use Rattle.lmcp_bytes.specs.Lines.{numbersOf, longerText, bytesText, refusedText, writeText, listText}
+use Rattle.lmcp_bytes.specs.Inside.{madeText}
 
 -- the front of the output is the message
 front-of : (out m : List ℕ) → length m ≤ length out → take (length m) (overlay out 0 m) ≡ m

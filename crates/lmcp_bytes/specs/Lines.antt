@@ -4,7 +4,7 @@ use mathlib.Core.Bool.{Bool, true, false, not}
 use mathlib.Core.List.{List, [], _∷_, _++_}
 use Prim.Native.Nat.{ℕ, zero, suc, _/_}
 use lib.IntN.{ℤ}
-use lib.ListN.{length, take, drop}
+use lib.ListN.{length, drop}
 use lib.Seq.{sets}
 use lib.Dec.{ltb, leb, eqb}
 use Rattle.wire.specs.Choice.{pick, _when_else_}
@@ -12,7 +12,6 @@ use Rattle.wire.specs.Text.{ascii}
 use Rattle.wire.specs.Bytes.{be}
 use Rattle.wire.specs.Signed.{signed}
 use Rattle.lmcp.specs.declared.Made.{Made}
-use Rattle.lmcp.specs.declared.Made.the-variants.{Bytes, Refused}
 use Rattle.lmcp.specs.Run.{got, refused}
 use Rattle.lmcp.specs.Write.{Write}
 use Rattle.lmcp.specs.Message.{WrittenTo}
@@ -63,11 +62,6 @@ line most room n x = decimal n ++ listText most room (calculated (x .head)) (x .
 -- of all records, with the last line
 abbrev pub lines : ℕ → ℕ → Stream → List ℕ
 lines most room = linesOf (line most room)
-
--- the same of the writer's answer and of the bytes that it left
-abbrev pub madeText : List ℕ → Made → List ℕ
-madeText bytes (Bytes n) = bytesText (take n bytes)
-madeText bytes (Refused e) = refusedText e
 
 -- what the program holds: the number list, the message's bytes, and the output
 pub record Holds : Type 0 where

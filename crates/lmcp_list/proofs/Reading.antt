@@ -17,7 +17,8 @@ use Rattle.lmcp.specs.Run.{got, refused}
 use Rattle.lmcp.specs.Read.{Read}
 use Rattle.lmcp.specs.Message.{found, listed, ReadTo}
 use Rattle.text.specs.Text.{decimal}
-use Rattle.lmcp_list.specs.Lines.{spaced, refusedText, readText, foundText, foundLine}
+use Rattle.lmcp_list.specs.Lines.{spaced, refusedText, readText}
+use Rattle.lmcp_list.specs.Inside.{foundText, foundLine}
 
 -- the front of the list is what was stored
 front-of : (list zs : List ℤ) → length zs ≤ length list → take (length zs) (sets list 0 zs) ≡ zs

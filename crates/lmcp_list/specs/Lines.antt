@@ -3,11 +3,10 @@ use mathlib.Core.List.{List, [], _∷_, _++_}
 use Prim.Native.Nat.{ℕ}
 use lib.Dec.{leb}
 use lib.IntN.{ℤ}
-use lib.ListN.{length, take}
+use lib.ListN.{length}
 use Rattle.wire.specs.Choice.{pick}
 use Rattle.wire.specs.Text.{ascii}
 use Rattle.lmcp.specs.declared.Found.{Found}
-use Rattle.lmcp.specs.declared.Found.the-variants.{Numbers, Refused}
 use Rattle.lmcp.specs.Run.{got, refused}
 use Rattle.lmcp.specs.Read.{Read}
 use Rattle.lmcp.specs.Message.{ReadTo}
@@ -38,14 +37,6 @@ line most n message = decimal n ++ readText most (readList message) ++ ascii "\n
 -- of all messages, with the last line
 abbrev pub lines : ℕ → Stream → List ℕ
 lines most = linesOf (λ n x. line most n (x .body))
-
--- the same of the reader's answer and of the list that it left
-abbrev pub foundText : List ℤ → Found → List ℕ
-foundText list (Numbers n) = ascii " list" ++ spaced (take n list)
-foundText list (Refused e) = refusedText e
-
-abbrev pub foundLine : ℕ → List ℤ → Found → List ℕ
-foundLine n list found = decimal n ++ foundText list found ++ ascii "\n"
 
 -- The message was read into the list, and line n gives its numbers or its refusal.
 pub record Listed (message : List ℕ) (n : ℕ) (list : List ℤ) (out : List ℕ) (at : ℕ) (list′ : List ℤ) (out′ : List ℕ) (r : ℕ) : Type 0 where

@@ -1,2 +1,3 @@
-pub mod Streams
+pub mod Back
 pub mod Going
+pub mod Streams

@@ -64,9 +64,14 @@ loop-again c =
     let q = replayed-said z (y .part .ensures) (p .one-more .ensures) in
     let u = p .one-more .kept in
     let v = u .1 .1 .1 in
-    let i = l .loop .inv in
-    (u .0 ∙ i .0, v .0 ∙ i .1, v .1 .0 ∙ i .2, v .1 .1 .0 ∙ i .3, v .1 .1 .1 .0 ∙ i .4,
-    going-to (going-more (t .before .loop .inv .5) (t .loop-test .taken) (r .next-record .ensures) (s .next .given .1) (r .next-record .kept .0) q) e)
+    let i = l .loop .inv in (
+      u .0 ∙ i .0,
+      v .0 ∙ i .1,
+      v .1 .0 ∙ i .2,
+      v .1 .1 .0 ∙ i .3,
+      v .1 .1 .1 .0 ∙ i .4,
+      going-to (going-more (t .before .loop .inv .5) (t .loop-test .taken) (r .next-record .ensures) (s .next .given .1) (r .next-record .kept .0) q) e,
+    )
 
 returns-3 : tie.Need-returns-3 Inv-loop μ-loop
 returns-3 c = let f = c .before .before in let t = f .before .before in going-over (t .before .loop .inv .5) (t .loop-test .left) (f .finish2 .ensures)
