@@ -1,7 +1,7 @@
 pub mod Cases
 pub mod Frames
 pub mod Goes
-pub mod NullRuns
+pub mod Nulls
 pub mod Roots
 pub mod Runs
 pub mod Steps

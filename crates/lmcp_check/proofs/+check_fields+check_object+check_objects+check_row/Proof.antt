@@ -15,7 +15,7 @@ use Rattle.lmcp.specs.Packed.{packedOf, cell}
 use Rattle.lmcp_check.specs.InsideChecks.{Upto}
 use Rattle.lmcp_check.proofs.Goes.{begins, items-turn, items-stop, items-end}
 use Rattle.lmcp_check.proofs.Steps.{few-rows, step-run, step-object, step-cut, step-chars, step-objects, fields-turn, fields-stop, fields-done, bounds, step-inside, object-null, object-stops, object-some, object-fields}
-use Rattle.lmcp_check.proofs.NullRuns.{null-inside, null-checks}
+use Rattle.lmcp_check.proofs.Nulls.{null-inside, null-checks}
 use borrow.Fn.Kinds.{In}
 use borrow.Fn.PlainCycle.{Measures, is, falls, and}
 use Rattle.lmcp_check.proofs.check_fields.Reads as check-fields
