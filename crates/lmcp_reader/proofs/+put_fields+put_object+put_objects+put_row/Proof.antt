@@ -362,7 +362,8 @@ put-objects-loop-again-2 t c =
     let f = readObject (a .version) (a .deep) (a .declared) in
     let r = at-object .put-object .result in
     let out = at-object .put-object .last .1 .1 .1 .1 .1 .1 .1 .0 in
-    (search needs, (at-object .put-object .kept .1 .1 .1 .1 .1 .1 .1 .0 ∙ x .inv .1 .0, (items-turn Few0 f (a .n) (x .k) (x .inv .1 .1 .0) (test .loop-test .taken) (To (r .p) (r .q)) out (at-object .put-object .ensures) (r .p) (r .q) refl, ahead-next _ _ (turn-ahead t test) (at-object .put-object .ensures))))
+    let kept = at-object .put-object .kept .1 .1 .1 .1 .1 .1 .1 .0 in
+    (search needs, (kept ∙ x .inv .1 .0, (items-turn Few0 f (a .n) (x .k) (x .inv .1 .1 .0) (test .loop-test .taken) (To (r .p) (r .q)) out (at-object .put-object .ensures) (r .p) (r .q) refl, ahead-next _ _ (turn-ahead t test) (at-object .put-object .ensures))))
 
 put-objects-returns : (t : ℕ) → put-objects-lts.Need-returns (put-objects-claims t) (put-objects-at t) put-objects.Post put-objects-Inv-loop put-objects-μ-loop
 put-objects-returns t c =
