@@ -197,7 +197,7 @@ fn put_fields(
     Spot { p: a, q: b }
 }
 
-// n objects of a declared type.
+// n objects of a declared type. A null is laid without a call.
 fn put_objects(
     s: &[u8],
     p: usize,
@@ -216,6 +216,13 @@ fn put_objects(
     let mut b = q;
     let mut k: usize = 0;
     while k < n {
+        if s[a] == 0 {
+            put(list, b, 0);
+            a += 1;
+            b += 1;
+            k += 1;
+            continue;
+        }
         let r = put_object(s, a, b, table, version, deep, declared, list);
         a = r.p;
         b = r.q;

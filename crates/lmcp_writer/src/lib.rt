@@ -187,7 +187,7 @@ fn put_fields(
     Spot { p: a, q: b }
 }
 
-// n objects of a declared type.
+// n objects of a declared type. A null is written without a call.
 fn put_objects(
     list: &[i64],
     p: usize,
@@ -206,6 +206,14 @@ fn put_objects(
     let mut b = q;
     let mut k: usize = 0;
     while k < n {
+        let z = list[a];
+        if lmcp::size_of(z) == 0 {
+            put_number(out, b, 1, 0);
+            a += 1;
+            b += 1;
+            k += 1;
+            continue;
+        }
         let r = put_object(list, a, b, table, version, deep, declared, out);
         a = r.p;
         b = r.q;

@@ -5,13 +5,13 @@ use mathlib.Core.List.{List}
 use Prim.Native.Nat.{ℕ, _+_, _-_, _*_, _≤_, _<_}
 use native.Mathlib.Omega.{arith}
 use lib.IntN.{ℤ, pos}
-use lib.ListN.{length, drop, set}
+use lib.ListN.{length, drop, getD, set}
 use lib.Seq.{slice}
 use borrow.Author.Needs.{needs}
 use Rattle.wire.specs.Bytes.{be}
 use Rattle.lmcp.specs.declared.Row.{Row}
 use Rattle.lmcp.specs.declared.Went.the-variants.{To}
-use Rattle.lmcp.specs.Run.{repeat}
+use Rattle.lmcp.specs.Run.{andThen, repeat}
 use Rattle.lmcp.specs.Table.{pitsurv, rowsOf, fieldsOf}
 use Rattle.lmcp.specs.Packed.{packedOf, cell}
 use Rattle.lmcp.specs.InsidePacked.{widthOf}
@@ -103,7 +103,7 @@ abbrev put-object-claims : ℕ → put-object-lts.Claims
 put-object-claims t = (wide-reads.Asked, wide-reads.Learnt, put-reads.Asked, put-reads.Learnt, four-reads.Asked, four-reads.Learnt, plain-of-reads.Asked, plain-of-reads.Learnt, put-fields-below t, put-fields.Post)
 
 abbrev put-objects-claims : ℕ → put-objects-lts.Claims
-put-objects-claims t = (put-object-below t, put-object.Post)
+put-objects-claims t = (put-reads.Asked, put-reads.Learnt, put-object-below t, put-object.Post)
 
 abbrev put-row-claims : ℕ → put-row-lts.Claims
 put-row-claims t = (
@@ -301,29 +301,69 @@ put-objects-loop-holds t c =
     let e = repeat-all (readObject (a .version) (a .deep) (a .declared)) (drop (a .p) (a .s .now)) (a .n) in
     (search needs, (refl, (begins {Few = Few0} (repeat (a .n - 0) (readObject (a .version) (a .deep) (a .declared))) (a .p) (a .q) (a .list .now) e tt (start .pre .1 .0 .inside), ahead-as e (start .pre .1 .1))))
 
-put-objects-put-object-requires : (t : ℕ) → put-objects-lts.Need-put-object-requires (put-objects-claims t) (put-objects-at t) put-objects.Post put-objects-Inv-loop put-objects-μ-loop
-put-objects-put-object-requires t c κs =
-    let test = c .before in
-    let turn = test .before in
-    let start = turn .before .before in
-    let a = start .args in
-    let x = turn .loop in
-    let m = ahead-as (repeat-more (readObject (a .version) (a .deep) (a .declared)) (drop (x .a) (a .s .now)) (a .n) (x .k) (test .loop-test .taken)) (x .inv .1 .1 .1) in
-    (omega (arith, start .pre .0), (record { short = start .pre .1 .0 .short; inside = x .inv .1 .1 .0 .within; packed = start .pre .1 .0 .packed }, ahead-first _ _ m))
+-- the object at the place of a turn
+abbrev Tested : ℕ → Type 0
+Tested t = put-objects-lts.In-loop (put-objects-claims t) (put-objects-at t) put-objects.Post put-objects-Inv-loop put-objects-μ-loop
+
+abbrev turn-ahead : (t : ℕ) (c : Tested t) → Ahead (andThen (readObject (c .before .before .before .args .version) (c .before .before .before .args .deep) (c .before .before .before .args .declared) (drop (c .before .loop .a) (c .before .before .before .args .s .now)))
+    (repeat (c .before .before .before .args .n - (c .before .loop .k + 1)) (readObject (c .before .before .before .args .version) (c .before .before .before .args .deep) (c .before .before .before .args .declared)))) (c .before .loop .b)
+turn-ahead t c =
+    let a = c .before .before .before .args in
+    let x = c .before .loop in
+    ahead-as (repeat-more (readObject (a .version) (a .deep) (a .declared)) (drop (x .a) (a .s .now)) (a .n) (x .k) (c .loop-test .taken)) (x .inv .1 .1 .1)
+
+abbrev turn-object : (t : ℕ) (c : Tested t) → Object (c .before .before .before .args .version) (c .before .before .before .args .deep) (c .before .before .before .args .declared) (c .before .before .before .args .s .now) (c .before .loop .a) (c .before .loop .b)
+turn-object t c = record { within = c .before .loop .inv .1 .1 .0 .within; ahead = ahead-first _ _ (turn-ahead t c) }
+
+put-objects-shared-slice-read-if1 : (t : ℕ) → put-objects-lts.Need-shared-slice-read-if1 (put-objects-claims t) (put-objects-at t) put-objects.Post put-objects-Inv-loop put-objects-μ-loop
+put-objects-shared-slice-read-if1 t c = first-inside (turn-object t (c .before))
+
+put-objects-add-a : (t : ℕ) → put-objects-lts.Need-add-a (put-objects-claims t) (put-objects-at t) put-objects.Post put-objects-Inv-loop put-objects-μ-loop
+put-objects-add-a t c =
+    let at-if = c .before .before .before in
+    let test = at-if .before .before in
+    omega (arith, first-inside (turn-object t test), test .before .before .before .pre .1 .0 .short)
+
+put-objects-add-b : (t : ℕ) → put-objects-lts.Need-add-b (put-objects-claims t) (put-objects-at t) put-objects.Post put-objects-Inv-loop put-objects-μ-loop
+put-objects-add-b t c =
+    let at-if = c .before .before .before in
+    let test = at-if .before .before in
+    let s = test .before .before .before .args .s .now in
+    omega (arith, null-room (turn-object t test) (getD s (test .before .loop .a) 0) (be-one s (test .before .loop .a) (getD s (test .before .loop .a) 0) refl) (at-if .if1 .taken))
 
 put-objects-loop-again : (t : ℕ) → put-objects-lts.Need-loop-again (put-objects-claims t) (put-objects-at t) put-objects.Post put-objects-Inv-loop put-objects-μ-loop
 put-objects-loop-again t c =
-    let at-object = c .before in
-    let test = at-object .before .before in
+    let at-put = c .before in
+    let at-if = at-put .before .before in
+    let test = at-if .before .before in
     let turn = test .before in
     let start = turn .before .before in
     let a = start .args in
     let x = turn .loop in
     let f = readObject (a .version) (a .deep) (a .declared) in
+    let e = getD (a .s .now) (x .a) 0 in
+    let g = null-laid (turn-object t test) e (be-one (a .s .now) (x .a) e refl) (at-if .if1 .taken) _ (at-put .put .ensures) in
+    (search needs, (at-put .put .kept .0 ∙ x .inv .1 .0, (items-turn Few0 f (a .n) (x .k) (x .inv .1 .1 .0) (test .loop-test .taken) (To (x .a + 1) (x .b + 1)) _ g (x .a + 1) (x .b + 1) refl, ahead-next _ _ (turn-ahead t test) g)))
+
+put-objects-put-object-requires : (t : ℕ) → put-objects-lts.Need-put-object-requires (put-objects-claims t) (put-objects-at t) put-objects.Post put-objects-Inv-loop put-objects-μ-loop
+put-objects-put-object-requires t c κs =
+    let test = c .before .before .before in
+    let start = test .before .before .before in
+    (omega (arith, start .pre .0), (record { short = start .pre .1 .0 .short; inside = test .before .loop .inv .1 .1 .0 .within; packed = start .pre .1 .0 .packed }, ahead-first _ _ (turn-ahead t test)))
+
+put-objects-loop-again-2 : (t : ℕ) → put-objects-lts.Need-loop-again-2 (put-objects-claims t) (put-objects-at t) put-objects.Post put-objects-Inv-loop put-objects-μ-loop
+put-objects-loop-again-2 t c =
+    let at-object = c .before in
+    let at-if = at-object .before .before in
+    let test = at-if .before .before in
+    let turn = test .before in
+    let a = turn .before .before .args in
+    let x = turn .loop in
+    let f = readObject (a .version) (a .deep) (a .declared) in
     let r = at-object .put-object .result in
     let out = at-object .put-object .last .1 .1 .1 .1 .1 .1 .1 .0 in
-    let m = ahead-as (repeat-more f (drop (x .a) (a .s .now)) (a .n) (x .k) (test .loop-test .taken)) (x .inv .1 .1 .1) in
-    (search needs, (at-object .put-object .kept .1 .1 .1 .1 .1 .1 .1 .0 ∙ x .inv .1 .0, (items-turn Few0 f (a .n) (x .k) (x .inv .1 .1 .0) (test .loop-test .taken) (To (r .p) (r .q)) out (at-object .put-object .ensures) (r .p) (r .q) refl, ahead-next _ _ m (at-object .put-object .ensures))))
+    let kept = at-object .put-object .kept .1 .1 .1 .1 .1 .1 .1 .0 in
+    (search needs, (kept ∙ x .inv .1 .0, (items-turn Few0 f (a .n) (x .k) (x .inv .1 .1 .0) (test .loop-test .taken) (To (r .p) (r .q)) out (at-object .put-object .ensures) (r .p) (r .q) refl, ahead-next _ _ (turn-ahead t test) (at-object .put-object .ensures))))
 
 put-objects-returns : (t : ℕ) → put-objects-lts.Need-returns (put-objects-claims t) (put-objects-at t) put-objects.Post put-objects-Inv-loop put-objects-μ-loop
 put-objects-returns t c =
@@ -576,10 +616,17 @@ pub +put-fields+put-object+put-objects+put-row-spec : {M : Type 1} → statement
     put-objects-Inv-loop
     put-objects-μ-loop
     (put-objects-loop-holds t)
-    (put-objects-put-object-requires t)
+    (put-objects-shared-slice-read-if1 t)
+    (λ c κs. search needs)
+    (put-objects-add-a t)
+    (put-objects-add-b t)
     (λ c. search needs)
     (λ c. search needs)
     (put-objects-loop-again t)
+    (put-objects-put-object-requires t)
+    (λ c. search needs)
+    (λ c. search needs)
+    (put-objects-loop-again-2 t)
     (λ c. search needs)
     (put-objects-returns t))
     λ t. put-row-lts.spec (put-row-claims t)

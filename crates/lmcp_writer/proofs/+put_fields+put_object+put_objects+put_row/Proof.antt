@@ -13,10 +13,10 @@ use Rattle.wire.specs.Signed.{unsigned}
 use Rattle.wire.proofs.Overlays.{overlay-sets}
 use Rattle.lmcp.specs.declared.Row.{Row}
 use Rattle.lmcp.specs.declared.Went.the-variants.{To}
-use Rattle.lmcp.specs.Run.{repeat}
+use Rattle.lmcp.specs.Run.{andThen, repeat}
 use Rattle.lmcp.specs.Table.{pitsurv, rowsOf, fieldsOf}
 use Rattle.lmcp.specs.Packed.{packedOf, cell}
-use Rattle.lmcp.specs.Write.{writing, header}
+use Rattle.lmcp.specs.Write.{Write, writing, header}
 use Rattle.lmcp.specs.Ends.{begun, Sofar}
 use Rattle.lmcp.proofs.WalkPlaces.{begins, repeat-all, repeat-more, fields-more, items-turn, items-end, fields-turn, fields-done}
 use Rattle.lmcp.proofs.Sizes.{through}
@@ -96,7 +96,7 @@ abbrev put-object-claims : ℕ → put-object-lts.Claims
 put-object-claims t = (size-of-reads.Asked, size-of-reads.Learnt, put-number-reads.Asked, put-number-reads.Learnt, put-header-reads.Asked, put-header-reads.Learnt, put-fields-below t, put-fields.Post)
 
 abbrev put-objects-claims : ℕ → put-objects-lts.Claims
-put-objects-claims t = (put-object-below t, put-object.Post)
+put-objects-claims t = (size-of-reads.Asked, size-of-reads.Learnt, put-number-reads.Asked, put-number-reads.Learnt, put-object-below t, put-object.Post)
 
 abbrev put-row-claims : ℕ → put-row-lts.Claims
 put-row-claims t = (
@@ -207,30 +207,89 @@ put-objects-loop-holds t c =
     let e = repeat-all (writeObject (a .version) (a .deep) (a .declared)) (drop (a .p) (a .list .now)) (a .n) in
     (search needs, (refl, (begins {Few = Few0} (repeat (a .n - 0) (writeObject (a .version) (a .deep) (a .declared))) (a .p) (a .q) (a .out .now) e tt (start .pre .1 .0 .inside), ahead-as e (start .pre .1 .1))))
 
-put-objects-put-object-requires : (t : ℕ) → put-objects-lts.Need-put-object-requires (put-objects-claims t) (put-objects-at t) put-objects.Post put-objects-Inv-loop put-objects-μ-loop
-put-objects-put-object-requires t c κs =
-    let test = c .before in
-    let turn = test .before in
-    let start = turn .before .before in
-    let a = start .args in
-    let x = turn .loop in
-    let f = writeObject (a .version) (a .deep) (a .declared) in
-    let m = ahead-as (repeat-more f (drop (x .a) (a .list .now)) (a .n) (x .k) (test .loop-test .taken)) (x .inv .1 .1 .1) in
-    (omega (arith, start .pre .0), (record { inside = x .inv .1 .1 .0 .within; packed = start .pre .1 .0 .packed }, ahead-in (sym (x .inv .1 .0)) (ahead-first _ _ m)))
+-- the object at the place of a turn, and its type
+abbrev Tested : ℕ → Type 0
+Tested t = put-objects-lts.In-loop (put-objects-claims t) (put-objects-at t) put-objects.Post put-objects-Inv-loop put-objects-μ-loop
+
+abbrev turn-start : (t : ℕ) → Tested t → put-objects-lts.Start (put-objects-claims t) (put-objects-at t) put-objects.Post put-objects-Inv-loop put-objects-μ-loop
+turn-start t c = c .before .before .before
+
+abbrev turn-reads : (t : ℕ) → Tested t → List ℤ → Write
+turn-reads t c = let a = turn-start t c .args in writeObject (a .version) (a .deep) (a .declared)
+
+turn-ahead : (t : ℕ) (c : Tested t) → Ahead (andThen (turn-reads t c (drop (c .before .loop .a) (turn-start t c .args .list .now))) (repeat (turn-start t c .args .n - (c .before .loop .k + 1)) (turn-reads t c))) (c .before .loop .b) (length (turn-start t c .args .out .now))
+turn-ahead t c =
+    let a = turn-start t c .args in
+    let x = c .before .loop in
+    ahead-as (repeat-more (turn-reads t c) (drop (x .a) (a .list .now)) (a .n) (x .k) (c .loop-test .taken)) (x .inv .1 .1 .1)
+
+turn-object : (t : ℕ) (c : Tested t) → Object (turn-start t c .args .version) (turn-start t c .args .deep) (turn-start t c .args .declared) (turn-start t c .args .list .now) (c .before .loop .a) (c .before .loop .b) (length (turn-start t c .args .out .now))
+turn-object t c = record { within = c .before .loop .inv .1 .1 .0 .within; ahead = ahead-first _ _ (turn-ahead t c) }
+
+abbrev Sized-turn : ℕ → Type 0
+Sized-turn t = put-objects-lts.After-size-of (put-objects-claims t) (put-objects-at t) put-objects.Post put-objects-Inv-loop put-objects-μ-loop
+
+turn-number : (t : ℕ) (c : Sized-turn t) → c .size-of .result ≡ mag (getD (turn-start t (c .before .before) .args .list .now) (c .before .before .before .loop .a) (pos 0))
+turn-number t c =
+    let test = c .before .before in
+    let z : ℤ = getD (turn-start t test .args .list .now) (test .before .loop .a) (pos 0) in
+    c .size-of .ensures ∙ ap mag (through z (record { sfits = c .before .z .given }))
+
+put-objects-shared-slice-copy-out-z : (t : ℕ) → put-objects-lts.Need-shared-slice-copy-out-z (put-objects-claims t) (put-objects-at t) put-objects.Post put-objects-Inv-loop put-objects-μ-loop
+put-objects-shared-slice-copy-out-z t c = first-inside (turn-object t c)
+
+put-objects-put-number-requires : (t : ℕ) → put-objects-lts.Need-put-number-requires (put-objects-claims t) (put-objects-at t) put-objects.Post put-objects-Inv-loop put-objects-μ-loop
+put-objects-put-number-requires t c κs =
+    let i = c .before in
+    let s = i .before in
+    let test = s .before .before in
+    let l = null-room (turn-object t test) (s .size-of .result) (turn-number t s) (i .if1 .taken) in
+    (omega (arith, l, test .before .loop .inv .1 .0), one)
+
+put-objects-add-a : (t : ℕ) → put-objects-lts.Need-add-a (put-objects-claims t) (put-objects-at t) put-objects.Post put-objects-Inv-loop put-objects-μ-loop
+put-objects-add-a t c =
+    let s = c .before .before .before .before .before in
+    let l = first-inside (turn-object t (s .before .before)) in search needs
+
+put-objects-add-b : (t : ℕ) → put-objects-lts.Need-add-b (put-objects-claims t) (put-objects-at t) put-objects.Post put-objects-Inv-loop put-objects-μ-loop
+put-objects-add-b t c =
+    let i = c .before .before .before .before in
+    let s = i .before in
+    let test = s .before .before in
+    let l = null-room (turn-object t test) (s .size-of .result) (turn-number t s) (i .if1 .taken) in
+    record { fits = omega (arith, l, turn-start t test .pre .1 .1 .small) }
 
 put-objects-loop-again : (t : ℕ) → put-objects-lts.Need-loop-again (put-objects-claims t) (put-objects-at t) put-objects.Post put-objects-Inv-loop put-objects-μ-loop
 put-objects-loop-again t c =
-    let at-object = c .before .before in
-    let test = at-object .before .before in
+    let put = c .before .before in
+    let i = put .before .before in
+    let s = i .before in
+    let test = s .before .before in
     let turn = test .before in
-    let start = turn .before .before in
-    let a = start .args in
+    let a = turn-start t test .args in
     let x = turn .loop in
-    let f = writeObject (a .version) (a .deep) (a .declared) in
-    let m = ahead-as (repeat-more f (drop (x .a) (a .list .now)) (a .n) (x .k) (test .loop-test .taken)) (x .inv .1 .1 .1) in
+    let g = null-laid (turn-object t test) (s .size-of .result) (turn-number t s) (i .if1 .taken) (put .put-number .last .0)
+    (laid-number (x .out) (put .put-number .last .0) (x .b) 1 0 0 (put .put-number .ensures) refl ∙ ap (sets (x .out) (x .b)) zero-byte) in
+    (search needs, (put .put-number .kept .0 ∙ x .inv .1 .0, (items-turn Few0 (turn-reads t test) (a .n) (x .k) (x .inv .1 .1 .0) (test .loop-test .taken) (To (x .a + 1) (x .b + 1)) _ g (x .a + 1) (x .b + 1) refl, ahead-next _ _ (turn-ahead t test) g)))
+
+put-objects-put-object-requires : (t : ℕ) → put-objects-lts.Need-put-object-requires (put-objects-claims t) (put-objects-at t) put-objects.Post put-objects-Inv-loop put-objects-μ-loop
+put-objects-put-object-requires t c κs =
+    let test = c .before .before .before .before in
+    let start = turn-start t test in
+    let x = test .before .loop in
+    (omega (arith, start .pre .0), (record { inside = x .inv .1 .1 .0 .within; packed = start .pre .1 .0 .packed }, ahead-in (sym (x .inv .1 .0)) (ahead-first _ _ (turn-ahead t test))))
+
+put-objects-loop-again-2 : (t : ℕ) → put-objects-lts.Need-loop-again-2 (put-objects-claims t) (put-objects-at t) put-objects.Post put-objects-Inv-loop put-objects-μ-loop
+put-objects-loop-again-2 t c =
+    let at-object = c .before .before in
+    let i = at-object .before .before in
+    let test = i .before .before .before in
+    let a = turn-start t test .args in
+    let x = test .before .loop in
     let r = at-object .put-object .result in
     let out = at-object .put-object .last .1 .1 .1 .1 .1 .1 .1 .0 in
-    (search needs, (at-object .put-object .kept .1 .1 .1 .1 .1 .1 .1 .0 ∙ x .inv .1 .0, (items-turn Few0 f (a .n) (x .k) (x .inv .1 .1 .0) (test .loop-test .taken) (To (r .p) (r .q)) out (at-object .put-object .ensures) (r .p) (r .q) refl, ahead-next _ _ m (at-object .put-object .ensures))))
+    let kept = at-object .put-object .kept .1 .1 .1 .1 .1 .1 .1 .0 in
+    (search needs, (kept ∙ x .inv .1 .0, (items-turn Few0 (turn-reads t test) (a .n) (x .k) (x .inv .1 .1 .0) (test .loop-test .taken) (To (r .p) (r .q)) out (at-object .put-object .ensures) (r .p) (r .q) refl, ahead-next _ _ (turn-ahead t test) (at-object .put-object .ensures))))
 
 put-objects-returns : (t : ℕ) → put-objects-lts.Need-returns (put-objects-claims t) (put-objects-at t) put-objects.Post put-objects-Inv-loop put-objects-μ-loop
 put-objects-returns t c =
@@ -608,10 +667,19 @@ pub +put-fields+put-object+put-objects+put-row-spec : {M : Type 1} → statement
     put-objects-Inv-loop
     put-objects-μ-loop
     (put-objects-loop-holds t)
-    (put-objects-put-object-requires t)
+    (λ c. search needs)
+    (put-objects-shared-slice-copy-out-z t)
+    (λ c κs. search needs)
+    (put-objects-put-number-requires t)
+    (put-objects-add-a t)
+    (put-objects-add-b t)
     (λ c. search needs)
     (λ c. search needs)
     (put-objects-loop-again t)
+    (put-objects-put-object-requires t)
+    (λ c. search needs)
+    (λ c. search needs)
+    (put-objects-loop-again-2 t)
     (λ c. search needs)
     (put-objects-returns t))
     λ t. put-row-lts.spec (put-row-claims t)
