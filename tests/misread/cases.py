@@ -10,7 +10,9 @@
     held: run gauge                 a run of this program differs
     held: test exports              a run of this test differs
     held: case moss Works           a computed case of this module is refused
-    held: theorem moss Looks `x`    the statement of this theorem is false; why: in a line `false:` where nothing else holds it
+    held: theorem moss Looks `x`    the proof of this theorem, or of a lemma below it, is refused
+    false: ..                       where a theorem alone holds it: why its statement is false, and not only its proof another
+    passes: moss block_laws         nothing refuses the definition's edit up to these crates
 
 Edits of specs/ are the definition's, edits of src/ the code's. Each holder is tried and must hold."""
 import glob
@@ -22,7 +24,7 @@ import shutil
 class Case:
     def __init__(self, file, title):
         self.file, self.title = file, title
-        self.paper, self.false, self.note = "", "", ""
+        self.paper, self.passes, self.false, self.note = "", "", "", ""
         self.edits, self.held = [], []
 
     def __repr__(self):
@@ -46,7 +48,7 @@ def read(path):
     got, name, file, last = [], os.path.basename(path)[:-4], None, None
     for number, line in enumerate(open(path, encoding="utf-8"), 1):
         line = line.rstrip("\n")
-        found = re.match(r"(misread|paper|file|old|new|held|false|note):(?: (.*))?$", line)
+        found = re.match(r"(misread|paper|file|old|new|held|passes|false|note):(?: (.*))?$", line)
         if not line.strip() or line.startswith("#"):
             last = None
             continue
@@ -70,6 +72,18 @@ def read(path):
             setattr(case, word, rest)
         last = word
     return got
+
+
+def write(folder, case, line):
+    """Puts a line at the end of a case."""
+    path = os.path.join(folder, "cases", case.file + ".txt")
+    with open(path, encoding="utf-8") as f:
+        text = f.read()
+    at = text.index(f"misread: {case.title}\n")
+    end = text.find("\n\n", at)
+    end = len(text.rstrip("\n")) if end < 0 else end
+    with open(path, "w", encoding="utf-8") as f:
+        f.write(text[:end] + "\n" + line + text[end:])
 
 
 def all_cases(folder):

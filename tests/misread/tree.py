@@ -248,8 +248,8 @@ class Theory:
         return got
 
     def way(self, changed, to):
-        """From the changed crates up to another: those that must be checked again on the way."""
-        below = self.below(to)
+        """From the changed crates up to others: those that must be checked again on the way."""
+        below = set().union(*map(self.below, to))
         return [c for c in self.above(changed) if c in below]
 
     def build(self, tree, crate, rlib):
@@ -275,11 +275,11 @@ class Theory:
                 os.symlink(os.path.join(os.path.abspath(proved), name), os.path.join(rlib, name))
         return rlib
 
-    def tried(self, edits, applied, to=None):
-        """The first refusal of a definition's edit on the way up to a crate (None: all the way); None where nothing refuses it."""
+    def tried(self, edits, applied, to):
+        """The first refusal of a definition's edit on the way up to some crates; None where nothing refuses it."""
         changed = sorted({e[0].split("/")[0] for e in edits})
         again = self.above(changed)
-        way = self.way(changed, to) if to else again
+        way = self.way(changed, to)
         tree = os.path.join(self.work, "misread")
         shutil.rmtree(tree, ignore_errors=True)
         for crate in way:
