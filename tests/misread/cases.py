@@ -14,7 +14,8 @@
     false: ..                       where a theorem alone holds it: why its statement is false, and not only its proof another
     passes: moss block_laws         nothing refuses the definition's edit up to these crates
 
-Edits of specs/ are the definition's, edits of src/ the code's. Each holder is tried and must hold."""
+Edits of specs/ are the definition's, edits of src/ the code's; edits of proofs/ mend what is proved of a statement that was weakened, so that it stands, and a worked case is left to refuse it.
+Each holder is tried and must hold."""
 import glob
 import os
 import re
@@ -32,7 +33,7 @@ class Case:
 
     @property
     def specs(self):
-        return [e for e in self.edits if "/specs/" in e[0]]
+        return [e for e in self.edits if "/src/" not in e[0]]
 
     @property
     def sources(self):
