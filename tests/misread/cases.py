@@ -99,6 +99,7 @@ KNOWN = {
     "mathlib.Core.Bool": "Bool true false not _&&_ _||_",
     "mathlib.Core.List": "List [] _∷_ _++_",
     "Rattle.wire.specs.Choice": "pick _when_else_",
+    "native.Mathlib.Omega": "arith",
 }
 
 
