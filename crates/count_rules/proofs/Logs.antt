@@ -53,8 +53,8 @@ as-arrival l w e a = elim (step-admitted l (w .machine) (w .store) (w .ledger) (
 
 -- refused within the limits, it hands over nothing and leaves all as it was
 pub record Stays (l : Limits) (w : World) (e : Entry) : Type 0 where
-  hands : payloadIn (answerTo l w e) ≡ []
-  leaves : leftBy l w e ≡ w
+  pub hands : payloadIn (answerTo l w e) ≡ []
+  pub leaves : leftBy l w e ≡ w
 
 pub stays : (l : Limits) (w : World) (e : Entry) (k : ℕ) → readWithin l (w .machine .slotSize) (e .datagram) ≡ Refused k → Stays l w e
 unfolding called stay
