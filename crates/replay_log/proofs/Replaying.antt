@@ -1,4 +1,4 @@
--- The lines of the entries that were passed, and of those that are left, are those of the log. Assumes nothing.
+-- The lines of the entries that were passed, and of those that are left, heard by one receiver, are those of the log. Assumes nothing.
 use mathlib.Core.Path.{_≡_, refl, sym, ap, _∙_, subst}
 use mathlib.Core.Bool.{Bool, true}
 use mathlib.Core.List.{List, [], _∷_, _++_, append-nil, append-assoc}
@@ -51,6 +51,7 @@ module _ {limits : Limits} {l : Lent} {e : Entry} {n : ℕ} {out : Buffer} {at :
 
 -- ---- entry by entry
 
+-- the entries were passed and their lines poured, and whatever is left goes on with what the receiver holds now
 pub record Going (log : List ℕ) (limits : Limits) (w₀ : World) (out₀ : List ℕ) (w : World) (out : List ℕ) (place at n : ℕ) : Type 0 where
   pub entries : List Entry
   pub count : n ≡ length entries
@@ -114,7 +115,6 @@ module _ {log : List ℕ} {limits : Limits} {w₀ : World} {out₀ : List ℕ} {
   pub going-shut : at ≡ closed → Pours out₀ 0 (logLines limits w₀ (entriesIn log)) out at
   going-shut e = pours-is (pours-stop _ e (g .poured)) (sym (ap (logLines limits w₀) (g .passed .is) ∙ lines-rest _))
 
--- ---- the lines by what is lent at first, by another name
-
+-- the lines by what is lent at first, by another name
 pub finishes-from : (log : List ℕ) {w w′ : World} {out out′ : List ℕ} {r : Bool} → w ≡ w′ → Finishes out 0 (linesFrom w log) out′ r → Finishes out 0 (linesFrom w′ log) out′ r
 finishes-from log {w} {w′} {out} {out′} {r} = subst (λ (v : World). Finishes out 0 (linesFrom v log) out′ r)

@@ -14,6 +14,7 @@ returns c =
     let o = c .before .before .before .before in
     absurd (opened-done _ _ _ _ _ _ zeros-shaped (o .«open» .ensures) _ (c .enum-told2 .given .1))
 
+-- the longest array by its length, since looking for it takes seconds
 slice-aggregate-replayed-3 : tie.Need-slice-aggregate-replayed-3
 slice-aggregate-replayed-3 c = zeros 2_097_152
 
