@@ -88,6 +88,15 @@ static void orders(void) {
     }
 }
 
+/* 13 comes before 60: the lists before the last have 4 numbers, that one 8 or 9, and its tile is the 257th, or one that was named. */
+static void long_lists(void) {
+    for (u64 i = 0; i < 24; i++) {
+        flight_tiles(256);
+        flight_marked(i % 2 ? 1000 : 1001);
+        try_count(800, QM_LEDGER, 4 + i / 2 % 6, QM_REPORT);
+    }
+}
+
 void counts(int times) {
     region_take(&lent_log, FLIGHT_ROOM);
     region_take(&lent_store, STORE_ROOM);
@@ -112,6 +121,7 @@ void counts(int times) {
         try_count(800, QM_LEDGER, 20000, QM_REPORT);
     }
     orders();
+    long_lists();
     flight_world(below(40));
     try_count(QM_STORE, QM_LEDGER, QM_NUMBERS, QM_REPORT);
     static const int owed[] = {0, 13, 40, 41, 42, 43, 60, 61, 62};

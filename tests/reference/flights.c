@@ -141,6 +141,13 @@ void flight_tiles(u64 tiles) {
     }
 }
 
+void flight_marked(u64 tile) {
+    u8 d[200];
+    u32 datagrams, written;
+    ref_cut((const u8 *) "TILE", 4, message, pit_list(tile, 1, 1, 1), 9999, 200, 0, d, sizeof d, &datagrams, &written);
+    append(7, d, written);
+}
+
 void flight_pits(u64 pits) {
     static u8 d[65507];
     u32 datagrams, written;

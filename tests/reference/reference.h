@@ -201,6 +201,8 @@ void flight_seed(u64 seed);
 void flight_world(u64 messages);
 /* That many lists without marks, each of another tile. */
 void flight_tiles(u64 tiles);
+/* One list more, of one mark: 8 numbers, or 9 in version 2. */
+void flight_marked(u64 tile);
 /* That many pits, in lists of at most 2,000, on two tiles. */
 void flight_pits(u64 pits);
 /* That many entries. */

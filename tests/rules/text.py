@@ -7,13 +7,10 @@ import items
 import pages
 from faults import bare, read
 
-MOST = 8  # arguments
+MOST = 8  # arguments, and .before in a row
 # ---- the tables of exceptions: each is to be mended, and then goes from here
 # clauses and definitions with more arguments: crate and name
-OVER = {
-    "lmcp Marked",
-    "lmcp Sofar",
-}
+OVER = set()
 # files of specs/ with definitions that nothing public reaches
 NOT_INSIDE = set()
 # the most characters of a line in proofs/
@@ -164,10 +161,10 @@ def bare_refusals(faults, project):
 
 
 def long_chains(faults, project):
-    """Places are named, and not counted: chains of more than eight `.before`."""
-    counts = [len(re.findall(r"(?:\.before\b\s*){9,}", bare(p, read(p)))) for p in project.paths("*/proofs/**/*.antt")]
-    if any(counts):
-        faults.note(f"{sum(counts)} chains of more than eight .before, in {sum(1 for c in counts if c)} files")
+    """Places are named, and not counted: no chain of more than eight `.before`, also one that goes over lines."""
+    for path in project.paths("*/proofs/**/*.antt"):
+        longest = max((len(x.split()) for x in re.findall(r"(?:\.before(?![\w-])\s*)+", bare(path, read(path)).replace(".before", " .before"))), default=0)
+        faults.rule(longest <= MOST, f"{path}: a chain of {longest} .before, more than {MOST}: name a place on the way by let")
 
 
 def short_lines(faults, project):

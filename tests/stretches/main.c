@@ -1,6 +1,7 @@
 /* Holds qm_count_on and qm_count_lines to qm_count, over the logs named: each log in pieces of 1, 2, 3, 7, 50 and all entries has the totals and the lines of
    qm_count; all logs one after another, each behind a qm_open of its own, have the lines of a season, in either order and with each given twice; in sets with
-   one word too few 60 and 61 come, and what stood there before stands there still. */
+   one word too few 60 and 61 come, in a number list that is too short 13, and what stood there before stands there still. However it stopped, the place told is
+   behind the entries taken. */
 
 #include "../../include/quartzmitten.h"
 
@@ -21,6 +22,8 @@ struct map {
 };
 static struct map one, other, before;
 static qm_u64 tile[WORDS], pit[WORDS], certain[WORDS], tile2[WORDS], pit2[WORDS], certain2[WORDS];
+/* how many numbers the number list has */
+static qm_size list_room = QM_NUMBERS;
 static int passed, failed;
 
 static void hold(int good, const char *what, int log, qm_u64 most) {
@@ -33,6 +36,28 @@ static void hold(int good, const char *what, int log, qm_u64 most) {
 
 static void empty(struct map *m) { memset(m, 0, sizeof *m); }
 
+/* The place behind a number of seven-bit groups; the number. */
+static qm_size behind_number(int log, qm_size place, qm_u64 *number) {
+    int bits = 0;
+    *number = 0;
+    do {
+        *number |= (qm_u64) (log_bytes[log][place] & 127) << bits;
+        bits += 7;
+    } while (log_bytes[log][place++] > 127);
+    return place;
+}
+
+/* The place behind so many entries from a place on, at 0 behind the head too: each is sender, tick, length and as many bytes. */
+static qm_size behind(int log, qm_size place, qm_u64 entries) {
+    qm_u64 number;
+    if (place == 0) place = log_bytes[log][0] == 1 ? 1 : behind_number(log, 1, &number);
+    for (; entries > 0; entries--) {
+        for (int i = 0; i < 3; i++) place = behind_number(log, place, &number);
+        place += number;
+    }
+    return place;
+}
+
 /* A flight in pieces, with so many words for tiles, pits and sure pits; the totals in `sum`. Answers why it stopped. */
 static qm_u64 fly(int log, qm_u64 most, struct map *m, qm_size tiles, qm_size pits, qm_size sure) {
     qm_size place = 0;
@@ -40,12 +65,13 @@ static qm_u64 fly(int log, qm_u64 most, struct map *m, qm_size tiles, qm_size pi
     memset(sum, 0, sizeof sum);
     do {
         told[QM_STRETCH] = 77;
-        qm_u32 got = qm_count_on(log_bytes[log], log_length[log], place, most, state, QM_STATE, names, QM_NAMES, store, QM_STORE, ledger, QM_LEDGER, numbers, QM_NUMBERS,
+        qm_u32 got = qm_count_on(log_bytes[log], log_length[log], place, most, state, QM_STATE, names, QM_NAMES, store, QM_STORE, ledger, QM_LEDGER, numbers, list_room,
                                  m->tiles, tiles, m->pits, pits, m->sure, sure, m->had[0], m->had[1], m->had[2], told, QM_STRETCH + 1);
         hold(got == 0 && told[QM_STRETCH] == 77, "told beyond its numbers, or refused", log, most);
         for (int i = QM_ON_ENTRIES; i < QM_ON_TILES; i++) sum[i] += told[i];
         memcpy(m->had, told + QM_ON_TILES, sizeof m->had);
-        place = told[QM_ON_PLACE];
+        place = behind(log, place, told[QM_ON_ENTRIES]);
+        hold(told[QM_ON_PLACE] == place, "another place", log, most);
     } while (told[QM_ON_STOP] == QM_STOP_TAKEN);
     return told[QM_ON_STOP];
 }
@@ -108,6 +134,14 @@ static void season(int logs) {
              "a flight counted before is damaged", k, 0);
         hold(within(other.tiles, other.had[0], one.tiles, one.had[0]) && within(other.pits, other.had[1], one.pits, one.had[1]) && within(other.sure, other.had[2], one.sure, one.had[2]), "a pit that nobody marked", k, 0);
     }
+    /* a number list that is too short: of nothing, and of the head of a list alone */
+    for (list_room = 0; list_room < 5; list_room += 4) {
+        qm_u64 why = QM_STOP_END;
+        empty(&other);
+        for (int i = 0; i < logs && why == QM_STOP_END; i++) why = fly(i, ~0ull, &other, WORDS, WORDS, WORDS);
+        hold(why == QM_STOP_REFUSED && told[QM_ON_NUMBER] == QM_TOO_SHORT, "not refused by 13", -1, list_room);
+    }
+    list_room = QM_NUMBERS;
     hold(qm_count_on(log_bytes[0], log_length[0], 0, 1, state, QM_STATE, names, QM_NAMES, store, QM_STORE, ledger, QM_LEDGER, numbers, QM_NUMBERS, one.tiles, WORDS, one.pits, WORDS, one.sure, WORDS,
                      one.had[0], one.had[1], one.had[2], told, QM_STRETCH - 1) == QM_TOO_SHORT,
          "told without room", -1, 0);

@@ -1,4 +1,4 @@
-pub mod Cases
-pub mod Walks
+pub mod BlockCases
+pub mod BlockTurns
 pub mod Once
 pub mod Works

@@ -12,6 +12,8 @@ use Rattle.ack_writer.specs.Write.{bytesOf, writtenOf}
 use Rattle.ack_writer.specs.declared.Written.{Written}
 use Rattle.ack_writer.specs.declared.Written.the-variants.{Bytes, Refused}
 use Rattle.text.specs.Text.{decimal, hex}
+use Rattle.record_lines.specs.Streams.{Stream}
+use Rattle.record_lines.specs.Lines.{linesOf}
 
 -- the numbers that the program holds
 abbrev pub listLimit : ℕ
@@ -53,3 +55,7 @@ longerText =
 -- line n
 unfoldable pub line : ℕ → List ℕ → List ℕ
 line n b = decimal n ++ pick (ltb listLimit (length b / 8)) longerText (answerText (recordAnswer b) (bytesOf (recordList b)))
+
+-- of all records, with the last line
+abbrev pub lines : Stream → List ℕ
+lines = linesOf (λ n x. line n (x .body))

@@ -5,11 +5,14 @@ ghost use mathlib.Core.List.{_++_};
 ghost use Prim.Native.Nat.{_/_, _≤_};
 ghost use lib.ListN.{length, take};
 ghost use lib.Seq.{sets};
+ghost use Rattle.wire.specs.Slices.{buffer};
 ghost use Rattle.wire.specs.Text.{ascii};
 ghost use Rattle.ack_blocks.specs.Limits.{maxBlocks};
 ghost use Rattle.text.specs.Text.{decimal};
+ghost use Rattle.stream.specs.declared.Kind.the-variants.{Bytes4};
 ghost use Rattle.output.specs.Output.{Pours, lineLimit};
-ghost use Rattle.ack_bytes.specs.Lines.{numbersOf, listLimit, bytesText, longerText, writtenText, line};
+ghost use Rattle.record_lines.specs.Lines.{Tells};
+ghost use Rattle.ack_bytes.specs.Lines.{numbersOf, listLimit, bytesText, longerText, writtenText, line, lines};
 use ack_writer::Written;
 use stream::Input;
 use stream::Kind;
@@ -106,23 +109,27 @@ fn one_more(
     pour_written(out, next, blocks, w)
 }
 
-// One line a record, and the last line.
-fn run(buf: &mut [u8], list: &mut [u64], blocks: &mut [u8], out: &mut [u8])
+// One line a record of the input, and the last line. Answers whether the system took all of them; it stops where it did not.
+fn run(buf: &mut [u8], input: Input, list: &mut [u64], blocks: &mut [u8], out: &mut [u8]) -> bool
     requires { ⌜ ((length (now list) ≡ listLimit) × (length (now blocks) ≡ maxBlocks)) × (lineLimit ≤ length (now out)) ⌝ }
+    ensures { λ r. ⌜ Tells Bytes4 lines (now (buf .entry)) input (buffer out) 0 r ⌝ }
 {
-    let mut input = Input { at: 0, end: 0 };
+    let mut rest = input;
     let mut at: usize = 0;
     let mut n: u64 = 0;
     while n < stream::MANY {
-        let next = stream::next_record(buf, input, Kind::Bytes4);
+        let next = stream::next_record(buf, rest, Kind::Bytes4);
         let Next::Record(from, len, left) = next else {
-            output::finish(out, at, n, next);
-            return;
+            return output::finish(out, at, n, next);
         };
         n += 1;
-        input = left;
+        rest = left;
         at = one_more(out, at, n, list, blocks, wire::part(buf, from, len));
+        if at == output::CLOSED {
+            return false;
+        }
     }
+    output::finish(out, at, n, Next::Cut)
 }
 
 fn main() {
@@ -130,5 +137,11 @@ fn main() {
     let mut list = [0u64; NUMBERS];
     let mut blocks = [0u8; ack_blocks::MAX_BLOCKS];
     let mut out = [0u8; output::HOLDS];
-    run(&mut buf, &mut list, &mut blocks, &mut out);
+    run(
+        &mut buf,
+        Input { at: 0, end: 0 },
+        &mut list,
+        &mut blocks,
+        &mut out,
+    );
 }

@@ -1,6 +1,6 @@
-pub mod Cases
+pub mod BlockOfRun
 pub mod Runs
-pub mod Lays
+pub mod ListTurns
 pub mod Trips
 pub mod Once
 pub mod Longest

@@ -13,7 +13,7 @@ use Rattle.wire.specs.Choice.{pick}
 use Rattle.wire.proofs.Choices.{either, never, and-l, and-r, or-l, or-r, pick-all}
 use Rattle.ack_blocks.specs.Blocks.{Block, single, run, map, between, has, acknowledges, blockBytes, laid}
 use Rattle.ack_writer.specs.Write.{member, rising, risingFrom, oneBlock, blocksFrom, bytesOf}
-use Rattle.ack_writer.proofs.Cases.{single-length, run-length, one-single, one-run}
+use Rattle.ack_writer.proofs.BlockOfRun.{single-length, run-length, one-single, one-run}
 use Rattle.ack_writer.proofs.Trips.{Good, AllGood, one-number, one-more, or-assoc}
 use Rattle.ack_writer.proofs.Longest.{firstOf}
 

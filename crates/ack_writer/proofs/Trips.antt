@@ -19,9 +19,9 @@ use Rattle.ack_blocks.specs.Blocks.{Block, single, run, map, between, has, ackn
 use Rattle.ack_blocks.specs.Read.{Given, gives, kindIn, firstIn, lastIn, sizeIn, blockIn, runFault, faultIn, before, blocksIn, told, asked}
 use Rattle.ack_writer.specs.Write.{member, oneBlock, blocksFrom, blocksOf, bytesOf, outputOf, WritesBlocks}
 use Rattle.ack_writer.specs.declared.Written.the-variants as written
-use Rattle.ack_blocks.proofs.Cases.{size-single, block-single, size-run, block-run, fault-run, fault-none}
-use Rattle.ack_writer.proofs.Cases.{single-length, run-length}
-use Rattle.ack_blocks.proofs.Walks.{blocks-next, blocks-end, asked-fits}
+use Rattle.ack_blocks.proofs.BlockCases.{size-single, block-single, size-run, block-run, fault-run, fault-none}
+use Rattle.ack_writer.proofs.BlockOfRun.{single-length, run-length}
+use Rattle.ack_blocks.proofs.BlockTurns.{blocks-next, blocks-end, asked-fits}
 use Rattle.ack_writer.proofs.Runs.{written-makes}
 
 -- ---- one block and what follows it

@@ -9,6 +9,8 @@ use Rattle.wire.specs.Choice.{pick}
 use Rattle.wire.specs.Bytes.{be}
 use Rattle.ack_blocks.specs.Read.{Given, gives, refuses, asked}
 use Rattle.text.specs.Text.{decimal}
+use Rattle.record_lines.specs.Streams.{Stream}
+use Rattle.record_lines.specs.Lines.{linesOf}
 
 -- a record: an 8-byte number, then blocks
 abbrev pub numberLength : ℕ
@@ -26,3 +28,7 @@ answerText (refuses number) = ascii " refused " ++ decimal number ++ ascii "\n"
 -- line n
 abbrev pub line : ℕ → List ℕ → List ℕ
 line n b = decimal n ++ answerText (recordAnswer b)
+
+-- of all records, with the last line
+abbrev pub lines : Stream → List ℕ
+lines = linesOf (λ n x. line n (x .body))

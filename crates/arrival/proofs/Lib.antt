@@ -7,7 +7,7 @@ pub mod Track
 pub mod Order
 pub mod Whole
 pub mod Demand3
-pub mod Takings
+pub mod WithinCalls
 pub mod Runs
 pub mod Ours
 pub mod Tests

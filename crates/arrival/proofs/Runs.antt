@@ -17,7 +17,7 @@ use Rattle.receiver.specs.Calls.{refusalOf, Receives, received, told}
 use Rattle.open_and_payload.specs.Ends.{Opens}
 use Rattle.arrival.specs.Demand.{Scene, slotBytes, Event, Feed, start, _▹_, senderOf, bytesOf, arrival, nameIn, handedBy, push, call, after, delivery, deliveries, Supposed, AllAnswered}
 use Rattle.arrival.specs.Runs.{Calls, opens, calls, turns-away, handsOver, handedOver, EachCall, CodePromised}
-use Rattle.arrival.proofs.Takings.{takes-are, turned-same}
+use Rattle.arrival.proofs.WithinCalls.{takes-are, turned-same}
 use Rattle.arrival.proofs.Track.{Lawful, fair-of}
 use Rattle.arrival.proofs.Order.{after-more}
 use Rattle.arrival.proofs.Demand3.{delivered-own, demand3, each-answered}

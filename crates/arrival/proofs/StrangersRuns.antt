@@ -18,8 +18,8 @@ use Rattle.arrival.specs.Demand.{Message, datagram, handedBy, nameIn}
 use Rattle.arrival.specs.Strangers.{Start, part, Begins, Feed, after}
 use Rattle.arrival.specs.Strangers as strange
 use Rattle.arrival.specs.StrangersRuns.{Led, by-open, by-receive, by-within, by-forget, shown, startOf, Calls, begins, takes, drops, turns-away, hands, CodeBegins, CodePromised, CodeStrangers}
-use Rattle.arrival.specs.Takes.{receivedWithin}
-use Rattle.arrival.proofs.Takings.{takes-are, turned-same}
+use Rattle.arrival.specs.ArrivalCalls.{receivedWithin}
+use Rattle.arrival.proofs.WithinCalls.{takes-are, turned-same}
 use Rattle.arrival.proofs.Runs.{shaped-on, was-shaped}
 use Rattle.arrival.proofs.Strangers.{strangers}
 

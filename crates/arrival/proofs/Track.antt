@@ -91,9 +91,6 @@ module _ (f : Feed) (i k : ℕ) where
   pub got-other : (a j : ℕ) → a ≢ i → got (f ▹ part i k) a j ≡ got f a j
   got-other a j n = rw (ne-eqb i a (λ e. n (sym e)))
 
-  pub begun-own : begun (f ▹ part i k) i ≡ true
-  begun-own = rw (eq-eqb i i refl)
-
   pub begun-other : (a : ℕ) → a ≢ i → begun (f ▹ part i k) a ≡ begun f a
   begun-other a n = rw (ne-eqb i a (λ e. n (sym e)))
 

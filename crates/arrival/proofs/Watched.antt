@@ -31,13 +31,13 @@ use Rattle.steps.specs.Receive.{Machine, After, stay, placeOf, storeWith, ledge
 use Rattle.steps.specs.Runs.{World, lending, worldOf, Arrival, keyIn, call}
 use Rattle.steps.specs.Reach.{found, isOpen, isStored, opensSlot, isAccepted}
 use Rattle.steps.proofs.Tables.{all-at, all-cong, or-not, or-yes}
-use Rattle.steps.proofs.Memories.{same-key, key-same, whole-ok, remember-other, forget-other}
+use Rattle.steps.proofs.Memories.{key-same, whole-ok, remember-other, forget-other}
 use Rattle.steps.proofs.Seats.{unturned, look, busyAt, keyAt, Found, open-found, open-none, same-its-key, set-there, set-here}
 use Rattle.steps.proofs.Stores.{part-fits}
 use Rattle.steps.proofs.Quick.{step5-ledger}
 use Rattle.steps.proofs.Branches.{Course, unmoved, given, joined, begun, course, step-sound, fragment-open, step5-delivered, step5-kept, step5-stores}
 use Rattle.steps.proofs.Ranks.{Sat}
-use Rattle.steps.proofs.Reaches.{Good, Tidy, good-sound, good-form, seat-sat, begun-tidy, begun-busy, step-good, good-released, forget-good}
+use Rattle.steps.proofs.Reaches.{Good, Tidy, good-sound, good-form, seat-sat, begun-tidy, begun-busy, step-good, good-released, forget-good, other-key as differs}
 use Rattle.arrival.specs.Demand.{Message, key, parts, datagram, handed, nameIn}
 use Rattle.arrival.specs.Strangers.{part, isOwn, isForeign, acceptsForeign, opensOther, its, handsOver}
 use Rattle.arrival.proofs.Pieces.{piece, Cut}
@@ -53,9 +53,6 @@ pub record Watched (n : ℕ) (m : Message) (g : ℕ → Bool) (o : ℕ) (w : Wor
   pub unknown : isRemembered (w .machine .memory) (key m) ≡ false
   pub s : ℕ
   pub mine : Mine (slotSizeOf n) m g o s (w .machine .slots) (w .store) (w .ledger)
-
-differs : (a b : Key) → a ≢ b → sameKey a b ≡ false
-differs a b n = elim (either (sameKey a b)) [ inl e ↦ absurd (n (same-key a b e)) | inr e ↦ e ]
 
 -- what is stored is accepted
 pub stored-accepted : (a : Answer) → isStored a ≡ true → isAccepted a ≡ true

@@ -1,6 +1,6 @@
 pub mod Demand
 pub mod Ours
-pub mod Takes
+pub mod ArrivalCalls
 pub mod Runs
 pub mod Strangers
 pub mod StrangersRuns

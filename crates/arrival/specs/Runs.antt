@@ -12,7 +12,7 @@ use Rattle.receiver_state.specs.View.{view}
 use Rattle.receiver.specs.Lent.{Lent, lent}
 use Rattle.receiver.specs.Calls.{refusalOf, told}
 use Rattle.open_and_payload.specs.Ends.{Opens}
-use Rattle.arrival.specs.Takes.{Takes, TurnsAway}
+use Rattle.arrival.specs.ArrivalCalls.{Takes, TurnsAway}
 use Rattle.arrival.specs.Demand.{Scene, slotBytes, Event, Feed, start, _▹_, bytesOf, arrival, Delivery, nameIn, handedBy, push, after, own, completed, delivery, deliveries, Promised, answered}
 
 -- `open` was not refused, and since then each arrival of the feed was a call of `receive`, or of `receive_within` with limits that let it through, with what the

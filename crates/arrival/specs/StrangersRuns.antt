@@ -14,7 +14,7 @@ use Rattle.receiver.specs.Lent.{Lent, lent}
 use Rattle.receiver.specs.Calls.{refusalOf, Receives, Forgets}
 use Rattle.open_and_payload.specs.Ends.{Opens}
 use Rattle.arrival.specs.Demand.{Message, InFragments, key, parts, Delivery}
-use Rattle.arrival.specs.Takes.{TakesWithin, Takes, TurnsAway}
+use Rattle.arrival.specs.ArrivalCalls.{TakesWithin, Takes, TurnsAway}
 use Rattle.arrival.specs.Runs.{handsOver}
 use Rattle.arrival.specs.Strangers.{Start, part, Feed, begun, _▹_, comes, forgets, complete, Supposed, its}
 

@@ -16,8 +16,8 @@ use Rattle.wire.proofs.Numbers.{be-bytes, bytes-be, be-lt, length-bytes, drop-b
 use Rattle.ack_blocks.specs.Limits.{largest, kindSingle, kindRun, kindMap, mapHead}
 use Rattle.ack_blocks.specs.Blocks.{Block, single, run, map, bitOf, blockBytes, laid}
 use Rattle.ack_blocks.specs.Read.{Given, gives, refuses, kindIn, firstIn, lastIn, bitsIn, mapBytes, mapIn, sizeIn, blockIn, runFault, padding, mapFault, faultIn, before, blocksWithin, blocksIn, told}
-use Rattle.ack_blocks.proofs.Cases.{size-single, block-single, size-run, block-run, size-map, block-map, size-some, map-good, fault-map, byte-is, map-byte}
-use Rattle.ack_blocks.proofs.Walks.{blocks-next, blocks-end, asked-fits}
+use Rattle.ack_blocks.proofs.BlockCases.{size-single, block-single, size-run, block-run, size-map, block-map, size-some, map-good, fault-map, byte-is, map-byte}
+use Rattle.ack_blocks.proofs.BlockTurns.{blocks-next, blocks-end, asked-fits}
 use Rattle.ack_writer.proofs.Trips.{Back, single-back, run-back}
 use Rattle.block_laws.specs.Acks.{LawfulMap, Lawful, BlocksBack, Determined, BytesBack, BlocksAsked}
 use Rattle.block_laws.proofs.Bits.{low-bits, bits-low}
@@ -25,9 +25,6 @@ use Rattle.block_laws.proofs.Bits.{low-bits, bits-low}
 -- ---- the bits behind the last: as the bits of the map, and as the low bits of its last byte
 
 module _ (bits : ℕ) (m : List ℕ) (some : 1 ≤ bits) (long : length m ≡ mapBytes bits) where
-  unused : ℕ
-  unused = 8 * length m - bits
-
   last : ℕ
   last = getD m (length m - 1) 0
 

@@ -1,6 +1,5 @@
 pub mod Ends
 pub mod ReportStruct
-pub mod Own
-pub mod Passing
+pub mod OwnSets
 pub mod Walking
 pub mod Once

@@ -31,7 +31,7 @@ use Rattle.stretch.specs.declared.Stop.the-variants as stop
 use Rattle.stretch.specs.Stretch.{Kit, calledOn, lookedAt, kitWith, enterOn, Stretched, here, byStep, stretch, Clean, stopFault, entriesOf}
 use Rattle.stretch.proofs.Laws.{list-long, seen-then, lists-both, clean-ok, entries-after}
 use Rattle.count.specs.Inside.{own}
-use Rattle.count.proofs.Own.{fault-own}
+use Rattle.count.proofs.OwnSets.{fault-own}
 
 -- ---- one answer
 

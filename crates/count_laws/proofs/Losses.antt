@@ -5,18 +5,16 @@ use mathlib.Core.Bool.{Bool, true, false}
 use mathlib.Core.Option.{Option, none, some}
 use mathlib.Core.List.{List, [], _∷_, map}
 use Prim.Native.Nat.{ℕ, zero, suc, _+_, _*_, _<_}
-use native.Mathlib.Nat.{add-mul, one-mul, zero-mul}
 use native.Mathlib.Omega.{arith}
 use native.Mathlib.Decide.{ℕ-discrete}
 use lib.Dec.{eqb}
-use borrow.Author.Tests.{eq-eqb, ne-eqb}
 use Rattle.wire.specs.Choice.{pick}
 use Rattle.wire.specs.Sum.{sum}
 use Rattle.steps.specs.Search.{one}
 use Rattle.steps.proofs.Tables.{all-at, all-of}
-use Rattle.arrival.specs.Demand.{Scene, size, message, parts, Feed, got, done, completed, own}
+use Rattle.arrival.specs.Demand.{Scene, size, message, parts, Feed, got, done, completed}
 use Rattle.arrival.proofs.Track.{Lawful, Fair, fair-of, times, done-once}
-use Rattle.arrival.proofs.Whole.{Apart, completed-apart}
+use Rattle.arrival.proofs.Whole.{completed-apart}
 use Rattle.arrival.proofs.Demand3.{delivered-own}
 use Rattle.log.specs.declared.reader.Limits.{Limits}
 use Rattle.log.specs.Editions.{limitsIn}
@@ -26,13 +24,14 @@ use Rattle.sorted_set.proofs.Members.{in-left, in-right, in-either}
 use Rattle.sorted_set.proofs.Sums.{total-append, total-map}
 use Rattle.count_rules.specs.Count.{firstFault}
 use Rattle.count_rules.specs.Promise.{Keeps, Admits, Shown, deliveredBy}
-use Rattle.count_rules.proofs.Sums.{sumTo, sum-same, sum-none, sum-more}
+use Rattle.count_rules.proofs.Sums.{sumTo, sum-same, total-times}
 use Rattle.count_rules.proofs.Logs.{backwards, back-total, bytesIn, by-log}
 use Rattle.count_rules.proofs.Limits.{same-faults}
 use Rattle.season.specs.Losses.{Arrives, wholeOf, cameWhole}
 use Rattle.season.proofs.Losses.{whole-delivered}
 use Rattle.count_laws.specs.Losses.{shownFrom, CameWhole, WholeMeans, LossPromise, CountedWhole}
 use Rattle.count_laws.proofs.Shown.{same-shown, shown-by, given-by}
+use Rattle.count_rules.proofs.Delivered.{apart-below, own-bytes}
 
 abbrev payload : Scene → ℕ → List ℕ
 payload σ i = message σ i .payload
@@ -75,16 +74,6 @@ whole-means σ f p = (
 
 -- ---- sums over them
 
--- over a list of numbers below n, by how often each stands there
-by-times : (w : ℕ → ℕ) (n : ℕ) (l : List ℕ) → ((i : ℕ) → In i l → i < n) → total w l ≡ sumTo n (λ i. times i l * w i)
-unfolding times
-by-times w n [] b = sym (sum-none n (λ i. 0 * w i) (λ i c. zero-mul (w i)))
-by-times w n (x ∷ l) b =
-    ap (λ (m : ℕ). w x + m) (by-times w n l (λ i h. b i (inr h)))
-    ∙ sym (sum-more n (λ i. times i l * w i) (λ i. (one (eqb x i) + times i l) * w i) (w x) x (b x (inl refl))
-    (rw (eq-eqb x x refl) (add-mul 1 (times x l) (w x) ∙ ap (λ (m : ℕ). m + times x l * w x) (one-mul (w x))))
-    (λ i c o. rw (ne-eqb x i (λ e. o (sym e))) (ap (λ (m : ℕ). m * w i) (let z : 0 + times i l ≡ times i l = omega arith in z))))
-
 sum-last : (n : ℕ) (h : ℕ → ℕ) → sumTo (suc n) h ≡ h n + sumTo n h
 unfolding sum
 sum-last zero h = refl
@@ -101,15 +90,6 @@ whole-sum σ f w (suc n) =
     total-append w (pick (done σ f n) (payload σ n ∷ []) []) (wholeOf σ f n)
     ∙ ((λ i. one-total w (payload σ n) (done σ f n) i + whole-sum σ f w n i) ∙ sym (sum-last n (λ i. one (done σ f i) * w (payload σ i))))
 
-below : (σ : Scene) (l : List ℕ) → Apart σ l → (i : ℕ) → In i l → i < size σ
-below σ [] a i h = absurd h
-below σ (x ∷ l) a i (inl e) = subst (λ (j : ℕ). j < size σ) (sym e) (a .0)
-below σ (x ∷ l) a i (inr h) = below σ l (a .2) i h
-
-own-bytes : (σ : Scene) (l : List ℕ) → bytesIn (map (own σ) l) ≡ map (payload σ) l
-own-bytes σ [] = refl
-own-bytes σ (i ∷ l) = ap (λ (ps : List (List ℕ)). payload σ i ∷ ps) (own-bytes σ l)
-
 module _ (σ : Scene) (f : Feed) (s : Arrives σ f) (l : Limits) (a : Admits l σ) (es : List Entry) (k : Keeps l σ f es) where
   law : Lawful σ
   law = record { distinct = s .distinct; sent = s .sent; ledger-fits = s .ledger-fits }
@@ -125,7 +105,7 @@ module _ (σ : Scene) (f : Feed) (s : Arrives σ f) (l : Limits) (a : Admits l �
       ap (total w) (by-log σ l a (s .sent) f fair es k ∙ ap (λ (ps : List (List ℕ)). backwards ps) (ap bytesIn (delivered-own σ law f fair) ∙ own-bytes σ c))
       ∙ (back-total w (map (payload σ) c)
       ∙ (total-map (payload σ) w c
-      ∙ (by-times v (size σ) c (below σ c (completed-apart σ law f fair))
+      ∙ (total-times v (size σ) c (apart-below σ c (completed-apart σ law f fair))
       ∙ (sum-same (size σ) (λ i. times i c * v i) (λ i. one (done σ f i) * v i) (λ i b. ap (λ (n : ℕ). n * v i) (done-once σ law f fair i b)) ∙ sym (whole-sum σ f w (size σ))))))
 
   whole-shown : shownFrom (deliveredBy l σ es) ≡ shownFrom (cameWhole σ f)

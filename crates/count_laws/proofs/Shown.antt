@@ -21,7 +21,7 @@ use Rattle.count_rules.specs.Marks.{listIn}
 use Rattle.count_rules.specs.Run.{payloads, listsRead}
 use Rattle.count_rules.specs.Count.{maxEntries, firstFault, Report, reportOf, Outcome, reported, noReport, answersTo, countEntries, countListed, countLog}
 use Rattle.count_rules.specs.Promise.{shownOf, shown}
-use Rattle.count_rules.proofs.Which.{same-report}
+use Rattle.count_rules.proofs.ReportByLists.{same-report}
 use Rattle.count_rules.proofs.Totals.{delivered-payloads}
 use Rattle.host_count.specs.Told.{codeOf}
 use Rattle.count_laws.specs.Losses.{shownFrom}

@@ -14,7 +14,6 @@ use Rattle.datagram.specs.declared.Read.the-variants.{Good, Refused}
 use Rattle.steps.specs.Limits.{slotSizeOf}
 use Rattle.steps.specs.declared.Key.{Key}
 use Rattle.steps.specs.Answers.{Reply, refusedBy, kept, repeat, delivered, reply}
-use Rattle.steps.specs.Receive.{After, stay}
 use Rattle.steps.specs.Runs.{World, worldOf, fresh, Arrival, call, run, keyIn}
 use Rattle.steps.specs.Runs as runs
 use Rattle.steps.proofs.Reaches.{opened-good}
@@ -27,32 +26,14 @@ use Rattle.log.specs.Editions.{limitsIn}
 use Rattle.log.specs.Entries.{Entry}
 use Rattle.within_limits.specs.Within.{readWithin}
 use Rattle.within_limits.proofs.Withins as within
-use Rattle.within_limits.proofs.Admits.{Refuses, within-refused}
 use Rattle.sorted_set.specs.Lists.{In}
 use Rattle.sorted_set.proofs.Members.{in-left, in-right}
 use Rattle.count_rules.specs.Run.{arrivalOf, called, answerTo, leftBy, answers, payloadIn, payloads}
 use Rattle.count_laws.specs.Every.{isRefusal, letThrough, fed, startIn, Completed, StrangersDelivered, StrangersCounted}
 use Rattle.count_laws.proofs.Every.{in-delivers}
+use Rattle.count_rules.proofs.Logs.{stays, Stays, replies, replyTo}
 
 -- ---- what a log's entries deliver is what the arrivals do that its limits let through
-
-abbrev replyTo : World → Arrival → Reply
-replyTo w x = reply (x .datagram) (call w x .store) (call w x .answer)
-
-abbrev replies : World → List Arrival → List Reply
-replies w [] = []
-replies w (x ∷ xs) = replyTo w x ∷ replies (worldOf (call w x)) xs
-
--- an entry that the limits refuse hands over nothing and leaves all as it was; any other is its arrival
-record Stays (l : Limits) (w : World) (e : Entry) : Type 0 where
-  hands : payloadIn (answerTo l w e) ≡ []
-  leaves : leftBy l w e ≡ w
-
-stays : (l : Limits) (w : World) (e : Entry) (k : ℕ) → readWithin l (w .machine .slotSize) (e .datagram) ≡ Refused k → Stays l w e
-unfolding called stay
-stays l w e k q =
-    let r : Refuses l (w .machine) (w .store) (w .ledger) (e .sender) (e .datagram) = within-refused l (w .machine) (w .store) (w .ledger) (e .sender) (e .datagram) k q in
-    record { hands = ap (λ (x : After). payloadIn (reply (e .datagram) (x .store) (x .answer))) (r .is); leaves = ap worldOf (r .is) }
 
 as-arrival : (l : Limits) (w : World) (e : Entry) (h : Header) → readWithin l (w .machine .slotSize) (e .datagram) ≡ Good h → called l w e ≡ call w (arrivalOf e)
 unfolding called

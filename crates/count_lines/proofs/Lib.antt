@@ -1,1 +1,1 @@
-pub mod More
+pub mod OneLineMore

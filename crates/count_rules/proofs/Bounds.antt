@@ -14,10 +14,8 @@ use Rattle.lmcp.specs.Spelled.{Element, null, marked, PitsKeep, SpelledBy}
 use Rattle.lmcp.proofs.Spells.{pit-list-within}
 use Rattle.lmcp.proofs.Answers.{Plain, root-type}
 use Rattle.sorted_set.specs.Lists.{In, gather}
-use Rattle.sorted_set.proofs.Members.{gather-from, Source}
 use Rattle.count_rules.specs.Marks.{Mark, PitList, listRead, listIn}
 use Rattle.count_rules.specs.Spelled.{markOf, listWith}
-use Rattle.count_rules.specs.Run.{listsRead}
 use Rattle.count_rules.specs.Keys.{span, Within, AllWithin}
 use Rattle.count_rules.proofs.Spells.{list-is, no-other}
 
@@ -52,7 +50,3 @@ module _ (payload : List ℕ) (b : Bytes payload) where
       go : (R : Read) → readList payload ≡ R → AllWithin (listIn payload)
       go (got l r) e = read-within l r e
       go (refused n) e = λ x h. absurd (subst (λ (X : Read). In x (listRead X)) e h)
-
--- of payloads that are bytes
-pub lists-within : (ps : List (List ℕ)) → ((p : List ℕ) → In p ps → Bytes p) → AllWithin (listsRead ps)
-lists-within ps b l h = let s : Source listIn ps l = gather-from listIn ps l h in payload-within (s .x) (b (s .x) (s .inside)) l (s .gives)

@@ -13,7 +13,7 @@ use Rattle.sorted_set.proofs.Sums.{length-total, length-gather}
 use Rattle.count_rules.specs.Marks.{listIn}
 use Rattle.count_rules.specs.Run.{listsRead}
 use Rattle.count_rules.specs.Promise.{Keeps, Admits, payloadsOf, deliveredBy, Counted}
-use Rattle.count_rules.proofs.Which.{same-report}
+use Rattle.count_rules.proofs.ReportByLists.{same-report}
 use Rattle.count_rules.proofs.Logs.{backwards, bytesIn, by-log}
 use Rattle.count_rules.proofs.Delivered.{fair, whole-fair, delivered-members, delivered-total}
 

@@ -21,7 +21,7 @@ use Rattle.count_rules.specs.Promise.{Keeps, Admits, payloadsOf, deliver
 use Rattle.count_rules.proofs.Sums.{total-at, total-once}
 use Rattle.count_rules.proofs.Logs.{backwards, back-members, back-total, bytesIn, by-log}
 
-times-in : (i : ℕ) (l : List ℕ) → 0 < times i l → In i l
+pub times-in : (i : ℕ) (l : List ℕ) → 0 < times i l → In i l
 unfolding times
 times-in i [] h = absurd (let z : ⊥ = omega arith in z)
 times-in i (x ∷ l) h = elim (ℕ-discrete i x) [
@@ -29,7 +29,7 @@ times-in i (x ∷ l) h = elim (ℕ-discrete i x) [
   | no e ↦ inr (times-in i l (let g : 0 < 0 + times i l = rw (ne-eqb x i (λ q. e (sym q))) at h in omega arith))
 ]
 
-apart-below : (σ : Scene) (l : List ℕ) → Apart σ l → (i : ℕ) → In i l → i < size σ
+pub apart-below : (σ : Scene) (l : List ℕ) → Apart σ l → (i : ℕ) → In i l → i < size σ
 apart-below σ [] a i h = absurd h
 apart-below σ (x ∷ l) a i (inl e) = subst (λ (j : ℕ). j < size σ) (sym e) (a .0)
 apart-below σ (x ∷ l) a i (inr h) = apart-below σ l (a .2) i h
@@ -38,7 +38,7 @@ apart-below σ (x ∷ l) a i (inr h) = apart-below σ l (a .2) i h
 abbrev payload : Scene → ℕ → List ℕ
 payload σ i = message σ i .payload
 
-own-bytes : (σ : Scene) (l : List ℕ) → bytesIn (map (own σ) l) ≡ map (payload σ) l
+pub own-bytes : (σ : Scene) (l : List ℕ) → bytesIn (map (own σ) l) ≡ map (payload σ) l
 own-bytes σ [] = refl
 own-bytes σ (i ∷ l) = ap (λ (ps : List (List ℕ)). payload σ i ∷ ps) (own-bytes σ l)
 

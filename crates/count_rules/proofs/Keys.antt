@@ -15,7 +15,7 @@ use Rattle.count_rules.specs.Marks.{Mark, PitList}
 use Rattle.count_rules.specs.Report.{distinct, pitOf, pitIfSure, tiles, pits, surePits}
 use Rattle.count_rules.specs.Count.{pitsInAll}
 use Rattle.count_rules.specs.Keys.{span, pitKey, keysBy, pitKeys, sureKeys, AllWithin}
-use Rattle.count_rules.proofs.Under.{only, name-in, Taken, taken-from, taken-in}
+use Rattle.count_rules.proofs.ListMembers.{only, name-in, Taken, taken-from, taken-in}
 use Rattle.count_rules.proofs.Means.{sure-is}
 
 -- ---- the order of keys
@@ -141,10 +141,10 @@ module _ (ls : List PitList) (a : AllWithin ls) where
   tile-within : (h : Mark → List ℕ) (t p : ℕ) → Taken h ls t p → t < span
   tile-within h t p k = subst (λ (u : ℕ). u < span) (k .its-tile) (a (k .list) (k .among) .tile)
 
-  pits-within : (t p : ℕ) → Taken pitOf ls t p → (t < span) × (p < span)
+  pub pits-within : (t p : ℕ) → Taken pitOf ls t p → (t < span) × (p < span)
   pits-within t p k = (tile-within pitOf t p k, subst (λ (q : ℕ). q < span) (sym (only (k .gives))) (a (k .list) (k .among) .pits (k .mark) (k .inside)))
 
-  sure-within : (t p : ℕ) → Taken pitIfSure ls t p → (t < span) × (p < span)
+  pub sure-within : (t p : ℕ) → Taken pitIfSure ls t p → (t < span) × (p < span)
   sure-within t p k = (tile-within pitIfSure t p k, subst (λ (q : ℕ). q < span) (sure-is (k .mark) p (k .gives) .1) (a (k .list) (k .among) .pits (k .mark) (k .inside)))
 
   -- the pits under a tile, the sure ones, and all

@@ -1,11 +1,11 @@
 pub mod Heads
 pub mod Computed
 pub mod Wide
-pub mod Under
+pub mod ListMembers
 pub mod Means
 pub mod Keys
 pub mod Steps
-pub mod Which
+pub mod ReportByLists
 pub mod Sums
 pub mod Totals
 pub mod EntryByEntry

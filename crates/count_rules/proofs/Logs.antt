@@ -29,10 +29,10 @@ use Rattle.count_rules.proofs.Admitting.{AllAdmitted, all-admitted}
 
 -- ---- answers to arrivals
 
-abbrev replyTo : World → Arrival → Reply
+abbrev pub replyTo : World → Arrival → Reply
 replyTo w x = reply (x .datagram) (call w x .store) (call w x .answer)
 
-abbrev replies : World → List Arrival → List Reply
+abbrev pub replies : World → List Arrival → List Reply
 replies w [] = []
 replies w (x ∷ xs) = replyTo w x ∷ replies (worldOf (call w x)) xs
 
@@ -52,11 +52,11 @@ as-arrival l w e a = elim (step-admitted l (w .machine) (w .store) (w .ledger) (
 ]
 
 -- refused within the limits, it hands over nothing and leaves all as it was
-record Stays (l : Limits) (w : World) (e : Entry) : Type 0 where
-  hands : payloadIn (answerTo l w e) ≡ []
-  leaves : leftBy l w e ≡ w
+pub record Stays (l : Limits) (w : World) (e : Entry) : Type 0 where
+  pub hands : payloadIn (answerTo l w e) ≡ []
+  pub leaves : leftBy l w e ≡ w
 
-stays : (l : Limits) (w : World) (e : Entry) (k : ℕ) → readWithin l (w .machine .slotSize) (e .datagram) ≡ Refused k → Stays l w e
+pub stays : (l : Limits) (w : World) (e : Entry) (k : ℕ) → readWithin l (w .machine .slotSize) (e .datagram) ≡ Refused k → Stays l w e
 unfolding called stay
 stays l w e k q =
     let r : Refuses l (w .machine) (w .store) (w .ledger) (e .sender) (e .datagram) = within-refused l (w .machine) (w .store) (w .ledger) (e .sender) (e .datagram) k q in

@@ -10,7 +10,7 @@ use Rattle.sorted_set.proofs.Rises.{rising-rises, rising-members, distinct-fewe
 use Rattle.count_rules.specs.Marks.{Mark, PitList}
 use Rattle.count_rules.specs.Report.{pitOf, pitIfSure, pits, surePits}
 use Rattle.count_rules.specs.Meaning.{Marks, MarksSure, Means}
-use Rattle.count_rules.proofs.Under.{only, named, name-in, Taken, taken-from, taken-in}
+use Rattle.count_rules.proofs.ListMembers.{only, named, name-in, Taken, taken-from, taken-in}
 
 pub sure-is : (m : Mark) (p : ℕ) → In p (pitIfSure m) → (m .sure ≡ true) × (m .pit ≡ p)
 sure-is m p h = go (m .sure) h

@@ -15,7 +15,7 @@ use Rattle.sorted_set.specs.Lists.{In, gather, enter, rising}
 use Rattle.sorted_set.proofs.Members.{in-left, in-right, in-either, gather-append}
 use Rattle.sorted_set.proofs.Rises.{rising-more, distinct-fewer}
 use Rattle.count_rules.specs.Marks.{Mark, PitList, markLength, markAt, marksIn}
-use Rattle.count_rules.specs.Report.{pitOf, pitIfSure, tiles}
+use Rattle.count_rules.specs.Report.{pitOf, pitIfSure}
 use Rattle.count_rules.specs.Run.{isRefused, howMany, refusals, refusedIn}
 use Rattle.count_rules.specs.Keys.{pitKey, keysBy, pitKeys, sureKeys}
 
@@ -25,15 +25,6 @@ abbrev pub listOf : ℕ → List Mark → PitList
 listOf t ms = record { tile = t; marks = ms }
 
 module _ (t : ℕ) (ls : List PitList) where
-  -- its tile is entered
-  pub tiles-more : (ms : List Mark) → tiles (listOf t ms ∷ ls) ≡ enter t (tiles ls)
-  unfolding rising
-  tiles-more ms = refl
-
-  -- without marks it has no keys
-  pub keys-none : (h : Mark → List ℕ) → keysBy h (listOf t [] ∷ ls) ≡ keysBy h ls
-  keys-none h = refl
-
   -- mark by mark, in the order of the list: what h takes of a mark comes behind
   keys-append : (h : Mark → List ℕ) (ms ns : List Mark) → keysBy h (listOf t (ms ++ ns) ∷ ls) ≡ map (pitKey t) (gather h ms) ++ keysBy h (listOf t ns ∷ ls)
   keys-append h ms ns =

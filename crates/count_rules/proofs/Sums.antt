@@ -55,7 +55,7 @@ total-at w d [] = refl
 total-at w d (x ∷ l) = ap (λ (n : ℕ). w x + n) (total-at w d l)
 
 -- over a list of numbers below n, by how often each stands there
-total-times : (w : ℕ → ℕ) (n : ℕ) (l : List ℕ) → ((i : ℕ) → In i l → i < n) → total w l ≡ sumTo n (λ i. times i l * w i)
+pub total-times : (w : ℕ → ℕ) (n : ℕ) (l : List ℕ) → ((i : ℕ) → In i l → i < n) → total w l ≡ sumTo n (λ i. times i l * w i)
 unfolding times
 total-times w n [] b = sym (sum-none n (λ i. 0 * w i) (λ i c. zero-mul (w i)))
 total-times w n (x ∷ l) b =

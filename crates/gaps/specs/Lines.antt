@@ -11,7 +11,11 @@ use Rattle.watch.specs.declared.Watch.{Watch}
 use Rattle.watch.specs.declared.Seen.{Seen}
 use Rattle.watch.specs.Noted.{Noted, first, forward, same, late, restarted, refused, notes}
 use Rattle.watch.specs.Watching.{asked, after}
+use Rattle.watch.specs.Senders.{empty}
 use Rattle.text.specs.Text.{decimal}
+use Rattle.output.specs.Output.{lastLine}
+use Rattle.record_lines.specs.Streams.{Rec, Stream}
+use Rattle.record_lines.specs.Lines.{Says, linesAfter}
 
 -- what is said of a datagram of sender 0, by what the reader made of it, and the watch afterwards
 abbrev pub saidOf : Watch → Read → Noted
@@ -38,3 +42,13 @@ answerText (refused number) = ascii " refused " ++ decimal number ++ ascii "\n"
 -- line n
 abbrev pub line : ℕ → Noted → List ℕ
 line n said = decimal n ++ answerText said
+
+-- one watch goes through all datagrams: line n of each, and the last line
+abbrev pub readIn : Rec → Read
+readIn x = readDatagram maxPayload maxFragments (x .body)
+
+abbrev pub says : Says Watch
+says = record { line = λ n w x. line n (saidOf w (readIn x)); after = λ w x. afterOf w (readIn x); last = lastLine }
+
+abbrev pub lines : Stream → List ℕ
+lines = linesAfter says 0 empty

@@ -2,9 +2,12 @@
 // has good form the sequence watch is asked, and a line says what it notes.
 ghost use Prim.Native.Nat.{_≤_};
 ghost use lib.ListN.{length};
-ghost use Rattle.output.specs.Output.{lineLimit, Pours};
+ghost use Rattle.wire.specs.Slices.{buffer};
+ghost use Rattle.stream.specs.declared.Kind.the-variants.{Bytes2};
+ghost use Rattle.output.specs.Output.{Pours, lineLimit};
+ghost use Rattle.record_lines.specs.Lines.{Tells};
 ghost use Rattle.watch.specs.Noted.{notes};
-ghost use Rattle.gaps.specs.Lines.{answerText, line, Judged};
+ghost use Rattle.gaps.specs.Lines.{answerText, line, lines, Judged};
 use datagram::Read;
 use stream::Input;
 use stream::Kind;
@@ -58,32 +61,36 @@ fn pour_line(out: &mut [u8], at: usize, n: u64, answer: Answer) -> usize
     pour_answer(out, next, answer)
 }
 
-// One line a datagram, and the last line.
-fn run(buf: &mut [u8], out: &mut [u8])
+// One line a datagram of the input, and the last line. Answers whether the system took all of them; it stops where it did not.
+fn run(buf: &mut [u8], input: Input, out: &mut [u8]) -> bool
     requires { ⌜ lineLimit ≤ length (now out) ⌝ }
+    ensures { λ r. ⌜ Tells Bytes2 lines (now (buf .entry)) input (buffer out) 0 r ⌝ }
 {
     let mut w = watch::new();
-    let mut input = Input { at: 0, end: 0 };
+    let mut rest = input;
     let mut at: usize = 0;
     let mut n: u64 = 0;
     while n < stream::MANY {
-        let next = stream::next_record(buf, input, Kind::Bytes2);
+        let next = stream::next_record(buf, rest, Kind::Bytes2);
         let Next::Record(from, len, left) = next else {
-            output::finish(out, at, n, next);
-            return;
+            return output::finish(out, at, n, next);
         };
         n += 1;
-        input = left;
+        rest = left;
         let seen = judge(w, wire::part(buf, from, len));
         let watch = seen.watch;
         let answer = seen.answer;
         w = watch;
         at = pour_line(out, at, n, answer);
+        if at == output::CLOSED {
+            return false;
+        }
     }
+    output::finish(out, at, n, Next::Cut)
 }
 
 fn main() {
     let mut buf = [0u8; stream::HOLDS];
     let mut out = [0u8; output::HOLDS];
-    run(&mut buf, &mut out);
+    run(&mut buf, Input { at: 0, end: 0 }, &mut out);
 }

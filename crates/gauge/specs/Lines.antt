@@ -10,9 +10,11 @@ use Rattle.watch.specs.Noted.{Noted, first, forward, same, late, restarted, ref
 use Rattle.moss.specs.Limits.{letterU}
 use Rattle.moss.specs.Packet.{Given, gives, refuses, Packet, packetOf}
 use Rattle.gauge_watch.specs.declared.Gauge.{Gauge}
-use Rattle.gauge_watch.specs.Heard.{asked, after}
+use Rattle.gauge_watch.specs.Heard.{silent, asked, after}
 use Rattle.text.specs.Text.{decimal}
-use Rattle.output.specs.Output.{Pours}
+use Rattle.output.specs.Output.{Pours, lastLine}
+use Rattle.record_lines.specs.Streams.{Stream}
+use Rattle.record_lines.specs.Lines.{Says, linesAfter}
 use Rattle.gauge.specs.declared.Step.{Step}
 
 -- " first", " forward 3", " same", " late 2", " restarted 7" or " refused 51"
@@ -40,6 +42,18 @@ line n (gives p) noted =
     decimal n ++ (32 ∷ p .kind ∷ []) ++ notedText noted ++ messagesText (p .kind) (map length (p .messages)) ++ ascii "\n"
 
 -- packet b is heard, and line n goes out
-pub record Tells (g : Gauge) (b : List ℕ) (n : ℕ) (out : List ℕ) (at : ℕ) (out′ : List ℕ) (r : Step) : Type 0 where
+pub record Told (g : Gauge) (b : List ℕ) (n : ℕ) (out : List ℕ) (at : ℕ) (out′ : List ℕ) (r : Step) : Type 0 where
   pub gauge : r .gauge ≡ after g (packetOf b)
   pub said : Pours out at (line n (packetOf b) (asked g (packetOf b))) out′ (r .at)
+
+-- one gauge hears all packets: line n of each, and the last line
+abbrev pub says : Says Gauge
+says =
+    record {
+      line = λ n g x. line n (packetOf (x .body)) (asked g (packetOf (x .body)));
+      after = λ g x. after g (packetOf (x .body));
+      last = lastLine;
+    }
+
+abbrev pub lines : Stream → List ℕ
+lines = linesAfter says 0 silent

@@ -7,8 +7,11 @@ ghost use Rattle.watch.specs.Noted.{notes};
 ghost use Rattle.moss.specs.Blocks.{messagesIn};
 ghost use Rattle.moss.specs.Packet.{gives, packetOf, fillFault};
 ghost use Rattle.moss.specs.Answers.{headersOf};
+ghost use Rattle.wire.specs.Slices.{buffer};
+ghost use Rattle.stream.specs.declared.Kind.the-variants.{Bytes2};
 ghost use Rattle.output.specs.Output.{Pours, lineLimit};
-ghost use Rattle.gauge.specs.Lines.{notedText, spaced, messagesText, line, Tells};
+ghost use Rattle.record_lines.specs.Lines.{Tells};
+ghost use Rattle.gauge.specs.Lines.{notedText, spaced, messagesText, line, lines, Told};
 ghost use Rattle.gauge.specs.Inside.{lengthsIn, lengthsOf};
 use gauge_watch::Gauge;
 use moss::Header;
@@ -85,7 +88,7 @@ fn pour_line(out: &mut [u8], at: usize, n: u64, p: &[u8], answer: Answer) -> usi
 
 // Packet p is heard, and line n goes out.
 fn one_more(out: &mut [u8], at: usize, n: u64, g: Gauge, p: &[u8]) -> Step
-    ensures { λ r. ⌜ Tells g (now (p .entry)) n (now (out .entry)) at (now (out .exit)) r ⌝ }
+    ensures { λ r. ⌜ Told g (now (p .entry)) n (now (out .entry)) at (now (out .exit)) r ⌝ }
 {
     let heard = gauge_watch::see_packet(g, p);
     let gauge = heard.gauge;
@@ -94,31 +97,35 @@ fn one_more(out: &mut [u8], at: usize, n: u64, g: Gauge, p: &[u8]) -> Step
     Step { gauge, at: next }
 }
 
-// One line a packet, and the last line.
-fn run(buf: &mut [u8], out: &mut [u8])
+// One line a packet of the input, and the last line. Answers whether the system took all of them; it stops where it did not.
+fn run(buf: &mut [u8], input: Input, out: &mut [u8]) -> bool
     requires { ⌜ lineLimit ≤ length (now out) ⌝ }
+    ensures { λ r. ⌜ Tells Bytes2 lines (now (buf .entry)) input (buffer out) 0 r ⌝ }
 {
     let mut g = gauge_watch::new();
-    let mut input = Input { at: 0, end: 0 };
+    let mut rest = input;
     let mut at: usize = 0;
     let mut n: u64 = 0;
     while n < stream::MANY {
-        let next = stream::next_record(buf, input, Kind::Bytes2);
+        let next = stream::next_record(buf, rest, Kind::Bytes2);
         let Next::Record(from, len, left) = next else {
-            output::finish(out, at, n, next);
-            return;
+            return output::finish(out, at, n, next);
         };
         n += 1;
-        input = left;
+        rest = left;
         let step = one_more(out, at, n, g, wire::part(buf, from, len));
         let gauge = step.gauge;
         g = gauge;
         at = step.at;
+        if at == output::CLOSED {
+            return false;
+        }
     }
+    output::finish(out, at, n, Next::Cut)
 }
 
 fn main() {
     let mut buf = [0u8; stream::HOLDS];
     let mut out = [0u8; output::HOLDS];
-    run(&mut buf, &mut out);
+    run(&mut buf, Input { at: 0, end: 0 }, &mut out);
 }

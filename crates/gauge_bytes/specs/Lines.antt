@@ -10,6 +10,8 @@ use Rattle.moss.specs.Limits.{sessionLength, maxPacket}
 use Rattle.moss.specs.Packet.{Given, gives, refuses}
 use Rattle.moss_writer.specs.Write.{packetBytes, writtenOf}
 use Rattle.text.specs.Text.{decimal, hex}
+use Rattle.record_lines.specs.Streams.{Stream}
+use Rattle.record_lines.specs.Lines.{linesOf}
 
 -- a record: 10 session bytes, 4-byte sequence, type byte, message blocks
 abbrev pub recordHead : ℕ
@@ -30,3 +32,7 @@ answerText (gives n) b = ascii " bytes " ++ hex b ++ ascii "\n"
 -- line n
 abbrev pub line : ℕ → List ℕ → List ℕ
 line n b = decimal n ++ answerText (recordAnswer b) (recordBytes b)
+
+-- of all records, with the last line
+abbrev pub lines : Stream → List ℕ
+lines = linesOf (λ n x. line n (x .body))

@@ -11,7 +11,7 @@ use Rattle.wire.proofs.Parts.{same-refl}
 use Rattle.watch.specs.Noted.{Noted, first, forward, restarted}
 use Rattle.watch.specs.Watching.{moves}
 use Rattle.watch.specs.Difference.{difference, told}
-use Rattle.watch.proofs.Tells.{restarted-number}
+use Rattle.watch.proofs.Differences.{restarted-number}
 use Rattle.watch.proofs.Runs.{step-told, forward-distance, cons-eq}
 use Rattle.moss.specs.Packet.{gives, Packet, packetOf}
 use Rattle.gauge_watch.specs.declared.Gauge.{Gauge}

@@ -2,29 +2,20 @@
 use mathlib.Core.Path.{_≡_}
 use mathlib.Core.Bool.{Bool, _||_}
 use mathlib.Core.List.{List, _∷_}
-use Prim.Native.Nat.{ℕ, _+_, _*_, _/_, _%_, _^_}
+use Prim.Native.Nat.{ℕ, _+_, _/_, _%_, _^_}
 use lib.Dec.{ltb}
 use lib.ListN.{length, getD, take, drop}
 use Rattle.wire.specs.Choice.{pick}
 use Rattle.wire.specs.Overlay.{overlay}
 use Rattle.watch.specs.declared.Watch.{Watch}
 use Rattle.watch.specs.Limits.{maxSenders}
-use Rattle.watch.specs.Noted.{Noted, first, forward, same, late, restarted, refused}
+use Rattle.watch.specs.Noted.{notedCode}
 use Rattle.watch.specs.Watching.{asked, after}
 
 -- the watch that two lent lists show: in one how many senders are in use and then the senders, in the other their last numbers
 abbrev pub watchIn : List ℕ → List ℕ → Watch
 watchIn senders lasts =
     record { senders = take maxSenders (drop 1 senders); lasts = take maxSenders lasts; count = getD senders 0 0 }
-
--- 1 first, 2 forward, 3 same, 4 late, 5 restarted, times 2^32, and the number beside it; or the refusal number alone
-abbrev pub notedCode : Noted → ℕ
-notedCode first = 1 * 2 ^ 32
-notedCode (forward missing) = 2 * 2 ^ 32 + missing
-notedCode same = 3 * 2 ^ 32
-notedCode (late by) = 4 * 2 ^ 32 + by
-notedCode (restarted number) = 5 * 2 ^ 32 + number
-notedCode (refused number) = number
 
 -- the lists have no room for a watch
 abbrev pub lacking : List ℕ → List ℕ → Bool

@@ -2,9 +2,7 @@
 ghost use mathlib.Core.Path.{_≡_};
 ghost use lib.ListN.{length};
 ghost use Rattle.watch.specs.Limits.{maxSenders};
-ghost use Rattle.watch.specs.Noted.{notes};
-ghost use Rattle.host_flight.specs.Watches.{notedCode, SeeTold};
-use watch::Answer;
+ghost use Rattle.host_flight.specs.Watches.{SeeTold};
 use watch::Watch;
 
 // How many numbers hold the senders: how many there are, and each.
@@ -23,20 +21,6 @@ fn shown(count: u64, senders: &[u64], lasts: &[u32]) -> Watch
         senders: s,
         lasts: l,
         count: count as usize,
-    }
-}
-
-// What the watch says, as one number: the kind times 2^32 and the number beside it, or the number of the refusal.
-fn noted_code(answer: Answer) -> u64
-    ensures { λ r. ⌜ r ≡ notedCode (notes answer) ⌝ }
-{
-    match answer {
-        Answer::First => 4294967296,
-        Answer::Forward(missing) => 2 * 4294967296 + missing as u64,
-        Answer::Same => 3 * 4294967296,
-        Answer::Late(by) => 4 * 4294967296 + by as u64,
-        Answer::Restarted(number) => 5 * 4294967296 + number as u64,
-        Answer::Refused(number) => number as u64,
     }
 }
 
@@ -67,5 +51,5 @@ pub extern "C" fn qm_watch_see(
     words::put_word(&mut *senders, 0, after.count as u64);
     words::put_words(senders, 1, &after.senders);
     words::put_entries(lasts, 0, &after.lasts);
-    noted_code(answer)
+    watch::noted_code(answer)
 }

@@ -1,3 +1,3 @@
 pub mod Packing
 pub mod Watched
-pub mod Going
+pub mod PacketCalls

@@ -12,14 +12,14 @@ use Rattle.wire.specs.Slices.{_⇒_}
 use Rattle.wire.proofs.Numbers.{length-bytes}
 use Rattle.wire.proofs.Overlays.{overlay-next, overlay-whole}
 use Rattle.wire.proofs.Once.{one-answer}
-use Rattle.watch.specs.Noted.{notes}
+use Rattle.watch.specs.Noted.{notes, notedCode}
 use Rattle.watch.specs.Watching.{moves}
 use Rattle.moss.specs.Limits.{sessionLength}
 use Rattle.moss.specs.Packet.{packetOf}
 use Rattle.gauge_watch.specs.declared.Gauge.{Gauge}
 use Rattle.gauge_watch.specs.declared.Heard.{Heard}
 use Rattle.gauge_watch.specs.Heard.{silent, asked, after, Hears}
-use Rattle.host_gauge.specs.Watches.{gaugeIn, gaugeWords, heardCode, SeeTold}
+use Rattle.host_gauge.specs.Watches.{gaugeIn, gaugeWords, SeeTold}
 
 -- ---- what is told
 
@@ -27,7 +27,7 @@ module _ (w b : List ℕ) where
   pub see-short : length w < 4 → SeeTold (w ⇒ w) b 13
   see-short h = let s = lt-ltb (length w) 4 h in record { gave = rw s; left = rw s }
 
-  module _ (h : 4 ≤ length w) (g : Gauge) (e : g ≡ gaugeIn w) (r : Heard) (s : Hears g b r) (m : Bool) (p : m ≡ moves (notes (r .answer))) (answer : ℕ) (a : answer ≡ heardCode (notes (r .answer))) where
+  module _ (h : 4 ≤ length w) (g : Gauge) (e : g ≡ gaugeIn w) (r : Heard) (s : Hears g b r) (m : Bool) (p : m ≡ moves (notes (r .answer))) (answer : ℕ) (a : answer ≡ notedCode (notes (r .answer))) where
     room : ltb (length w) 4 ≡ false
     room = le-ltb (length w) 4 h
 
@@ -40,12 +40,12 @@ module _ (w b : List ℕ) where
     pub see-moved : m ≡ true → (n w′ : List ℕ) → n ≡ gaugeWords (r .gauge) → w′ ≡ overlay w 0 n → SeeTold (w ⇒ w′) b answer
     see-moved q n w′ k l =
         let v : moves (asked (gaugeIn w) (packetOf b)) ≡ true = sym (p ∙ ap moves noted) ∙ q in
-        record { gave = rw room (a ∙ ap heardCode noted); left = rw (room, v) (l ∙ ap (overlay w 0) (k ∙ ap gaugeWords gauged)) }
+        record { gave = rw room (a ∙ ap notedCode noted); left = rw (room, v) (l ∙ ap (overlay w 0) (k ∙ ap gaugeWords gauged)) }
 
     pub see-still : m ≡ false → SeeTold (w ⇒ w) b answer
     see-still q =
         let v : moves (asked (gaugeIn w) (packetOf b)) ≡ false = sym (p ∙ ap moves noted) ∙ q in
-        record { gave = rw room (a ∙ ap heardCode noted); left = rw (room, v) }
+        record { gave = rw room (a ∙ ap notedCode noted); left = rw (room, v) }
 
 -- ---- ten bytes out of two numbers
 

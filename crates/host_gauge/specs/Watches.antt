@@ -1,14 +1,14 @@
 -- The gauge in four lent words, and what the C host is told of a packet. Definitions only.
 use mathlib.Core.Path.{_≡_}
 use mathlib.Core.List.{List, [], _∷_, _++_}
-use Prim.Native.Nat.{ℕ, _+_, _*_, _%_, _^_}
+use Prim.Native.Nat.{ℕ, _%_, _^_}
 use lib.Dec.{eqb}
 use lib.ListN.{getD, drop}
 use Rattle.wire.specs.Choice.{pick, _when_else_}
 use Rattle.wire.specs.Bytes.{be, bytes}
 use Rattle.wire.specs.Overlay.{overlay}
 use Rattle.wire.specs.Slices.{Buffer}
-use Rattle.watch.specs.Noted.{Noted, first, forward, same, late, restarted, refused}
+use Rattle.watch.specs.Noted.{Noted, notedCode}
 use Rattle.watch.specs.Watching.{moves}
 use Rattle.moss.specs.Packet.{packetOf}
 use Rattle.gauge_watch.specs.declared.Gauge.{Gauge}
@@ -22,21 +22,12 @@ gaugeIn w = record { session = bytes 8 (getD w 2 0) ++ bytes 2 (getD w 3 0); las
 abbrev pub gaugeWords : Gauge → List ℕ
 gaugeWords g = pick (g .started) 1 0 ∷ g .last ∷ be 8 (g .session) ∷ be 2 (drop 8 (g .session)) ∷ []
 
--- 1 first, 2 forward, 3 same, 4 late, 5 restarted, times 2^32, and the number beside it; or the refusal number alone
-abbrev pub heardCode : Noted → ℕ
-heardCode first = 1 * 2 ^ 32
-heardCode (forward missing) = 2 * 2 ^ 32 + missing
-heardCode same = 3 * 2 ^ 32
-heardCode (late by) = 4 * 2 ^ 32 + by
-heardCode (restarted number) = 5 * 2 ^ 32 + number
-heardCode (refused number) = number
-
 -- where the watch does not move, a refusal too, nothing is written; else the gauge's words stand at the start
 abbrev pub movedWords : Noted → Gauge → List ℕ → List ℕ
 movedWords noted g w = pick (moves noted) (overlay w 0 (gaugeWords g)) w
 
 -- 13 where the words are too few
 pub record SeeTold (gauge : Buffer) (packet : List ℕ) (answer : ℕ) : Type 0 where
-  pub gave : answer ≡ pick (short 4 (gauge .before)) 13 (heardCode (asked (gaugeIn (gauge .before)) (packetOf packet)))
+  pub gave : answer ≡ pick (short 4 (gauge .before)) 13 (notedCode (asked (gaugeIn (gauge .before)) (packetOf packet)))
   pub left : gauge .after ≡ (gauge .before when short 4 (gauge .before) else
       movedWords (asked (gaugeIn (gauge .before)) (packetOf packet)) (after (gaugeIn (gauge .before)) (packetOf packet)) (gauge .before))

@@ -2,10 +2,8 @@
 ghost use mathlib.Core.Path.{_≡_};
 ghost use Rattle.wire.specs.Slices.{buffer};
 ghost use Rattle.wire.specs.Choice.{pick};
-ghost use Rattle.watch.specs.Noted.{notes};
-ghost use Rattle.host_gauge.specs.Watches.{gaugeIn, gaugeWords, heardCode, SeeTold};
+ghost use Rattle.host_gauge.specs.Watches.{gaugeIn, gaugeWords, SeeTold};
 use gauge_watch::Gauge;
-use watch::Answer;
 
 // How many words hold the gauge.
 pub const GAUGE: usize = 4;
@@ -45,20 +43,6 @@ fn gauge_words(g: Gauge) -> [u64; GAUGE]
     [begun(g.started), g.last as u64, first, second]
 }
 
-// What the watch says, as one number: the kind times 2^32 and the number beside it, or the number of the refusal.
-fn heard_code(answer: Answer) -> u64
-    ensures { λ r. ⌜ r ≡ heardCode (notes answer) ⌝ }
-{
-    match answer {
-        Answer::First => 4294967296,
-        Answer::Forward(missing) => 2 * 4294967296 + missing as u64,
-        Answer::Same => 3 * 4294967296,
-        Answer::Late(by) => 4 * 4294967296 + by as u64,
-        Answer::Restarted(number) => 5 * 4294967296 + number as u64,
-        Answer::Refused(number) => number as u64,
-    }
-}
-
 // What the watch says of a packet; the gauge is written where the watch moves.
 #[no_mangle]
 pub extern "C" fn qm_gauge_see(gauge: &mut [u64], packet: &[u8]) -> u64
@@ -72,7 +56,7 @@ pub extern "C" fn qm_gauge_see(gauge: &mut [u64], packet: &[u8]) -> u64
     if watch::does_move(answer) {
         let numbers = gauge_words(heard.gauge);
         words::put_words(gauge, 0, &numbers);
-        return heard_code(answer);
+        return watch::noted_code(answer);
     }
-    heard_code(answer)
+    watch::noted_code(answer)
 }

@@ -1,3 +1,3 @@
-pub mod Walks
+pub mod EntryTurns
 pub mod Answers
 pub mod Promises

@@ -30,11 +30,6 @@ first-at (suc n) row i h = elim (decLe (suc i) n) [
       getD-at (firstRows n row) (row n) [] none i (first-length n row ∙ e) ∙ ap row e
 ]
 
-pub first-same : (n : ℕ) (a b : ℕ → Row) → ((i : ℕ) → i < n → a i ≡ b i) → firstRows n a ≡ firstRows n b
-unfolding firstRows
-first-same zero a b h = refl
-first-same (suc n) a b h = λ j. first-same n a b (λ i l. h i (omega arith)) j ++ (h n (omega arith) j ∷ [])
-
 -- a list is its rows by place
 pub first-list : (rs : List Row) (row : ℕ → Row) → ((i : ℕ) → i < length rs → row i ≡ getD rs i none) → firstRows (length rs) row ≡ rs
 first-list rs row h =

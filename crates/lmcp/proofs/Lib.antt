@@ -1,3 +1,4 @@
+pub mod Aheads
 pub mod Answers
 pub mod Codes
 pub mod Editions
@@ -10,6 +11,8 @@ pub mod Never
 pub mod Once
 pub mod Pitsurv
 pub mod Rows
+pub mod RowWays
+pub mod RunParts
 pub mod Sizes
 pub mod Spells
 pub mod Tables

@@ -11,8 +11,8 @@ use borrow.Author.Tests.{eqb-true, leb-true, eq-eqb, ne-eqb, le-leb, lt-ltb}
 use Rattle.wire.specs.Choice.{pick}
 use Rattle.wire.proofs.Choices.{and-l, and-r, and-of}
 use Rattle.lmcp.specs.declared.Row.{Row}
-use Rattle.lmcp.specs.Table.{charKind, objectKind, joined, beginnings, rowsOf, nothing, second, typesOf, pitsurv}
-use Rattle.lmcp.proofs.Tables.{upto, under}
+use Rattle.lmcp.specs.Table.{charKind, objectKind, joined, beginnings, rowsOf, startsOf, fieldsOf, nothing, second, typesOf, pitsurv}
+use Rattle.lmcp.proofs.Tables.{upto, under, rows-of}
 use Rattle.lmcp.specs.Packed.{plain, single, runBytes, runBool, packedBy, packedOf, cell}
 
 -- ---- rows that are one run
@@ -184,3 +184,27 @@ types-all false t h = types-by false t (under (typeTest false) 8 refl t h)
 
 pub type-of : (v t : ℕ) → t < 8 → Type-says (second v) t
 type-of v t h = types-all (second v) t h
+
+-- ---- where the rows of a type begin and end
+
+few-by : (two : Bool) → length (joined (typesOf two)) ≤ 20
+few-by true = omega arith
+few-by false = omega arith
+
+pub few-rows : (v : ℕ) → length (rowsOf (pitsurv v)) ≤ 20
+few-rows v = few-by (second v)
+
+pub record Bounds (v t i e : ℕ) : Type 0 where
+  pub rise : i ≤ e
+  pub inside : e ≤ length (rowsOf (pitsurv v))
+  pub are : fieldsOf (pitsurv v) t ≡ slice i e (rowsOf (pitsurv v))
+  pub first : i ≡ getD (startsOf (pitsurv v)) t 0
+  pub last : e ≡ getD (startsOf (pitsurv v)) (t + 1) 0
+
+pub bounds : (v t i e : ℕ) → t < 8 → (tab : List (List ℕ)) → tab ≡ packedOf v → i ≡ cell tab 20 t → e ≡ cell tab 21 t → Bounds v t i e
+bounds v t i e h tab q is es =
+    let y = type-of v t h in
+    let a : i ≡ getD (startsOf (pitsurv v)) t 0 = is ∙ ap (λ (l : List (List ℕ)). cell l 20 t) q ∙ y .starts in
+    let b : e ≡ getD (startsOf (pitsurv v)) (t + 1) 0 = es ∙ ap (λ (l : List (List ℕ)). cell l 21 t) q ∙ y .stops in
+    let r = rows-of (pitsurv v) t i e h a b in
+    record { rise = r .rise; inside = r .inside; are = r .are; first = a; last = b }

@@ -18,7 +18,7 @@ use Rattle.lmcp.specs.declared.Mark.the-variants.{Of, Bad}
 use Rattle.lmcp.specs.Run.{Run, got, refused, Tag, tag, bad, prepend, andThen, after, repeat, whole}
 use Rattle.lmcp.specs.Table.{objectKind, Table, fieldsOf, nothing}
 use Rattle.lmcp.specs.Walk.{Way, item, field, fields, isNull, object, root}
-use Rattle.lmcp.specs.Ends.{Sofar, EndsBy, Marked, MarksBy}
+use Rattle.lmcp.specs.Ends.{begun, Sofar, EndsBy, Marked, MarksBy}
 
 pub sets-append : {B : Type 0} (l : List B) (i : ℕ) (a b : List B) → sets l i (a ++ b) ≡ sets (sets l i a) (i + length a) b
 sets-append l i [] b = rw add-zero
@@ -32,34 +32,34 @@ module _ {A B : Type 0} where
   prepend-nil (got ys r) = refl
   prepend-nil (refused n) = refl
 
-  prepend-append : (a b : List B) (X : Run A B) → prepend (a ++ b) X ≡ prepend a (prepend b X)
+  pub prepend-append : (a b : List B) (X : Run A B) → prepend (a ++ b) X ≡ prepend a (prepend b X)
   unfolding prepend
   prepend-append a b (got ys r) = ap (λ (l : List B). got l r) (append-assoc a b ys)
   prepend-append a b (refused n) = refl
 
   -- another name for the same run
-  pub same-run : (Few : ℕ → ℕ → Type 0) (s : List A) (out : List B) (to : ℕ) {X Y : Run A B} (r : Went) (out' : List B) → Y ≡ X → EndsBy Few s out to X r out' → EndsBy Few s out to Y r out'
-  same-run Few s out to r out' e h = subst (λ (X : Run A B). EndsBy Few s out to X r out') (sym e) h
+  pub same-run : (Few : ℕ → ℕ → Type 0) (s : List A) (out : List B) (to : ℕ) {X Y : Run A B} (r : Went) (out' : List B) → Y ≡ X → EndsBy Few (begun s out to) X r out' → EndsBy Few (begun s out to) Y r out'
+  same-run Few s out to r out' e h = subst (λ (X : Run A B). EndsBy Few (begun s out to) X r out') (sym e) h
 
   module _ {Few : ℕ → ℕ → Type 0} {s : List A} where
     -- a leaf made ys
     pub made : {X : Run A B} {out out' : List B} {to : ℕ} (ys : List B) (at' to' : ℕ) → X ≡ got ys (drop at' s) → out' ≡ sets out to ys → to' ≡ to + length ys → Few to' at' → at' ≤ length s
-        → EndsBy Few s out to X (To at' to') out'
+        → EndsBy Few (begun s out to) X (To at' to') out'
     unfolding prepend
     made ys at' to' e o p f w = record { ys = ys; whole = e ∙ ap (λ (l : List B). got l (drop at' s)) (sym (append-nil ys)); laid = o; place = p; fewer = f; within = w }
 
     pub marked : {X : Tag A B} {out out' : List B} {to : ℕ} (n : ℕ) (ys : List B) (at' to' : ℕ) → X ≡ tag n ys (drop at' s) → out' ≡ sets out to ys → to' ≡ to + length ys → Few to' at' → at' ≤ length s
-        → MarksBy Few s out to X (Of n at' to') out'
+        → MarksBy Few (begun s out to) X (Of n at' to') out'
     marked n ys at' to' e o p f w = record { ys = ys; whole = e; laid = o; place = p; fewer = f; within = w }
 
     -- a walk begins
-    pub begins : {X : Run A B} (rest : List A → Run A B) (at to : ℕ) (out : List B) → X ≡ rest (drop at s) → Few to at → at ≤ length s → Sofar Few s out to X rest at to out
+    pub begins : {X : Run A B} (rest : List A → Run A B) (at to : ℕ) (out : List B) → X ≡ rest (drop at s) → Few to at → at ≤ length s → Sofar Few (begun s out to) X rest at to out
     begins rest at to out e f w = record { ys = []; whole = e ∙ sym (prepend-nil _); laid = refl; place = omega arith; fewer = f; within = w }
 
-    module _ {o0 : List B} {t0 : ℕ} {X : Run A B} {rest : List A → Run A B} {at to : ℕ} {out : List B} (h : Sofar Few s o0 t0 X rest at to out) where
+    module _ {o0 : List B} {t0 : ℕ} {X : Run A B} {rest : List A → Run A B} {at to : ℕ} {out : List B} (h : Sofar Few (begun s o0 t0) X rest at to out) where
       -- a part is got
-      pub next : {Y : Run A B} (rest' : List A → Run A B) {at' to' : ℕ} {out' : List B} → rest (drop at s) ≡ andThen Y rest' → Sofar Few s out to Y (got []) at' to' out'
-          → Sofar Few s o0 t0 X rest' at' to' out'
+      pub next : {Y : Run A B} (rest' : List A → Run A B) {at' to' : ℕ} {out' : List B} → rest (drop at s) ≡ andThen Y rest' → Sofar Few (begun s out to) Y (got []) at' to' out'
+          → Sofar Few (begun s o0 t0) X rest' at' to' out'
       unfolding prepend andThen
       next rest' {at'} {to'} {out'} e g =
           record {
@@ -80,12 +80,12 @@ module _ {A B : Type 0} where
       next-stops rest' n e g = h .whole ∙ ap (prepend (h .ys)) (e ∙ ap (λ (Y : Run A B). andThen Y rest') g)
 
       -- nothing is left to do
-      pub ends : rest (drop at s) ≡ got [] (drop at s) → EndsBy Few s o0 t0 X (To at to) out
+      pub ends : rest (drop at s) ≡ got [] (drop at s) → EndsBy Few (begun s o0 t0) X (To at to) out
       ends e = record { ys = h .ys; whole = h .whole ∙ ap (prepend (h .ys)) e; laid = h .laid; place = h .place; fewer = h .fewer; within = h .within }
 
     -- after a count or a type
-    module _ {X : Tag A B} {n at to t0 : ℕ} {o0 out : List B} (h : Marked Few s o0 t0 X n at to out) (k : ℕ → List A → Run A B) where
-      pub marked-then : (r : Went) (out' : List B) → EndsBy Few s out to (k n (drop at s)) r out' → EndsBy Few s o0 t0 (after X k) r out'
+    module _ {X : Tag A B} {n at to t0 : ℕ} {o0 out : List B} (h : Marked Few (begun s o0 t0) X n at to out) (k : ℕ → List A → Run A B) where
+      pub marked-then : (r : Went) (out' : List B) → EndsBy Few (begun s out to) (k n (drop at s)) r out' → EndsBy Few (begun s o0 t0) (after X k) r out'
       unfolding prepend after
       marked-then (Stopped m) out' g = ap (λ (Y : Tag A B). after Y k) (h .whole) ∙ ap (prepend (h .ys)) g
       marked-then (To a t) out' g =
@@ -98,7 +98,7 @@ module _ {A B : Type 0} where
             within = g .within;
           }
 
-      pub marked-end : k n (drop at s) ≡ got [] (drop at s) → EndsBy Few s o0 t0 (after X k) (To at to) out
+      pub marked-end : k n (drop at s) ≡ got [] (drop at s) → EndsBy Few (begun s o0 t0) (after X k) (To at to) out
       unfolding after
       marked-end e =
           record { ys = h .ys; whole = ap (λ (Y : Tag A B). after Y k) (h .whole) ∙ ap (prepend (h .ys)) e; laid = h .laid; place = h .place; fewer = h .fewer; within = h .within }
@@ -173,39 +173,39 @@ module _ {A B : Type 0} (W : Way A B) (T : Table) where
 -- ---- the walk's functions, in places: one turn of each loop, and each way on from a count or a head
 
 module _ {A B : Type 0} (Few : ℕ → ℕ → Type 0) {s : List A} {o0 : List B} {t0 : ℕ} {X : Run A B} where
-  module _ (f : List A → Run A B) (n k : ℕ) {p q : ℕ} {out : List B} (h : Sofar Few s o0 t0 X (repeat (n - k) f) p q out) where
-    module _ (more : k < n) (r : Went) (out' : List B) (g : EndsBy Few s out q (f (drop p s)) r out') where
-      pub items-turn : (a t : ℕ) → r ≡ To a t → Sofar Few s o0 t0 X (repeat (n - (k + 1)) f) a t out'
-      items-turn a t e = next h (repeat (n - (k + 1)) f) (repeat-more f (drop p s) n k more) (subst (λ (w : Went). EndsBy Few s out q (f (drop p s)) w out') e g)
+  module _ (f : List A → Run A B) (n k : ℕ) {p q : ℕ} {out : List B} (h : Sofar Few (begun s o0 t0) X (repeat (n - k) f) p q out) where
+    module _ (more : k < n) (r : Went) (out' : List B) (g : EndsBy Few (begun s out q) (f (drop p s)) r out') where
+      pub items-turn : (a t : ℕ) → r ≡ To a t → Sofar Few (begun s o0 t0) X (repeat (n - (k + 1)) f) a t out'
+      items-turn a t e = next h (repeat (n - (k + 1)) f) (repeat-more f (drop p s) n k more) (subst (λ (w : Went). EndsBy Few (begun s out q) (f (drop p s)) w out') e g)
 
       pub items-stop : (m : ℕ) → r ≡ Stopped m → X ≡ refused m
-      items-stop m e = next-stops h (repeat (n - (k + 1)) f) m (repeat-more f (drop p s) n k more) (subst (λ (w : Went). EndsBy Few s out q (f (drop p s)) w out') e g)
+      items-stop m e = next-stops h (repeat (n - (k + 1)) f) m (repeat-more f (drop p s) n k more) (subst (λ (w : Went). EndsBy Few (begun s out q) (f (drop p s)) w out') e g)
 
-    pub items-end : n ≤ k → EndsBy Few s o0 t0 X (To p q) out
+    pub items-end : n ≤ k → EndsBy Few (begun s o0 t0) X (To p q) out
     items-end l = ends h (repeat-end f (drop p s) n k l)
 
-  module _ (W : Way A B) (obj : ℕ → List A → Run A B) (rows : List Row) (i e : ℕ) {p q : ℕ} {out : List B} (h : Sofar Few s o0 t0 X (fields W obj (slice i e rows)) p q out) where
-    module _ (more : i < e) (inside : e ≤ length rows) (r : Went) (out' : List B) (g : EndsBy Few s out q (field W obj (getD rows i nothing) (drop p s)) r out') where
-      pub fields-turn : (a t : ℕ) → r ≡ To a t → Sofar Few s o0 t0 X (fields W obj (slice (i + 1) e rows)) a t out'
+  module _ (W : Way A B) (obj : ℕ → List A → Run A B) (rows : List Row) (i e : ℕ) {p q : ℕ} {out : List B} (h : Sofar Few (begun s o0 t0) X (fields W obj (slice i e rows)) p q out) where
+    module _ (more : i < e) (inside : e ≤ length rows) (r : Went) (out' : List B) (g : EndsBy Few (begun s out q) (field W obj (getD rows i nothing) (drop p s)) r out') where
+      pub fields-turn : (a t : ℕ) → r ≡ To a t → Sofar Few (begun s o0 t0) X (fields W obj (slice (i + 1) e rows)) a t out'
       fields-turn a t c =
           next h (fields W obj (slice (i + 1) e rows)) (fields-more W obj rows i e (drop p s) more inside)
-          (subst (λ (w : Went). EndsBy Few s out q (field W obj (getD rows i nothing) (drop p s)) w out') c g)
+          (subst (λ (w : Went). EndsBy Few (begun s out q) (field W obj (getD rows i nothing) (drop p s)) w out') c g)
 
       pub fields-stop : (m : ℕ) → r ≡ Stopped m → X ≡ refused m
       fields-stop m c =
           next-stops h (fields W obj (slice (i + 1) e rows)) m (fields-more W obj rows i e (drop p s) more inside)
-          (subst (λ (w : Went). EndsBy Few s out q (field W obj (getD rows i nothing) (drop p s)) w out') c g)
+          (subst (λ (w : Went). EndsBy Few (begun s out q) (field W obj (getD rows i nothing) (drop p s)) w out') c g)
 
-    pub fields-done : e ≤ i → i ≤ e → EndsBy Few s o0 t0 X (To p q) out
+    pub fields-done : e ≤ i → i ≤ e → EndsBy Few (begun s o0 t0) X (To p q) out
     fields-done l u = ends h (fields-end W obj rows i e (drop p s) l u)
 
 module _ {A B : Type 0} (Few : ℕ → ℕ → Type 0) (s : List A) (o0 : List B) (t0 : ℕ) where
   -- what a count or a head gave
-  pub mark-stop : {X : Tag A B} (r : Mark) (out : List B) → MarksBy Few s o0 t0 X r out → (m : ℕ) → r ≡ Bad m → X ≡ bad m
-  mark-stop {X} r out g m e = subst (λ (w : Mark). MarksBy Few s o0 t0 X w out) e g
+  pub mark-stop : {X : Tag A B} (r : Mark) (out : List B) → MarksBy Few (begun s o0 t0) X r out → (m : ℕ) → r ≡ Bad m → X ≡ bad m
+  mark-stop {X} r out g m e = subst (λ (w : Mark). MarksBy Few (begun s o0 t0) X w out) e g
 
-  pub mark-on : {X : Tag A B} (r : Mark) (out : List B) → MarksBy Few s o0 t0 X r out → (n a t : ℕ) → r ≡ Of n a t → Marked Few s o0 t0 X n a t out
-  mark-on {X} r out g n a t e = subst (λ (w : Mark). MarksBy Few s o0 t0 X w out) e g
+  pub mark-on : {X : Tag A B} (r : Mark) (out : List B) → MarksBy Few (begun s o0 t0) X r out → (n a t : ℕ) → r ≡ Of n a t → Marked Few (begun s o0 t0) X n a t out
+  mark-on {X} r out g n a t e = subst (λ (w : Mark). MarksBy Few (begun s o0 t0) X w out) e g
 
 -- ---- a root
 
@@ -237,17 +237,7 @@ unfolding whole
 whole-more ys [] h = absurd (let z : ⊥ = omega arith in z)
 whole-more ys (x ∷ r) h = refl
 
--- what a walk lays is what its run makes
-pub laid-again : {A B : Type 0} (Few : ℕ → ℕ → Type 0) (s : List A) {X : Run A B} (out : List B) (t0 : ℕ) (ys : List B) (rest : List A) (r : Went) (out' : List B)
-    → X ≡ got ys rest → EndsBy Few s out t0 X r out' → out' ≡ sets out t0 ys
-unfolding prepend
-laid-again Few s out t0 ys rest (Stopped m) out' e g = absurd (let z : _≡_ {A = ℕ} 0 1 = cc (e, g) in omega arith)
-laid-again Few s out t0 ys rest (To a t) out' e g =
-    let q : got ys rest ≡ got (g .ys ++ []) (drop a s) = sym e ∙ g .whole in
-    let f : ys ≡ g .ys ++ [] = cc in
-    g .laid ∙ ap (sets out t0) (sym (f ∙ append-nil (g .ys)))
-
-module _ {A B : Type 0} {Few : ℕ → ℕ → Type 0} {s : List A} {X : Run A B} {t0 at to : ℕ} {o0 o1 : List B} (h : Sofar Few s o0 t0 X (got []) at to o1) where
+module _ {A B : Type 0} {Few : ℕ → ℕ → Type 0} {s : List A} {X : Run A B} {t0 at to : ℕ} {o0 o1 : List B} (h : Sofar Few (begun s o0 t0) X (got []) at to o1) where
   pub run-is : X ≡ got (h .ys) (drop at s)
   unfolding prepend
   run-is = h .whole ∙ ap (λ (l : List B). got l (drop at s)) (append-nil (h .ys))
@@ -259,9 +249,6 @@ module _ {A B : Type 0} {Few : ℕ → ℕ → Type 0} {s : List A} {X : Run A B
 
   pub run-done : at ≡ length s → whole X ≡ got (h .ys) []
   run-done d = let l : length s ≤ at = omega arith in ap whole run-is ∙ whole-none (h .ys) (drop at s) (drop-of-length-le s l)
-
-  pub run-again : (out : List B) (r : Went) (out' : List B) → EndsBy Few s out t0 X r out' → out' ≡ sets out t0 (h .ys)
-  run-again out r out' g = laid-again Few s out t0 (h .ys) (drop at s) r out' run-is g
 
 pub empty : {A : Type 0} (l : List A) → length l ≡ 0 → l ≡ []
 empty [] e = refl

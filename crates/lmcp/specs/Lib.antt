@@ -10,5 +10,6 @@ pub mod Write
 pub mod Message
 pub mod Lists
 pub mod Ends
+pub mod InsideAhead
 pub mod Spelled
 pub mod Worked

@@ -4,18 +4,22 @@ use mathlib.Core.Bool.{Bool, true, false, not}
 use mathlib.Core.List.{List, [], _∷_, _++_}
 use Prim.Native.Nat.{ℕ, zero, suc, _/_}
 use lib.IntN.{ℤ}
-use lib.ListN.{length, take, drop}
+use lib.ListN.{length, drop}
 use lib.Seq.{sets}
-use lib.Dec.{ltb, eqb}
+use lib.Dec.{ltb, leb, eqb}
+use Rattle.wire.specs.Choice.{pick, _when_else_}
 use Rattle.wire.specs.Text.{ascii}
 use Rattle.wire.specs.Bytes.{be}
 use Rattle.wire.specs.Signed.{signed}
 use Rattle.lmcp.specs.declared.Made.{Made}
-use Rattle.lmcp.specs.declared.Made.the-variants.{Bytes, Refused}
+use Rattle.lmcp.specs.Run.{got, refused}
+use Rattle.lmcp.specs.Write.{Write}
 use Rattle.lmcp.specs.Message.{WrittenTo}
 use Rattle.lmcp.specs.Lists.{writeList}
 use Rattle.text.specs.Text.{decimal, hex}
 use Rattle.output.specs.Output.{Pours}
+use Rattle.record_lines.specs.Streams.{Rec, Stream}
+use Rattle.record_lines.specs.Lines.{linesOf}
 
 -- the first n numbers of a record's body, of 8 bytes each, in two's complement
 abbrev pub numbersOf : ℕ → List ℕ → List ℤ
@@ -32,10 +36,32 @@ longerText n =
     ascii " longer than " ++ decimal n
     ++ ascii " numbers\n"
 
--- " bytes 4c4d4350" or " refused 29"
-abbrev pub madeText : List ℕ → Made → List ℕ
-madeText bytes (Bytes n) = ascii " bytes " ++ hex (take n bytes) ++ ascii "\n"
-madeText bytes (Refused e) = ascii " refused " ++ decimal e ++ ascii "\n"
+-- " bytes 4c4d4350"
+abbrev pub bytesText : List ℕ → List ℕ
+bytesText b = ascii " bytes " ++ hex b ++ ascii "\n"
+
+-- " refused 29"
+abbrev pub refusedText : ℕ → List ℕ
+refusedText number = ascii " refused " ++ decimal number ++ ascii "\n"
+
+-- a message, or its refusal, by a program that holds so many bytes of it
+abbrev pub writeText : ℕ → Write → List ℕ
+writeText room (got m rest) = pick (leb (length m) room) (bytesText m) (refusedText 13)
+writeText room (refused number) = refusedText number
+
+-- a record's list, by a program that holds `most` numbers
+abbrev pub listText : ℕ → ℕ → Bool → List ℕ → List ℕ
+listText most room calculate body =
+    longerText most when ltb most (length body / 8) else
+    writeText room (writeList calculate (numbersOf (length body / 8) body))
+
+-- line n, of a record
+abbrev pub line : ℕ → ℕ → ℕ → Rec → List ℕ
+line most room n x = decimal n ++ listText most room (calculated (x .head)) (x .body)
+
+-- of all records, with the last line
+abbrev pub lines : ℕ → ℕ → Stream → List ℕ
+lines most room = linesOf (line most room)
 
 -- what the program holds: the number list, the message's bytes, and the output
 pub record Holds : Type 0 where
@@ -43,22 +69,22 @@ pub record Holds : Type 0 where
   pub bytes : List ℕ
   pub out : List ℕ
 
--- The list that a body holds was written as a message, and line n gives its bytes or its refusal.
-pub record Made′ (calculate : Bool) (body : List ℕ) (n : ℕ) (h : Holds) (at : ℕ) (h′ : Holds) (r : ℕ) : Type 0 where
+-- The list that a body holds was written as a message.
+pub record Made′ (calculate : Bool) (body : List ℕ) (h h′ : Holds) : Type 0 where
   pub taken : h′ .list ≡ sets (h .list) 0 (numbersOf (length body / 8) body)
   pub made : Made
   pub written : WrittenTo (writeList calculate (numbersOf (length body / 8) body)) (h .bytes) made (h′ .bytes)
-  pub said : Pours (h .out) at (decimal n ++ madeText (h′ .bytes) made) (h′ .out) r
 
--- It has more numbers than the program's list, and line n says so; nothing else is touched.
-pub record Longer (n : ℕ) (h : Holds) (at : ℕ) (h′ : Holds) (r : ℕ) : Type 0 where
+-- It has more numbers than the program's list: list and bytes are not touched.
+pub record Longer (h h′ : Holds) : Type 0 where
   pub same-list : h′ .list ≡ h .list
   pub same-bytes : h′ .bytes ≡ h .bytes
-  pub said : Pours (h .out) at (decimal n ++ longerText (length (h .list))) (h′ .out) r
 
-abbrev pub byLength : Bool → Bool → List ℕ → ℕ → Holds → ℕ → Holds → ℕ → Type 0
-byLength true calculate body n h at h′ r = Longer n h at h′ r
-byLength false calculate body n h at h′ r = Made′ calculate body n h at h′ r
+abbrev pub byLength : Bool → Bool → List ℕ → Holds → Holds → Type 0
+byLength true calculate body h h′ = Longer h h′
+byLength false calculate body h h′ = Made′ calculate body h h′
 
-abbrev pub Written : Bool → List ℕ → ℕ → Holds → ℕ → Holds → ℕ → Type 0
-Written calculate body n h = byLength (ltb (length (h .list)) (length body / 8)) calculate body n h
+-- So of a record, and line n gives the message's bytes or its refusal, or says that the list is longer.
+pub record Written (calculate : Bool) (body : List ℕ) (n : ℕ) (h : Holds) (at : ℕ) (h′ : Holds) (r : ℕ) : Type 0 where
+  pub held : byLength (ltb (length (h .list)) (length body / 8)) calculate body h h′
+  pub said : Pours (h .out) at (decimal n ++ listText (length (h .list)) (length (h .bytes)) calculate body) (h′ .out) r

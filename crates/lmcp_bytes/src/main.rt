@@ -5,10 +5,13 @@ ghost use mathlib.Core.Path.{_≡_};
 ghost use Prim.Native.Nat.{_/_, _≤_};
 ghost use lib.ListN.{length, take};
 ghost use lib.Seq.{sets};
+ghost use Rattle.wire.specs.Slices.{buffer};
 ghost use Rattle.wire.specs.Signed.{signed};
+ghost use Rattle.stream.specs.declared.Kind.the-variants.{Numbers};
 ghost use Rattle.output.specs.Output.{Pours, lineLimit};
-ghost use Rattle.lmcp_bytes.specs.Lines.{numbersOf, calculated, longerText, madeText, Written};
-ghost use Rattle.lmcp_bytes.specs.Inside.{holdsBefore, holdsAfter};
+ghost use Rattle.record_lines.specs.Lines.{Tells};
+ghost use Rattle.lmcp_bytes.specs.Lines.{numbersOf, calculated, longerText, Written, lines};
+ghost use Rattle.lmcp_bytes.specs.Inside.{holdsBefore, holdsAfter, madeText};
 use lmcp::Made;
 use stream::Input;
 use stream::Kind;
@@ -103,21 +106,21 @@ fn one_more(
     pour_made(out, next, bytes, made)
 }
 
-// One line a list, and the last line.
-fn run(buf: &mut [u8], list: &mut [i64], bytes: &mut [u8], out: &mut [u8])
+// One line a list of the input, and the last line. Answers whether the system took all of them; it stops where it did not.
+fn run(buf: &mut [u8], input: Input, list: &mut [i64], bytes: &mut [u8], out: &mut [u8]) -> bool
     requires { ⌜ lineLimit ≤ length (now out) ⌝ }
+    ensures { λ r. ⌜ Tells Numbers (lines (length (now (list .entry))) (length (now (bytes .entry)))) (now (buf .entry)) input (buffer out) 0 r ⌝ }
 {
-    let mut input = Input { at: 0, end: 0 };
+    let mut rest = input;
     let mut at: usize = 0;
     let mut n: u64 = 0;
     while n < stream::MANY {
-        let next = stream::next_record(buf, input, Kind::Numbers);
+        let next = stream::next_record(buf, rest, Kind::Numbers);
         let Next::Record(from, len, left) = next else {
-            output::finish(out, at, n, next);
-            return;
+            return output::finish(out, at, n, next);
         };
         n += 1;
-        input = left;
+        rest = left;
         let calculate = calculates(stream::head(buf, from, Kind::Numbers));
         at = one_more(
             out,
@@ -128,7 +131,11 @@ fn run(buf: &mut [u8], list: &mut [i64], bytes: &mut [u8], out: &mut [u8])
             bytes,
             wire::part(buf, from, len),
         );
+        if at == output::CLOSED {
+            return false;
+        }
     }
+    output::finish(out, at, n, Next::Cut)
 }
 
 fn main() {
@@ -136,5 +143,11 @@ fn main() {
     let mut list = [0i64; NUMBERS];
     let mut bytes = [0u8; lmcp::MAX_MESSAGE];
     let mut out = [0u8; output::HOLDS];
-    run(&mut buf, &mut list, &mut bytes, &mut out);
+    run(
+        &mut buf,
+        Input { at: 0, end: 0 },
+        &mut list,
+        &mut bytes,
+        &mut out,
+    );
 }

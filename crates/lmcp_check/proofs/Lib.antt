@@ -1,6 +1,7 @@
-pub mod Cases
+pub mod ReadCases
 pub mod Frames
-pub mod Goes
+pub mod CheckTurns
+pub mod Nulls
 pub mod Roots
 pub mod Runs
 pub mod Steps

@@ -21,7 +21,8 @@ use Rattle.lmcp.proofs.WalkPlaces.{whole-none, whole-more, root-stops, root-nul
 use Rattle.lmcp_check.specs.Refusal.{refusalOf}
 use Rattle.lmcp_check.specs.InsideSteps.{readObject, readRoot}
 use Rattle.lmcp_check.specs.InsideChecks.{fault0, Checks}
-use Rattle.lmcp_check.proofs.Cases.{head-short, head-null, root-some}
+use Rattle.lmcp_check.proofs.ReadCases.{head-short, head-null, root-some}
+use Rattle.wire.proofs.Choices.{or-l}
 
 -- ---- a root
 
@@ -60,10 +61,6 @@ module _ (v : ℕ) (s : List ℕ) where
 
 -- ---- a frame
 
-first-false : (a b : Bool) → (a || b) ≡ false → a ≡ false
-first-false true b e = e
-first-false false b e = refl
-
 no-fault : (a b c : Bool) → _≡_ {A = ℕ} (pick a 20 (pick b 21 (pick c 0 22))) 0 → (a ≡ false) × (b ≡ false)
 no-fault true b c e = absurd (let z : ⊥ = omega (arith, e) in z)
 no-fault false true c e = absurd (let z : ⊥ = omega (arith, e) in z)
@@ -73,7 +70,7 @@ pub frame-within : (m : List ℕ) → frame m ≡ 0 → (12 ≤ length m) × (le
 unfolding frame
 frame-within m e =
     let f = no-fault (ltb (length m) 12 || not (same (take 4 m) magic)) (ltb maxMessage (length m) || not (eqb (length m) (12 + be 4 (drop 4 m)))) (eqb (stored m) 0 || eqb (stored m) (checksumOf (before m))) e in
-    (ltb-false (length m) 12 (first-false _ _ (f .0)), ltb-false maxMessage (length m) (first-false _ _ (f .1)))
+    (ltb-false (length m) 12 (or-l _ _ (f .0)), ltb-false maxMessage (length m) (or-l _ _ (f .1)))
 
 -- ---- a message
 

@@ -20,11 +20,12 @@ use Rattle.lmcp.specs.Value.{numberOf}
 use Rattle.lmcp.specs.Read.{Read, reading, readValue}
 use Rattle.lmcp.specs.Walk.{item, field, fields}
 use Rattle.lmcp.proofs.WalkPlaces.{item-value, field-fixed}
-use Rattle.lmcp_check.proofs.Cases.{value-short, value-bad, value-good, sound-plain, sound-bool, fault-bool}
+use Rattle.lmcp_check.proofs.ReadCases.{value-short, value-bad, value-good, sound-plain, sound-bool, fault-bool}
 use Rattle.lmcp.specs.Packed.{plain, single, runBytes, runBool}
 use Rattle.lmcp.proofs.Rows.{none, isRun}
 use Rattle.lmcp_check.specs.InsideChecks.{fault0, Checks, Ran, cut, odd, bare, truly}
-use Rattle.lmcp_check.proofs.Goes.{made, stopped, fields-one, then-nil}
+use Rattle.lmcp.proofs.RunParts.{then-nil}
+use Rattle.lmcp_check.proofs.CheckTurns.{made, stopped, fields-one}
 
 -- a step that takes w bytes, and of which nothing can be wrong but that they are not there
 pub record Strict (w : ℕ) (f : List ℕ → Read) : Type 0 where

@@ -1,6 +1,5 @@
 -- The steps of the walk that checks, by the table's bytes: a run, an object, an array; fields; an object's head. Assumes nothing.
 use mathlib.Core.Path.{_≡_, refl, ap, sym, _∙_}
-use mathlib.Core.Bool.{Bool, true, false}
 use mathlib.Core.List.{List, [], _∷_, _++_}
 use Prim.Native.Nat.{ℕ, zero, suc, _+_, _-_, _≤_, _<_}
 use native.Mathlib.Omega.{arith}
@@ -10,25 +9,18 @@ use lib.Seq.{slice, drop-drop, take-take}
 use Rattle.wire.specs.Bytes.{Number}
 use Rattle.lmcp.specs.declared.Row.{Row}
 use Rattle.lmcp.specs.Run.{tag, andThen, after, repeat}
-use Rattle.lmcp.specs.Table.{joined, charKind, objectKind, rowsOf, startsOf, fieldsOf, nothing, second, typesOf, pitsurv}
+use Rattle.lmcp.specs.Table.{charKind, objectKind, rowsOf, startsOf, fieldsOf, nothing, pitsurv}
 use Rattle.lmcp.specs.Read.{Read, reading, readValue, readCount, readHead}
 use Rattle.lmcp.proofs.WalkPlaces.{item-object, item-value, field-fixed, field-counted, inside, object-is, inside-null, inside-fields, marked-stops, fields-end}
+use Rattle.lmcp.proofs.RunParts.{then-nil, repeat-same}
 use Rattle.lmcp.proofs.Heads.{read-some}
-use Rattle.lmcp.proofs.Tables.{rows-of}
 use Rattle.lmcp_check.specs.InsideSteps.{readObject, readItem, readField, readFields}
-use Rattle.lmcp_check.proofs.Cases.{number-is, count-short, count-good}
+use Rattle.lmcp_check.proofs.ReadCases.{number-is, count-short, count-good}
 use Rattle.lmcp.specs.Packed.{packedOf, cell}
 use Rattle.lmcp_check.specs.InsideChecks.{fault0, Upto, Checks, Heads, Ran, stepRows}
-use Rattle.lmcp_check.proofs.Goes.{then-nil, made, stopped, next, next-stops, ends, same-run, marked-then, repeat-same, fields-append, fields-one}
+use Rattle.lmcp_check.proofs.CheckTurns.{made, stopped, next, next-stops, ends, same-run, marked-then, fields-append, fields-one}
 use Rattle.lmcp_check.proofs.Runs.{ran-checks}
-use Rattle.lmcp.proofs.Rows.{row-of, run-says, run-is-row, object-row, count-fits, char-row, objects-row, type-of}
-
-few-by : (two : Bool) → length (joined (typesOf two)) ≤ 20
-few-by true = omega arith
-few-by false = omega arith
-
-pub few-rows : (v : ℕ) → length (rowsOf (pitsurv v)) ≤ 20
-few-rows v = few-by (second v)
+use Rattle.lmcp.proofs.Rows.{row-of, run-says, run-is-row, object-row, count-fits, char-row, objects-row, type-of, few-rows}
 
 -- ---- one step
 
@@ -132,22 +124,6 @@ module _ (v d i e : ℕ) (s : List ℕ) (X : Read) (p : ℕ) (u : Upto s X (read
 
   pub fields-done : length s < fault0 → e ≤ i → i ≤ e → Checks s X p
   fields-done short l k = ends u short (fields-end (reading (pitsurv v)) (readObject v d) (rowsOf (pitsurv v)) i e (drop p s) l k)
-
--- where the rows of a type begin and end
-pub record Bounds (v t i e : ℕ) : Type 0 where
-  pub rise : i ≤ e
-  pub inside : e ≤ length (rowsOf (pitsurv v))
-  pub are : fieldsOf (pitsurv v) t ≡ slice i e (rowsOf (pitsurv v))
-  pub first : i ≡ getD (startsOf (pitsurv v)) t 0
-  pub last : e ≡ getD (startsOf (pitsurv v)) (t + 1) 0
-
-pub bounds : (v t i e : ℕ) → t < 8 → (tab : List (List ℕ)) → tab ≡ packedOf v → i ≡ cell tab 20 t → e ≡ cell tab 21 t → Bounds v t i e
-bounds v t i e h tab q is es =
-    let y = type-of v t h in
-    let a : i ≡ getD (startsOf (pitsurv v)) t 0 = is ∙ ap (λ (l : List (List ℕ)). cell l 20 t) q ∙ y .starts in
-    let b : e ≡ getD (startsOf (pitsurv v)) (t + 1) 0 = es ∙ ap (λ (l : List (List ℕ)). cell l 21 t) q ∙ y .stops in
-    let r = rows-of (pitsurv v) t i e h a b in
-    record { rise = r .rise; inside = r .inside; are = r .are; first = a; last = b }
 
 -- no step passes the end of its type
 pub step-inside : (v t i e n : ℕ) → t < 8 → e ≡ getD (startsOf (pitsurv v)) (t + 1) 0 → e ≤ length (rowsOf (pitsurv v)) → getD (startsOf (pitsurv v)) t 0 ≤ i → i < e → n ≡ cell (packedOf v) i 5 → (1 ≤ n) × (i + n ≤ e)

@@ -1,7 +1,9 @@
 // Whether a survey message is in order: the walk that only checks. It writes nothing and makes no numbers.
 ghost use mathlib.Core.Path.{_≡_};
 ghost use Prim.Native.Nat.{_+_, _≤_, _<_};
-ghost use lib.ListN.{length, drop};
+ghost use mathlib.Core.Bool.{_&&_};
+ghost use lib.Dec.{ltb, eqb};
+ghost use lib.ListN.{length, drop, getD};
 ghost use Rattle.wire.specs.Bytes.{be};
 ghost use Rattle.lmcp.specs.Run.{repeat, whole};
 ghost use Rattle.lmcp.specs.Table.{fieldsOf, rowsOf, pitsurv, charKind};
@@ -15,6 +17,11 @@ ghost use Rattle.lmcp_check.specs.InsideChecks.{Checks, Heads, Lent, Ran
 
 // What a function of the walk answers: a place, below FAULT, or FAULT and the number of a refusal.
 const FAULT: usize = 4294967296;
+
+// The series in two halves: the compiler looks at four bytes at once, but not at eight.
+const SERIES_BEGINS: u64 = lmcp::SERIES / 4294967296;
+
+const SERIES_ENDS: u64 = lmcp::SERIES % 4294967296;
 
 // A byte of the table.
 fn entry(table: &[[u8; 8]; 22], i: usize, k: usize) -> usize
@@ -38,19 +45,17 @@ fn four(s: &[u8], at: usize) -> u64
     two(s, at) * 65536 + two(s, at + 2)
 }
 
-fn eight(s: &[u8], at: usize) -> u64
-    requires { ⌜ at + 8 ≤ length (now s) ⌝ }
-    ensures { λ r. ⌜ (r ≡ be 8 (drop at (now (s .entry)))) × (r < 18446744073709551616) ⌝ }
-{
-    four(s, at) * 4294967296 + four(s, at + 4)
-}
-
 // Whether the 14 bytes of a header are in the table.
 fn known_at(s: &[u8], at: usize, version: u64, declared: usize) -> bool
     requires { ⌜ at + 14 ≤ length (now s) ⌝ }
     ensures { λ r. ⌜ r ≡ known (pitsurv version) declared (drop at (now (s .entry))) ⌝ }
 {
-    if eight(s, at) != lmcp::SERIES {
+    let begins = four(s, at);
+    let ends = four(s, at + 4);
+    if begins != SERIES_BEGINS {
+        return false;
+    }
+    if ends != SERIES_ENDS {
         return false;
     }
     if two(s, at + 12) != version {
@@ -184,7 +189,17 @@ fn check_fields(
     p
 }
 
-// n objects of a declared type.
+// Whether a null stands at a place.
+fn null_at(s: &[u8], at: usize) -> bool
+    ensures { λ r. ⌜ r ≡ (ltb at (length (now (s .entry))) && eqb (getD (now (s .entry)) at 0) 0) ⌝ }
+{
+    if at < s.len() {
+        return s[at] == 0;
+    }
+    false
+}
+
+// n objects of a declared type. A null is passed without a call.
 fn check_objects(
     s: &[u8],
     at: usize,
@@ -200,6 +215,11 @@ fn check_objects(
     let mut p = at;
     let mut k: usize = 0;
     while k < n {
+        if null_at(s, p) {
+            p += 1;
+            k += 1;
+            continue;
+        }
         let r = check_object(s, p, table, version, deep, declared);
         if FAULT <= r {
             return r;

@@ -3,13 +3,12 @@ use mathlib.Core.Path.{_≡_, refl, sym, ap, _∙_}
 use mathlib.Core.List.{List, [], _∷_, _++_, append-nil, append-assoc}
 use Prim.Native.Nat.{ℕ, _+_, _<_, min}
 use native.Mathlib.Numerals.{add-one}
-use native.Mathlib.Omega.{arith}
-use native.Mathlib.Decide.{decLe}
 use lib.IntN.{ℤ, pos}
 use lib.ListN.{length, take, getD}
-use lib.Seq.{take-suc, take-all}
+use lib.Seq.{take-suc}
 use Rattle.text.specs.Text.{signedDecimal}
 use Rattle.lmcp_list.specs.Lines.{spaced}
+use Rattle.text.proofs.BodyNumbers.{take-least}
 
 spaced-append : (a b : List ℤ) → spaced (a ++ b) ≡ spaced a ++ spaced b
 spaced-append [] b = refl
@@ -25,11 +24,5 @@ spaced-turn s i h =
     ∙ ap spaced (let e : take i s ++ getD s i (pos 0) ∷ [] ≡ take (i + 1) s = rw (add-one i) (sym (take-suc s i (pos 0) h)) in e)
 
 -- all that there are
-pub take-least : (s : List ℤ) (n k : ℕ) → k ≡ min n (length s) → take k s ≡ take n s
-take-least s n k e = elim (decLe n (length s)) [
-  | yes h ↦ ap (λ (j : ℕ). take j s) (let z : k ≡ n = omega arith in z)
-  | no h ↦ take-all k s (omega arith) ∙ sym (take-all n s (omega arith))
-]
-
 pub spaced-least : (s : List ℤ) (n k : ℕ) → k ≡ min n (length s) → spaced (take k s) ≡ spaced (take n s)
 spaced-least s n k e = ap spaced (take-least s n k e)

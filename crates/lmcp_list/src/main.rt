@@ -2,8 +2,12 @@
 // or its refusal.
 ghost use Prim.Native.Nat.{_≤_};
 ghost use lib.ListN.{take, length};
+ghost use Rattle.wire.specs.Slices.{buffer};
+ghost use Rattle.stream.specs.declared.Kind.the-variants.{Bytes4};
 ghost use Rattle.output.specs.Output.{Pours, lineLimit};
-ghost use Rattle.lmcp_list.specs.Lines.{spaced, foundText, line, Listed};
+ghost use Rattle.record_lines.specs.Lines.{Tells};
+ghost use Rattle.lmcp_list.specs.Lines.{spaced, lines, Listed};
+ghost use Rattle.lmcp_list.specs.Inside.{foundText, foundLine};
 use lmcp::Found;
 use stream::Input;
 use stream::Kind;
@@ -41,7 +45,7 @@ fn pour_found(out: &mut [u8], at: usize, list: &[i64], found: Found) -> usize
 
 // Line n.
 fn pour_line(out: &mut [u8], at: usize, n: u64, list: &[i64], found: Found) -> usize
-    ensures { λ r. ⌜ Pours (now (out .entry)) at (line n (now (list .entry)) found) (now (out .exit)) r ⌝ }
+    ensures { λ r. ⌜ Pours (now (out .entry)) at (foundLine n (now (list .entry)) found) (now (out .exit)) r ⌝ }
 {
     let a = output::pour_decimal(out, at, n);
     let b = pour_found(out, a, list, found);
@@ -56,23 +60,27 @@ fn one_more(out: &mut [u8], at: usize, n: u64, list: &mut [i64], message: &[u8])
     pour_line(out, at, n, list, found)
 }
 
-// One line a message, and the last line.
-fn run(buf: &mut [u8], list: &mut [i64], out: &mut [u8])
+// One line a message of the input, and the last line. Answers whether the system took all of them; it stops where it did not.
+fn run(buf: &mut [u8], input: Input, list: &mut [i64], out: &mut [u8]) -> bool
     requires { ⌜ lineLimit ≤ length (now out) ⌝ }
+    ensures { λ r. ⌜ Tells Bytes4 (lines (length (now (list .entry)))) (now (buf .entry)) input (buffer out) 0 r ⌝ }
 {
-    let mut input = Input { at: 0, end: 0 };
+    let mut rest = input;
     let mut at: usize = 0;
     let mut n: u64 = 0;
     while n < stream::MANY {
-        let next = stream::next_record(buf, input, Kind::Bytes4);
+        let next = stream::next_record(buf, rest, Kind::Bytes4);
         let Next::Record(from, len, left) = next else {
-            output::finish(out, at, n, next);
-            return;
+            return output::finish(out, at, n, next);
         };
         n += 1;
-        input = left;
+        rest = left;
         at = one_more(out, at, n, list, wire::part(buf, from, len));
+        if at == output::CLOSED {
+            return false;
+        }
     }
+    output::finish(out, at, n, Next::Cut)
 }
 
 // The buffer holds more than the longest message, so that a longer one is refused by its front.
@@ -82,5 +90,5 @@ fn main() {
     let mut buf = [0u8; BUFFER];
     let mut list = [0i64; NUMBERS];
     let mut out = [0u8; output::HOLDS];
-    run(&mut buf, &mut list, &mut out);
+    run(&mut buf, Input { at: 0, end: 0 }, &mut list, &mut out);
 }

@@ -3,16 +3,13 @@ use mathlib.Core.Path.{_≡_, ap, sym, _∙_, subst}
 use Prim.Native.Nat.{ℕ, _+_, _-_, _*_, _^_, _≤_, _<_, min}
 use native.Mathlib.Nat.{pow-le-pow-right}
 use native.Mathlib.Omega.{arith}
-use lib.IntN.{ℤ, pos, negsuc, _-ℤ_}
+use lib.IntN.{ℤ, negsuc, _-ℤ_}
 use lib.Pow.{pow-mono}
 use mir.Syntax.{w64}
 use mir.Val.{toZ, ofZ, SFits}
 use mir.ValLaws.{toZ-pos, toZ-ofZ}
-use borrow.Author.Tests.{eq-eqb, ne-eqb}
 use Rattle.wire.specs.Signed.{signed}
 use Rattle.wire.proofs.Signs.{halves, signed-low, toZ-signed, wider-high, from-end, from-end-fits}
-use Rattle.lmcp.specs.Table.{signedKind}
-use Rattle.lmcp.specs.Value.{numberOf}
 use Rattle.lmcp.proofs.Values.{pow-bytes}
 
 -- ---- a signed number that went through its bits
@@ -64,12 +61,3 @@ module _ (w v : ℕ) (least : 1 ≤ w) (most : w ≤ 8) (small : v < 256 ^ w) (h
   high-fits l =
       let f = far-is l in
       subst (λ (n : ℕ). SFits w64 (negsuc 0 -ℤ toZ w64 n)) (f .1 .1) (from-end-fits w64 far (f .0) (f .1 .0))
-
-module _ (k w v : ℕ) where
-  pub number-signed : k ≡ signedKind → numberOf k w v ≡ signed (8 * w) v
-  unfolding numberOf
-  number-signed e = simp (eq-eqb k signedKind e)
-
-  pub number-plain : (k ≡ signedKind → ⊥) → numberOf k w v ≡ pos v
-  unfolding numberOf
-  number-plain e = simp (ne-eqb k signedKind e)

@@ -24,7 +24,8 @@ use Rattle.lmcp.proofs.WalkPlaces.{run-is}
 use Rattle.lmcp_check.specs.Refusal.{refusalOf}
 use Rattle.lmcp_check.specs.InsideSteps.{readObject, readRoot}
 use Rattle.lmcp_check.proofs.Roots.{frame-within}
-use Rattle.lmcp_reader.specs.InsidePuts.{Ahead, Lays, Rooms}
+use Rattle.lmcp.specs.InsideAhead.{Lays}
+use Rattle.lmcp_reader.specs.InsidePuts.{Ahead, Rooms}
 use Rattle.lmcp_reader.proofs.Counts.{few-numbers}
 
 no : {A : Type 0} {zs : List ℤ} {r : List ℕ} {n : ℕ} → _≡_ {A = Read} (refused n) (got zs r) → A
@@ -47,37 +48,37 @@ root-got v s zs r e = by (isNull (readHead (pitsurv v) deepest 0 s)) e
     by false q = q
 
 module _ (v : ℕ) (s : List ℕ) (h : Ahead (whole (readRoot v s)) 1) where
-  numbers : readObject v deepest 0 s ≡ got (h .zs) []
-  numbers = root-got v s (h .zs) [] (whole-got (readRoot v s) (h .zs) (h .rest) (h .is))
+  numbers : readObject v deepest 0 s ≡ got (h .ys) []
+  numbers = root-got v s (h .ys) [] (whole-got (readRoot v s) (h .ys) (h .rest) (h .is))
 
   pub root-ahead : Ahead (readObject v deepest 0 s) 1
-  root-ahead = record { zs = h .zs; rest = []; is = numbers; room = h .room }
+  root-ahead = record { ys = h .ys; rest = []; is = numbers; fits = h .fits; small = h .small }
 
   module _ (list : List ℤ) where
     abbrev Answer : Found → List ℤ → Type 0
     Answer = ReadTo (prepend (pos v ∷ []) (whole (readRoot v s))) list
 
-    reads : prepend (pos v ∷ []) (whole (readRoot v s)) ≡ got (pos v ∷ h .zs) (h .rest)
+    reads : prepend (pos v ∷ []) (whole (readRoot v s)) ≡ got (pos v ∷ h .ys) (h .rest)
     unfolding prepend
     reads = ap (prepend (pos v ∷ [])) (h .is)
 
     module _ (b : Bool) (room : Rooms (readObject v deepest 0 s) (length list) b) where
-      is : b ≡ leb (suc (length (h .zs))) (length list)
-      is = room (h .zs) [] numbers
+      is : b ≡ leb (suc (length (h .ys))) (length list)
+      is = room (h .ys) [] numbers
 
       pub list-short : b ≡ false → Answer (Refused 13) list
       unfolding found listed
       list-short z =
-          let q : leb (suc (length (h .zs))) (length list) ≡ false = sym is ∙ z in
+          let q : leb (suc (length (h .ys))) (length list) ≡ false = sym is ∙ z in
           rw reads (record { gave = simp q; left = simp q })
 
       pub list-good : b ≡ true → (l1 : List ℤ) → l1 ≡ set list 0 (pos v) → (p n : ℕ) (after : List ℤ) → Lays s l1 1 (readObject v deepest 0 s) p n after → Answer (Numbers n) after
       unfolding found listed
       list-good z l1 o p n after g =
-          let q : leb (suc (length (h .zs))) (length list) ≡ true = sym is ∙ z in
-          let x : got (g .ys) (drop p s) ≡ got (h .zs) [] = sym (run-is g) ∙ numbers in
-          let a : g .ys ≡ h .zs = cc in
-          let m : n ≡ suc (length (h .zs)) = omega (arith, g .place, ap length a) in
+          let q : leb (suc (length (h .ys))) (length list) ≡ true = sym is ∙ z in
+          let x : got (g .ys) (drop p s) ≡ got (h .ys) [] = sym (run-is g) ∙ numbers in
+          let a : g .ys ≡ h .ys = cc in
+          let m : n ≡ suc (length (h .ys)) = omega (arith, g .place, ap length a) in
           rw reads
           (record {
             gave = simp q (ap Numbers m);
@@ -128,7 +129,7 @@ module _ (m : List ℕ) (e : 0 ≡ refusalOf (readList m)) where
   within : (zs : List ℤ) (r : List ℕ) → X ≡ got zs r → frame m ≡ 0 → Ahead X 1
   within zs r q f =
       let k = few-numbers v deepest 0 (rootOf m) (root-got v (rootOf m) zs [] (whole-got (readRoot v (rootOf m)) zs r q)) in
-      record { zs = zs; rest = r; is = q; room = omega (arith, k, short, frame-within m f .1) }
+      record { ys = zs; rest = r; is = q; fits = omega (arith, k, short, frame-within m f .1); small = omega arith }
 
   inner : (b : Bool) → eqb (frame m) 0 ≡ b → (Y : Read) → X ≡ Y → readList m ≡ prepend (pos v ∷ []) (pick b X (refused (frame m))) → Good m
   unfolding prepend

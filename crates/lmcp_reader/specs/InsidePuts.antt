@@ -2,7 +2,7 @@
 use mathlib.Core.Path.{_≡_}
 use mathlib.Core.Bool.{Bool}
 use mathlib.Core.List.{List, [], _∷_}
-use Prim.Native.Nat.{ℕ, zero, suc, _+_, _≤_}
+use Prim.Native.Nat.{ℕ, zero, suc}
 use lib.IntN.{ℤ, pos}
 use lib.ListN.{length, drop}
 use lib.Dec.{leb, eqb}
@@ -11,21 +11,11 @@ use Rattle.wire.specs.Bytes.{be}
 use Rattle.wire.specs.Signed.{signed}
 use Rattle.lmcp.specs.Run.{got}
 use Rattle.lmcp.specs.Read.{Read}
-use Rattle.lmcp.specs.Ends.{Sofar}
+use Rattle.lmcp.specs.InsideAhead.{Ahead as AheadIn}
 
 -- W is not refused, and the place after its numbers, of which the first goes to q, is one that can be counted
-pub record Ahead (W : Read) (q : ℕ) : Type 0 where
-  pub zs : List ℤ
-  pub rest : List ℕ
-  pub is : W ≡ got zs rest
-  pub room : q + length zs ≤ 4294967296
-
-abbrev pub Few0 : ℕ → ℕ → Type 0
-Few0 to at = Unit
-
--- all of W is laid from `to` on
-abbrev pub Lays : List ℕ → List ℤ → ℕ → Read → ℕ → ℕ → List ℤ → Type 0
-Lays s list to W p q list' = Sofar Few0 s list to W (got []) p q list'
+abbrev pub Ahead : Read → ℕ → Type 0
+Ahead W q = AheadIn W q 4294967296
 
 -- the number of a code at the front of bytes
 abbrev pub coded : ℕ → List ℕ → ℤ

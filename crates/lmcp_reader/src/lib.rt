@@ -13,11 +13,12 @@ ghost use Rattle.lmcp.specs.Run.{repeat, prepend, whole};
 ghost use Rattle.lmcp.specs.Table.{fieldsOf, rowsOf, pitsurv};
 ghost use Rattle.lmcp.specs.Packed.{cell};
 ghost use Rattle.lmcp.specs.InsidePacked.{widthOf};
+ghost use Rattle.lmcp.specs.InsideAhead.{Lays};
 ghost use Rattle.lmcp.specs.Message.{ReadTo};
 ghost use Rattle.lmcp.specs.Lists.{readList};
 ghost use Rattle.lmcp_check.specs.InsideSteps.{readObject, readRow, readFields, readRoot};
 ghost use Rattle.lmcp_check.specs.InsideChecks.{Lent};
-ghost use Rattle.lmcp_reader.specs.InsidePuts.{Ahead, Lays, Rooms, coded, codedAll};
+ghost use Rattle.lmcp_reader.specs.InsidePuts.{Ahead, Rooms, coded, codedAll};
 
 // Where the walk stands, in the bytes and in the list.
 struct Spot {
@@ -196,7 +197,7 @@ fn put_fields(
     Spot { p: a, q: b }
 }
 
-// n objects of a declared type.
+// n objects of a declared type. A null is laid without a call.
 fn put_objects(
     s: &[u8],
     p: usize,
@@ -215,6 +216,13 @@ fn put_objects(
     let mut b = q;
     let mut k: usize = 0;
     while k < n {
+        if s[a] == 0 {
+            put(list, b, 0);
+            a += 1;
+            b += 1;
+            k += 1;
+            continue;
+        }
         let r = put_object(s, a, b, table, version, deep, declared, list);
         a = r.p;
         b = r.q;

@@ -19,7 +19,7 @@ use Rattle.lmcp.specs.Limits.{maxMessage}
 use Rattle.lmcp.specs.Run.{got, refused, whole}
 use Rattle.lmcp.specs.Table.{pitsurv}
 use Rattle.lmcp.specs.Write.{Write}
-use Rattle.lmcp.specs.Ends.{Sofar, Few15}
+use Rattle.lmcp.specs.Ends.{begun, Sofar, Few15}
 use Rattle.lmcp.specs.Message.{checksumOf, headOn, messageOn, framed, writeMessage}
 use Rattle.lmcp.specs.Lists.{isVersion, writeList}
 use Rattle.lmcp.proofs.WalkPlaces.{run-left, run-done, empty}
@@ -41,7 +41,7 @@ module _ (v : ℕ) (l : List ℤ) where
   unfolding writeMessage framed whole
   answer-stopped k e calculate = sym (ap (λ (X : Write). sized (framed calculate (whole X))) e)
 
-  module _ (at e : ℕ) (h : Sofar Few15 l [] 8 (writeRoot v l) (got []) at e []) where
+  module _ (at e : ℕ) (h : Sofar Few15 (begun l [] 8) (writeRoot v l) (got []) at e []) where
     pub answer-left : (at ≡ length l → ⊥) → Answer (Refused 28)
     unfolding writeMessage framed
     answer-left d calculate = sym (ap (λ (X : Write). sized (framed calculate X)) (run-left h d))

@@ -1,5 +1,5 @@
 pub mod Answers
-pub mod Cases
+pub mod WriteCases
 pub mod Once
 pub mod Rows
 pub mod Weighs

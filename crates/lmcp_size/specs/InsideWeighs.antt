@@ -10,7 +10,7 @@ use Rattle.lmcp.specs.Run.{Tag}
 use Rattle.lmcp.specs.Write.{Write}
 use Rattle.lmcp.specs.Table.{signedKind}
 use Rattle.lmcp.specs.Packed.{packedOf}
-use Rattle.lmcp.specs.Ends.{EndsBy, MarksBy, Few15}
+use Rattle.lmcp.specs.Ends.{begun, EndsBy, MarksBy, Few15}
 
 -- the bytes of a number or a count
 pub data Wide : ℕ → Type 0 where
@@ -26,11 +26,11 @@ pub record Ranges (kind w : ℕ) : Type 0 where
 
 -- the walk over no output: all of W is got, its bytes counted from `to` on, or it is refused
 abbrev pub Weighs : List ℤ → ℕ → Write → Went → Type 0
-Weighs list to W r = EndsBy Few15 list [] to W r []
+Weighs list to W r = EndsBy Few15 (begun list [] to) W r []
 
 -- the same of a count or a type
 abbrev pub Tells : List ℤ → ℕ → Tag ℤ ℕ → Mark → Type 0
-Tells list to X r = MarksBy Few15 list [] to X r []
+Tells list to X r = MarksBy Few15 (begun list [] to) X r []
 
 -- what every function of the walk supposes: its two places, and the table of the version
 pub record Stands (list : List ℤ) (at to : ℕ) (table : List (List ℕ)) (v : ℕ) : Type 0 where

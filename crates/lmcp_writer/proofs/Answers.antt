@@ -28,7 +28,9 @@ use Rattle.lmcp.proofs.WalkPlaces.{run-is}
 use Rattle.lmcp_size.specs.Size.{sized}
 use Rattle.lmcp_size.specs.InsideSteps.{writeObject, writeRoot}
 use Rattle.lmcp_size.proofs.Answers.{message-length, list-version}
-use Rattle.lmcp_writer.specs.InsidePuts.{Ahead, Lays, Laid}
+use Rattle.lmcp.specs.InsideAhead.{Ahead, Lays}
+use Rattle.lmcp_writer.specs.InsidePuts.{Laid}
+use Rattle.lmcp_writer.proofs.Puts.{no}
 
 head-length : (bs : List ℕ) (e : ℕ) → e ≡ 8 + length bs → length (headOn bs) ≡ e
 head-length bs e h = simp (length-append, length-bytes) (omega arith)
@@ -90,9 +92,6 @@ answer-good (got m r) out after n e h f =
 answer-good (refused k) out after n e h f = unlike e
 
 -- ---- a list of which nothing is wrong
-
-no : {A : Type 0} {n : ℕ} {ys : List ℕ} {m : List ℤ} → _≡_ {A = Write} (refused n) (got ys m) → A
-no e = absurd (let z : _≡_ {A = ℕ} 0 1 = cc in omega arith)
 
 -- a list, of which a message is written, begins with its version
 pub some-list : (calculate : Bool) (l : List ℤ) (n : ℕ) → Wrote n ≡ sized (writeList calculate l) → (length l ≡ 0 → ⊥) × (isVersion (getD l 0 (pos 0)) ≡ true)
@@ -166,7 +165,7 @@ module _ (calculate : Bool) (l : List ℤ) (n : ℕ) (e : Wrote n ≡ sized (wri
   root-of = rooted-of v rest calculate n (e ∙ ap sized same)
 
   pub root-ahead : Ahead (writeObject v 16 0 rest) 8 (n - 4)
-  root-ahead = record { bs = root-of .bs; rest = []; is = root-of .is; fits = omega (arith, root-of .long); small = omega (arith, root-of .most) }
+  root-ahead = record { ys = root-of .bs; rest = []; is = root-of .is; fits = omega (arith, root-of .long); small = omega (arith, root-of .most) }
 
   pub list-good : (out after : List ℕ) → n ≤ length out → Laid v rest calculate (n - 4) out after → WrittenTo (writeList calculate l) out (Wrote n) after
   list-good out after h laid =

@@ -1,4 +1,4 @@
 pub mod Answers
-pub mod Cases
+pub mod NumberBytes
 pub mod Puts
 pub mod Widths

@@ -1,7 +1,7 @@
 -- The walk that writes: what is not refused as a whole is refused nowhere, and each step lays what it makes. Assumes nothing.
 use mathlib.Core.Path.{_≡_, refl, ap, sym, _∙_, subst}
 use mathlib.Core.Bool.{Bool, true, false}
-use mathlib.Core.List.{List, [], _∷_, _++_, append-nil}
+use mathlib.Core.List.{List, [], _∷_, append-nil}
 use Prim.Native.Nat.{ℕ, zero, suc, _+_, _-_, _*_, _^_, _≤_, _<_}
 use native.Mathlib.Omega.{arith}
 use native.Mathlib.Nat.{suc-mul}
@@ -17,104 +17,27 @@ use Rattle.wire.specs.Signed.{unsigned}
 use Rattle.wire.proofs.Choices.{never, pick-all}
 use Rattle.wire.proofs.Numbers.{length-bytes}
 use Rattle.lmcp.specs.declared.Row.{Row}
-use Rattle.lmcp.specs.declared.Went.the-variants.{To}
 use Rattle.lmcp.specs.Run.{got, refused, Tag, tag, bad, prepend, andThen, after, repeat}
+use Rattle.lmcp.specs.Walk.{Way}
+use Rattle.lmcp.specs.InsideAhead.{Few0, Ahead, Lays}
 use Rattle.lmcp.specs.Table.{rowsOf, fieldsOf, nothing, pitsurv}
 use Rattle.lmcp.specs.Packed.{packedOf, cell}
 use Rattle.lmcp.specs.Value.{below, fits, denial}
 use Rattle.lmcp.specs.Write.{Write, writing, writeValue, writeCount, header, typedBy, writeHead}
-use Rattle.lmcp.proofs.WalkPlaces.{run-is, made, marked-then, same-run, inside, object-is, inside-null, inside-fields}
+use Rattle.lmcp.proofs.WalkPlaces.{made}
+use Rattle.lmcp.proofs.RunParts.{then-got}
+use Rattle.lmcp.proofs.Aheads.{ahead-as, laid-as, ahead-tag, after-ahead, after-laid, ObjectAt, its-head, null-fits, lays-null, some-fits, lays-some}
+use Rattle.lmcp.proofs.RowWays.{Here, one-object, many-values, many-objects, chars}
 use Rattle.lmcp.proofs.Heads.{Some, header-length, typed-least, typedBy-mag, write-some}
 use Rattle.lmcp_size.specs.InsideSteps.{writeObject, writeRow, writeFields}
-use Rattle.lmcp_size.proofs.Cases.{here, wide-some}
-use Rattle.lmcp_size.proofs.Rows.{Here, widths, one-object, many-values, many-objects, chars}
-use Rattle.lmcp_writer.specs.InsidePuts.{Ahead, Few0, Lays, spelled}
-use Rattle.lmcp_writer.proofs.Cases.{low-bytes}
-
--- ---- what is got of two is got of each
-
-pub record Thens (X : Write) (k : List ℤ → Write) (zs : List ℕ) (r : List ℤ) : Type 0 where
-  pub ys : List ℕ
-  pub mid : List ℤ
-  pub more : List ℕ
-  pub first : X ≡ got ys mid
-  pub then : k mid ≡ got more r
-  pub all : zs ≡ ys ++ more
-
-over : (ys : List ℕ) (m : List ℤ) (X : Write) (k : List ℤ → Write) (Y : Write) (zs : List ℕ) (r : List ℤ) → X ≡ got ys m → k m ≡ Y → prepend ys Y ≡ got zs r → Thens X k zs r
-unfolding prepend
-over ys m X k (got more q) zs r x e p =
-    let a : zs ≡ ys ++ more = cc in
-    let b : q ≡ r = cc in
-    record { ys = ys; mid = m; more = more; first = x; then = e ∙ ap (got more) b; all = a }
-over ys m X k (refused n) zs r x e p = absurd (let z : _≡_ {A = ℕ} 0 1 = cc in omega arith)
-
-then-got : (X : Write) (k : List ℤ → Write) (zs : List ℕ) (r : List ℤ) → andThen X k ≡ got zs r → Thens X k zs r
-unfolding andThen
-then-got (got ys m) k zs r e = over ys m (got ys m) k (k m) zs r refl refl e
-then-got (refused n) k zs r e = absurd (let z : _≡_ {A = ℕ} 0 1 = cc in omega arith)
-
-pub record Afters (X : Tag ℤ ℕ) (k : ℕ → List ℤ → Write) (zs : List ℕ) (r : List ℤ) : Type 0 where
-  pub number : ℕ
-  pub ys : List ℕ
-  pub mid : List ℤ
-  pub more : List ℕ
-  pub first : X ≡ tag number ys mid
-  pub then : k number mid ≡ got more r
-  pub all : zs ≡ ys ++ more
-
-after-got : (X : Tag ℤ ℕ) (k : ℕ → List ℤ → Write) (zs : List ℕ) (r : List ℤ) → after X k ≡ got zs r → Afters X k zs r
-unfolding after
-after-got (tag n ys m) k zs r e =
-    let t = over ys m (got ys m) (k n) (k n m) zs r refl refl e in
-    let a : ys ≡ t .ys = cc (t .first) in
-    let b : m ≡ t .mid = cc (t .first) in
-    record { number = n; ys = ys; mid = m; more = t .more; first = refl; then = ap (k n) b ∙ t .then; all = t .all ∙ ap (λ (l : List ℕ). l ++ t .more) (sym a) }
-after-got (bad n) k zs r e = absurd (let z : _≡_ {A = ℕ} 0 1 = cc in omega arith)
-
-pub ahead-as : {X Y : Write} {q room : ℕ} → X ≡ Y → Ahead X q room → Ahead Y q room
-ahead-as {X} {Y} {q} {room} e h = subst (λ (Z : Write). Ahead Z q room) e h
-
-pub ahead-in : {X : Write} {q room room' : ℕ} → room ≡ room' → Ahead X q room → Ahead X q room'
-ahead-in {X} {q} {room} {room'} e h = subst (Ahead X q) e h
-
-pub ahead-more : {X : Write} {q room room' : ℕ} → room ≤ room' → room' < 18446744073709551616 → Ahead X q room → Ahead X q room'
-ahead-more l m h = record { bs = h .bs; rest = h .rest; is = h .is; fits = omega (arith, h .fits); small = m }
-
-module _ (Y : Write) (k : List ℤ → Write) {q room : ℕ} (h : Ahead (andThen Y k) q room) where
-  pub ahead-first : Ahead Y q room
-  ahead-first =
-      let t = then-got Y k (h .bs) (h .rest) (h .is) in
-      record { bs = t .ys; rest = t .mid; is = t .first; fits = omega (arith, h .fits, simp length-append at (ap length (t .all))); small = h .small }
-
-  pub ahead-next : {s : List ℤ} {out : List ℕ} {p' q' : ℕ} {out' : List ℕ} → Lays s out q Y p' q' out' → Ahead (k (drop p' s)) q' room
-  ahead-next {s} {out} {p'} {q'} {out'} g =
-      let t = then-got Y k (h .bs) (h .rest) (h .is) in
-      let w : Y ≡ got (g .ys) (drop p' s) = run-is g in
-      let x : got (t .ys) (t .mid) ≡ got (g .ys) (drop p' s) = sym (t .first) ∙ w in
-      let a : t .ys ≡ g .ys = cc in
-      let b : t .mid ≡ drop p' s = cc in
-      record { bs = t .more; rest = h .rest; is = ap k (sym b) ∙ t .then; fits = omega (arith, h .fits, simp length-append at (ap length (t .all)), ap length a, g .place); small = h .small }
-
--- a count or a head laid, then what follows it
-module _ (s : List ℤ) {X : Tag ℤ ℕ} (k : ℕ → List ℤ → Write) (n : ℕ) (ys : List ℕ) (p : ℕ) (e : X ≡ tag n ys (drop p s)) where
-  after-ahead : {q room : ℕ} → Ahead (after X k) q room → (q + length ys ≤ room) × Ahead (k n (drop p s)) (q + length ys) room
-  after-ahead {q} {room} h =
-      let t = after-got X k (h .bs) (h .rest) (h .is) in
-      let x : tag n ys (drop p s) ≡ tag (t .number) (t .ys) (t .mid) = sym e ∙ t .first in
-      let a : t .number ≡ n = cc in
-      let b : t .ys ≡ ys = cc in
-      let d : t .mid ≡ drop p s = cc in
-      let y : k (t .number) (t .mid) ≡ k n (drop p s) = ap (λ (j : ℕ). k j (t .mid)) a ∙ ap (k n) d in
-      let z : length (h .bs) ≡ length ys + length (t .more) = ap length (t .all) ∙ ap (λ (u : List ℕ). length (u ++ t .more)) b ∙ length-append ys (t .more) in
-      (omega (arith, h .fits, z), record { bs = t .more; rest = h .rest; is = sym y ∙ t .then; fits = omega (arith, h .fits, z); small = h .small })
-
-  after-laid : {q : ℕ} {out o1 : List ℕ} {q1 : ℕ} → p ≤ length s → o1 ≡ sets out q ys → q1 ≡ q + length ys → (p' q' : ℕ) (out' : List ℕ) → Lays s o1 q1 (k n (drop p s)) p' q' out' → Lays s out q (after X k) p' q' out'
-  after-laid w o f p' q' out' g = marked-then {Few = Few0} (record { ys = ys; whole = e; laid = o; place = f; fewer = tt; within = w }) k (To p' q') out' g
+use Rattle.lmcp_size.proofs.WriteCases.{here, wide-some}
+use Rattle.lmcp_size.proofs.Rows.{widths}
+use Rattle.lmcp_writer.specs.InsidePuts.{spelled}
+use Rattle.lmcp_writer.proofs.NumberBytes.{low-bytes}
 
 -- ---- values
 
-no : {A : Type 0} {n : ℕ} {ys : List ℕ} {m : List ℤ} → _≡_ {A = Write} (refused n) (got ys m) → A
+pub no : {A : Type 0} {n : ℕ} {ys : List ℕ} {m : List ℤ} → _≡_ {A = Write} (refused n) (got ys m) → A
 no e = absurd (let z : _≡_ {A = ℕ} 0 1 = cc in omega arith)
 
 value-fine : (k w : ℕ) → w ≤ 8 → (z : ℤ) (r : List ℤ) (ys : List ℕ) (m : List ℤ) → writeValue k w (z ∷ r) ≡ got ys m → writeValue k w (z ∷ r) ≡ got (bytes w (unsigned 64 z)) r
@@ -156,9 +79,9 @@ module _ (k w : ℕ) (small : w ≤ 8) where
 
   many : (n : ℕ) (s : List ℤ) (at q room : ℕ) → at ≤ length s → Ahead (repeat n (writeValue k w) (drop at s)) q room → Many n s at q room
   many n s at q room i a =
-      let y = values-fine n (drop at s) (a .bs) (a .rest) (a .is) in
-      let x : got (a .bs) (a .rest) ≡ got (spelled n w (drop at s)) (drop n (drop at s)) = sym (a .is) ∙ y .1 in
-      let b : a .bs ≡ spelled n w (drop at s) = cc in
+      let y = values-fine n (drop at s) (a .ys) (a .rest) (a .is) in
+      let x : got (a .ys) (a .rest) ≡ got (spelled n w (drop at s)) (drop n (drop at s)) = sym (a .is) ∙ y .1 in
+      let b : a .ys ≡ spelled n w (drop at s) = cc in
       let l = length-spelled n w (drop at s) (y .0) in
       record { enough = omega (arith, y .0, length-drop at s, i); fits = omega (arith, a .fits, ap length b, l); are = y .1 ∙ ap (got (spelled n w (drop at s))) (drop-drop n at s); long = l }
 
@@ -258,14 +181,14 @@ module _ {v d i : ℕ} {s : List ℤ} {at q room : ℕ} (P : Placed v d i s at q
   -- no count
   module _ (z : H .count ≡ 0) where
     pub object-ahead : H .code ≡ 6 → Ahead (writeObject v d (H .arg) (drop at s)) q room
-    object-ahead k = ahead-as (one-object H d z k (drop at s)) (P .ahead)
+    object-ahead k = ahead-as (one-object H writing d z k (drop at s)) (P .ahead)
 
     pub object-laid : H .code ≡ 6 → {out : List ℕ} (p' q' : ℕ) (out' : List ℕ) → Lays s out q (writeObject v d (H .arg) (drop at s)) p' q' out' → Lays s out q Writes p' q' out'
-    object-laid k {out} p' q' out' g = same-run Few0 s out q (To p' q') out' (one-object H d z k (drop at s)) g
+    object-laid k {out} p' q' out' g = laid-as p' q' out' (one-object H writing d z k (drop at s)) g
 
     module _ (k : H .code ≡ 6 → ⊥) (n : ℕ) (ns : n ≡ cell (packedOf v) i 1) where
       same : Writes ≡ repeat n (writeValue (f .kind) (H .arg)) (drop at s)
-      same = many-values H d z k n ns (drop at s)
+      same = many-values H writing d z k n ns (drop at s)
 
       values : Many (f .kind) (H .arg) (small k) n s at q room
       values = many (f .kind) (H .arg) (small k) n s at q room (P .within) (ahead-as same (P .ahead))
@@ -274,7 +197,7 @@ module _ {v d i : ℕ} {s : List ℤ} {at q room : ℕ} (P : Placed v d i s at q
       values-room = (values .enough, values .fits)
 
       pub values-laid : {out : List ℕ} (out' : List ℕ) → out' ≡ sets out q (spelled n (H .arg) (drop at s)) → Lays s out q Writes (at + n) (q + n * H .arg) out'
-      values-laid {out} out' o = same-run Few0 s out q (To (at + n) (q + n * H .arg)) out' same (many-laid (f .kind) (H .arg) (small k) n s at q room values out' o)
+      values-laid {out} out' o = laid-as (at + n) (q + n * H .arg) out' same (many-laid (f .kind) (H .arg) (small k) n s at q room values out' o)
 
       -- one value
       module _ (e : n ≡ 1) where
@@ -299,7 +222,7 @@ module _ {v d i : ℕ} {s : List ℤ} {at q room : ℕ} (P : Placed v d i s at q
 
     counted : Counted (H .count) s at
     counted =
-        let t = after-got (writeCount (H .count) (drop at s)) K (opened .bs) (opened .rest) (opened .is) in
+        let t = ahead-tag opened in
         count-fine (H .count) s at (P .within) (t .number) (t .ys) (t .mid) (t .first)
 
     module _ (n : ℕ) (ns : n ≡ mag (getD s at (pos 0))) where
@@ -315,22 +238,22 @@ module _ {v d i : ℕ} {s : List ℤ} {at q room : ℕ} (P : Placed v d i s at q
       pub items-laid : {out o1 : List ℕ} → o1 ≡ sets out q (bytes (H .count) n) → (p' q' : ℕ) (out' : List ℕ) → Lays s o1 (q + H .count) (K n (drop (at + 1) s)) p' q' out' → Lays s out q Writes p' q' out'
       items-laid {out} o p' q' out' g =
           let w : at + 1 ≤ length s = omega (arith, counted .inside) in
-          same-run Few0 s out q (To p' q') out' is
+          laid-as p' q' out' is
           (after-laid s K n (bytes (H .count) n) (at + 1) tagged w o (ap (λ (j : ℕ). q + j) (sym (length-bytes (H .count) n))) p' q' out' g)
 
   pub count-inside : (H .count ≡ 0 → ⊥) → at < length s
   count-inside z = by (eqb (H .code) 6) refl
     where
       by : (b : Bool) → eqb (H .code) 6 ≡ b → at < length s
-      by true e = counted (λ n. repeat n (writeObject v d (H .arg))) (many-objects H d z (eqb-true (H .code) 6 e) (drop at s)) .inside
-      by false e = counted (λ n. repeat n (writeValue (f .kind) (H .arg))) (chars H d z (eqb-false (H .code) 6 e) (drop at s)) .inside
+      by true e = counted (λ n. repeat n (writeObject v d (H .arg))) (many-objects H writing d z (eqb-true (H .code) 6 e) (drop at s)) .inside
+      by false e = counted (λ n. repeat n (writeValue (f .kind) (H .arg))) (chars H writing d z (eqb-false (H .code) 6 e) (drop at s)) .inside
 
   pub count-room : (H .count ≡ 0 → ⊥) → q + H .count ≤ room
   count-room z = by (eqb (H .code) 6) refl
     where
       by : (b : Bool) → eqb (H .code) 6 ≡ b → q + H .count ≤ room
-      by true e = items-ahead (λ n. repeat n (writeObject v d (H .arg))) (many-objects H d z (eqb-true (H .code) 6 e) (drop at s)) (mag (getD s at (pos 0))) refl .0
-      by false e = items-ahead (λ n. repeat n (writeValue (f .kind) (H .arg))) (chars H d z (eqb-false (H .code) 6 e) (drop at s)) (mag (getD s at (pos 0))) refl .0
+      by true e = items-ahead (λ n. repeat n (writeObject v d (H .arg))) (many-objects H writing d z (eqb-true (H .code) 6 e) (drop at s)) (mag (getD s at (pos 0))) refl .0
+      by false e = items-ahead (λ n. repeat n (writeValue (f .kind) (H .arg))) (chars H writing d z (eqb-false (H .code) 6 e) (drop at s)) (mag (getD s at (pos 0))) refl .0
 
   module _ (z : H .count ≡ 0 → ⊥) (n : ℕ) (ns : n ≡ mag (getD s at (pos 0))) where
     module _ (k : H .code ≡ 6) where
@@ -338,10 +261,10 @@ module _ {v d i : ℕ} {s : List ℤ} {at q room : ℕ} (P : Placed v d i s at q
       Objects n = repeat n (writeObject v d (H .arg))
 
       pub objects-ahead : Ahead (repeat n (writeObject v d (H .arg)) (drop (at + 1) s)) (q + H .count) room
-      objects-ahead = items-ahead Objects (many-objects H d z k (drop at s)) n ns .1
+      objects-ahead = items-ahead Objects (many-objects H writing d z k (drop at s)) n ns .1
 
       pub objects-laid : {out o1 : List ℕ} → o1 ≡ sets out q (bytes (H .count) n) → (p' q' : ℕ) (out' : List ℕ) → Lays s o1 (q + H .count) (repeat n (writeObject v d (H .arg)) (drop (at + 1) s)) p' q' out' → Lays s out q Writes p' q' out'
-      objects-laid o p' q' out' g = items-laid Objects (many-objects H d z k (drop at s)) n ns o p' q' out' g
+      objects-laid o p' q' out' g = items-laid Objects (many-objects H writing d z k (drop at s)) n ns o p' q' out' g
 
     module _ (k : H .code ≡ 6 → ⊥) where
       abbrev Chars : ℕ → List ℤ → Write
@@ -350,34 +273,27 @@ module _ {v d i : ℕ} {s : List ℤ} {at q room : ℕ} (P : Placed v d i s at q
       texts : Many (f .kind) (H .arg) (small k) n s (at + 1) (q + H .count) room
       texts =
           let w : at + 1 ≤ length s = omega (arith, count-inside z) in
-          many (f .kind) (H .arg) (small k) n s (at + 1) (q + H .count) room w (items-ahead Chars (chars H d z k (drop at s)) n ns .1)
+          many (f .kind) (H .arg) (small k) n s (at + 1) (q + H .count) room w (items-ahead Chars (chars H writing d z k (drop at s)) n ns .1)
 
       pub chars-room : (at + 1 + n ≤ length s) × (q + H .count + n * H .arg ≤ room)
       chars-room = (texts .enough, texts .fits)
 
       pub chars-laid : {out o1 : List ℕ} → o1 ≡ sets out q (bytes (H .count) n) → (out' : List ℕ) → out' ≡ sets o1 (q + H .count) (spelled n (H .arg) (drop (at + 1) s)) → Lays s out q Writes (at + 1 + n) (q + H .count + n * H .arg) out'
       chars-laid o out' g =
-          items-laid Chars (chars H d z k (drop at s)) n ns o (at + 1 + n) (q + H .count + n * H .arg) out'
+          items-laid Chars (chars H writing d z k (drop at s)) n ns o (at + 1 + n) (q + H .count + n * H .arg) out'
           (many-laid (f .kind) (H .arg) (small k) n s (at + 1) (q + H .count) room texts out' g)
 
 -- ---- an object
 
--- an object of a declared type t at a place
-pub record Object (v d t : ℕ) (s : List ℤ) (at q room : ℕ) : Type 0 where
-  pub within : at ≤ length s
-  pub ahead : Ahead (writeObject v d t (drop at s)) q room
+abbrev pub Object : ℕ → ℕ → ℕ → List ℤ → ℕ → ℕ → ℕ → Type 0
+Object v = ObjectAt (writing (pitsurv v)) (pitsurv v)
 
 module _ {v d t : ℕ} {s : List ℤ} {at q room : ℕ} (P : Object v d t s at q room) where
-  abbrev Inside : ℕ → List ℤ → Write
-  Inside = inside (writing (pitsurv v)) (pitsurv v) d
-
-  opened-object : Ahead (after (writeHead (pitsurv v) d t (drop at s)) Inside) q room
-  opened-object = ahead-as (object-is (writing (pitsurv v)) (pitsurv v) d t (drop at s)) (P .ahead)
+  abbrev W : Way ℤ ℕ
+  W = writing (pitsurv v)
 
   head : Headed v d t s at
-  head =
-      let g = after-got (writeHead (pitsurv v) d t (drop at s)) Inside (opened-object .bs) (opened-object .rest) (opened-object .is) in
-      head-fine v d t s at (P .within) (g .number) (g .ys) (g .mid) (g .first)
+  head = let g = its-head W (pitsurv v) P in head-fine v d t s at (P .within) (g .number) (g .ys) (g .mid) (g .first)
 
   pub first-inside : at < length s
   first-inside = head .inside
@@ -388,14 +304,10 @@ module _ {v d t : ℕ} {s : List ℤ} {at q room : ℕ} (P : Object v d t s at q
       null-tag = head .null (sym ns ∙ z)
 
       pub null-room : q + 1 ≤ room
-      null-room = after-ahead s Inside 0 (0 ∷ []) (at + 1) null-tag opened-object .0
+      null-room = null-fits W (pitsurv v) P refl (0 ∷ []) (at + 1) null-tag
 
       pub null-laid : {out : List ℕ} (out' : List ℕ) → out' ≡ sets out q (0 ∷ []) → Lays s out q (writeObject v d t (drop at s)) (at + 1) (q + 1) out'
-      null-laid {out} out' o =
-          let w : at + 1 ≤ length s = omega (arith, first-inside) in
-          same-run Few0 s out q (To (at + 1) (q + 1)) out' (object-is (writing (pitsurv v)) (pitsurv v) d t (drop at s))
-          (after-laid s Inside 0 (0 ∷ []) (at + 1) null-tag w o refl (at + 1) (q + 1) out'
-          (made {Few = Few0} [] (at + 1) (q + 1) (inside-null (writing (pitsurv v)) (pitsurv v) d (drop (at + 1) s) refl) refl (let y : q + 1 ≡ q + 1 + 0 = omega arith in y) tt w))
+      null-laid out' o = lays-null W (pitsurv v) P refl (0 ∷ []) (at + 1) null-tag (omega (arith, first-inside)) (q + 1) out' o refl
 
     module _ (z : n ≡ 0 → ⊥) where
       some-tag : writeHead (pitsurv v) d t (drop at s) ≡ tag n (header (pitsurv v) n) (drop (at + 1) s)
@@ -410,15 +322,11 @@ module _ {v d t : ℕ} {s : List ℤ} {at q room : ℕ} (P : Object v d t s at q
       pub some-typed : n < 8
       some-typed = some .within
 
+      behind : q + 15 ≡ q + length (header (pitsurv v) n)
+      behind = ap (λ (j : ℕ). q + j) (sym (header-length (pitsurv v) n))
+
       pub some-ahead : (q + 15 ≤ room) × Ahead (writeFields v (d - 1) (fieldsOf (pitsurv v) n) (drop (at + 1) s)) (q + 15) room
-      some-ahead =
-          let a = after-ahead s Inside n (header (pitsurv v) n) (at + 1) some-tag opened-object in
-          let l = header-length (pitsurv v) n in
-          (omega (arith, a .0, l), ahead-as (inside-fields (writing (pitsurv v)) (pitsurv v) d n (drop (at + 1) s) some-deep) (subst (λ (j : ℕ). Ahead (Inside n (drop (at + 1) s)) (q + j) room) l (a .1)))
+      some-ahead = some-fits W (pitsurv v) P n (header (pitsurv v) n) (at + 1) some-tag some-deep (q + 15) behind
 
       pub some-laid : {out o1 : List ℕ} → o1 ≡ sets out q (header (pitsurv v) n) → (p' q' : ℕ) (out' : List ℕ) → Lays s o1 (q + 15) (writeFields v (d - 1) (fieldsOf (pitsurv v) n) (drop (at + 1) s)) p' q' out' → Lays s out q (writeObject v d t (drop at s)) p' q' out'
-      some-laid {out} {o1} o p' q' out' g =
-          let w : at + 1 ≤ length s = omega (arith, first-inside) in
-          same-run Few0 s out q (To p' q') out' (object-is (writing (pitsurv v)) (pitsurv v) d t (drop at s))
-          (after-laid s Inside n (header (pitsurv v) n) (at + 1) some-tag w o (ap (λ (j : ℕ). q + j) (sym (header-length (pitsurv v) n))) p' q' out'
-          (same-run Few0 s o1 (q + 15) (To p' q') out' (inside-fields (writing (pitsurv v)) (pitsurv v) d n (drop (at + 1) s) some-deep) g))
+      some-laid o p' q' out' g = lays-some W (pitsurv v) P n (header (pitsurv v) n) (at + 1) some-tag some-deep (omega (arith, first-inside)) o behind p' q' out' g

@@ -2,38 +2,21 @@
 use mathlib.Core.Path.{_≡_}
 use mathlib.Core.Bool.{Bool}
 use mathlib.Core.List.{List, [], _∷_, _++_}
-use Prim.Native.Nat.{ℕ, zero, suc, _+_, _≤_, _<_}
+use Prim.Native.Nat.{ℕ, zero, suc, _+_, _≤_}
 use lib.IntN.{ℤ}
 use lib.ListN.{length}
 use Rattle.wire.specs.Bytes.{bytes}
 use Rattle.wire.specs.Overlay.{overlay}
 use Rattle.wire.specs.Signed.{unsigned}
 use Rattle.lmcp.specs.Run.{got}
-use Rattle.lmcp.specs.Write.{Write}
 use Rattle.lmcp.specs.Packed.{packedOf}
 use Rattle.lmcp.specs.Message.{messageOn}
-use Rattle.lmcp.specs.Ends.{Sofar}
 use Rattle.lmcp_size.specs.InsideSteps.{writeObject}
-
--- W is not refused, and its bytes, of which the first goes to q, have room, which is a number of 64 bits
-pub record Ahead (W : Write) (q room : ℕ) : Type 0 where
-  pub bs : List ℕ
-  pub rest : List ℤ
-  pub is : W ≡ got bs rest
-  pub fits : q + length bs ≤ room
-  pub small : room < 18446744073709551616
 
 -- what every function of the walk supposes: its place in the list, and the table of the version
 pub record Stands (list : List ℤ) (at : ℕ) (table : List (List ℕ)) (v : ℕ) : Type 0 where
   pub inside : at ≤ length list
   pub packed : table ≡ packedOf v
-
-abbrev pub Few0 : ℕ → ℕ → Type 0
-Few0 to at = Unit
-
--- all of W is laid from `to` on
-abbrev pub Lays : List ℤ → List ℕ → ℕ → Write → ℕ → ℕ → List ℕ → Type 0
-Lays list out to W p q out' = Sofar Few0 list out to W (got []) p q out'
 
 -- the low w bytes of each of n numbers
 abbrev pub spelled : ℕ → ℕ → List ℤ → List ℕ

@@ -12,12 +12,13 @@ ghost use Rattle.wire.specs.Signed.{unsigned};
 ghost use Rattle.lmcp.specs.Run.{repeat};
 ghost use Rattle.lmcp.specs.Table.{rowsOf, fieldsOf, pitsurv};
 ghost use Rattle.lmcp.specs.Packed.{cell};
+ghost use Rattle.lmcp.specs.InsideAhead.{Ahead, Lays};
 ghost use Rattle.lmcp.specs.Write.{header};
 ghost use Rattle.lmcp.specs.Message.{checksumOf, WrittenTo};
 ghost use Rattle.lmcp.specs.Lists.{writeList};
 ghost use Rattle.lmcp_size.specs.InsideSteps.{writeObject, writeRow, writeFields};
 ghost use Rattle.lmcp_size.specs.InsideWeighs.{Wide};
-ghost use Rattle.lmcp_writer.specs.InsidePuts.{Ahead, Lays, Stands, Laid, spelled};
+ghost use Rattle.lmcp_writer.specs.InsidePuts.{Stands, Laid, spelled};
 
 // Where the walk stands, in the list and in the bytes.
 struct Spot {
@@ -186,7 +187,7 @@ fn put_fields(
     Spot { p: a, q: b }
 }
 
-// n objects of a declared type.
+// n objects of a declared type. A null is written without a call.
 fn put_objects(
     list: &[i64],
     p: usize,
@@ -205,6 +206,14 @@ fn put_objects(
     let mut b = q;
     let mut k: usize = 0;
     while k < n {
+        let z = list[a];
+        if lmcp::size_of(z) == 0 {
+            put_number(out, b, 1, 0);
+            a += 1;
+            b += 1;
+            k += 1;
+            continue;
+        }
         let r = put_object(list, a, b, table, version, deep, declared, out);
         a = r.p;
         b = r.q;

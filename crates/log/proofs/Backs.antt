@@ -98,7 +98,7 @@ entry-some e = simp length-append (omega (arith, groups-some 9 (e .sender)))
 -- ---- the list
 
 -- where bytes are left, an entry is taken from them
-one-more : (rest : List ℕ → Listed) (c : List ℕ) → 1 ≤ length c → oneMore rest c ≡ more rest (entryIn c)
+pub one-more : (rest : List ℕ → Listed) (c : List ℕ) → 1 ≤ length c → oneMore rest c ≡ more rest (entryIn c)
 one-more rest [] h = absurd (let z : ⊥ = omega arith in z)
 one-more rest (y ∷ c) h = refl
 
@@ -116,9 +116,6 @@ body-back (suc k) (e ∷ es) a h =
 pub record ListBack (b : List ℕ) (es : List Entry) : Type 0 where
   pub keeps : AllKeep es
   pub wrote : bodyOf es ≡ b
-
-back-after : (e : Entry) (t : Listed) (es : List Entry) → after e t ≡ whole es → (ds : List Entry) → t ≡ whole ds → es ≡ e ∷ ds
-back-after e t es p ds q = let r : after e (whole ds) ≡ whole es = ap (after e) (sym q) ∙ p in cc
 
 pub back-body : (k : ℕ) (b : List ℕ) → Bytes b → length b ≤ k → (es : List Entry) → listBy k b ≡ whole es → ListBack b es
 unfolding bodyOf listBy

@@ -3,3 +3,4 @@ pub mod Backs
 pub mod Reading
 pub mod Onward
 pub mod Once
+pub mod EntriesPassed

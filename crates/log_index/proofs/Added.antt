@@ -12,9 +12,9 @@ use Rattle.datagram.specs.declared.Read.{Read}
 use Rattle.datagram.specs.declared.Read.the-variants.{Good, Refused}
 use Rattle.log.specs.Editions.{Edition, Lawful, headBytes, headIn, limitsOf}
 use Rattle.log.specs.Entries.{Entry, AllKeep, entryBytes, bodyOf}
-use Rattle.log.specs.Listed.{Listed, whole, broken, after, more, oneMore, listBy, entryIn}
+use Rattle.log.specs.Listed.{Listed, whole, broken, after, more, oneMore, listBy}
 use Rattle.log.specs.declared.reader.Limits.{Limits}
-use Rattle.log.proofs.Backs.{entry-back, entry-some, HeadBack, back-body, back-head, head-back}
+use Rattle.log.proofs.Backs.{entry-back, entry-some, HeadBack, back-body, back-head, head-back, one-more}
 use Rattle.log.proofs.AfterEntry.{rest-bytes}
 use Rattle.log_index.specs.Rows.{Row}
 use Rattle.log_index.specs.Index.{rowFor, entryRow, rowsOf, Gathered, gathered, stopped, rowsTo, rowsFrom, rowsBehind, rowsIn, rowsAfter, rowsAdded}
@@ -27,10 +27,6 @@ use Rattle.log_index.proofs.Looks.{Rising}
 abbrev afterAll : List Entry → Listed → Listed
 afterAll [] l = l
 afterAll (e ∷ es) l = after e (afterAll es l)
-
-one-more : (rest : List ℕ → Listed) (c : List ℕ) → 1 ≤ length c → oneMore rest c ≡ more rest (entryIn c)
-one-more rest [] h = absurd (let z : ⊥ = omega arith in z)
-one-more rest (y ∷ c) h = refl
 
 list-front : (k : ℕ) (es : List Entry) → AllKeep es → (b : List ℕ) → Bytes b → length (bodyOf es ++ b) ≤ k → listBy k (bodyOf es ++ b) ≡ afterAll es (listBy (length b) b)
 unfolding bodyOf listBy

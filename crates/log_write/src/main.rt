@@ -3,8 +3,13 @@
 ghost use Prim.Native.Nat.{_≤_};
 ghost use lib.ListN.{length, drop};
 ghost use Rattle.wire.specs.Bytes.{be};
+ghost use Rattle.wire.specs.Slices.{buffer};
+ghost use Rattle.stream.specs.declared.Kind.the-variants.{Entry};
+ghost use Rattle.output.specs.Output.{lineLimit};
+ghost use Rattle.record_lines.specs.Lines.{Tells};
 ghost use Rattle.log.specs.Entries.{entryOf};
-ghost use Rattle.log_write.specs.Kept.{entryLimit, Keeps};
+ghost use Rattle.log_write.specs.Kept.{entryLimit, Keeps, logText};
+ghost use Rattle.log_write.specs.Inside.{entriesText};
 use log_append::Written;
 use stream::Input;
 use stream::Kind;
@@ -27,21 +32,21 @@ fn keep(out: &mut [u8], at: usize, space: &mut [u8], head: &[u8], d: &[u8]) -> u
     }
 }
 
-// The entries, one after another, behind the head of the log.
-fn kept(buf: &mut [u8], out: &mut [u8], space: &mut [u8], first: usize)
+// The entries of the input, one after another, behind the head of the log. Answers whether the system took all of them; it stops where it did not.
+fn kept(buf: &mut [u8], input: Input, out: &mut [u8], space: &mut [u8], first: usize) -> bool
     requires { ⌜ entryLimit ≤ length (now space) ⌝ }
+    ensures { λ r. ⌜ Tells Entry entriesText (now (buf .entry)) input (buffer out) first r ⌝ }
 {
-    let mut input = Input { at: 0, end: 0 };
+    let mut rest = input;
     let mut at = first;
     let mut n: u64 = 0;
     while n < stream::MANY {
-        let next = stream::next_record(buf, input, Kind::Entry);
+        let next = stream::next_record(buf, rest, Kind::Entry);
         let Next::Record(from, len, left) = next else {
-            output::write_out(out, at);
-            return;
+            return output::write_out(out, at);
         };
         n += 1;
-        input = left;
+        rest = left;
         at = keep(
             out,
             at,
@@ -49,15 +54,28 @@ fn kept(buf: &mut [u8], out: &mut [u8], space: &mut [u8], first: usize)
             stream::head(buf, from, Kind::Entry),
             wire::part(buf, from, len),
         );
+        if at == output::CLOSED {
+            return false;
+        }
     }
+    output::write_out(out, at)
 }
 
-// The log's payload limit is the largest that a log may have, so no refusal comes.
+// The log of the input. Its payload limit is the largest that a log may have, and its head has room, so no refusal comes.
+fn made(buf: &mut [u8], input: Input, out: &mut [u8], space: &mut [u8]) -> bool
+    requires { ⌜ (entryLimit ≤ length (now space)) × (lineLimit ≤ length (now out)) ⌝ }
+    ensures { λ r. ⌜ Tells Entry logText (now (buf .entry)) input (buffer out) 0 r ⌝ }
+{
+    let begun = log_append::begin(out, datagram::MAX_PAYLOAD as u64);
+    let Written::Next(first) = begun else {
+        return false;
+    };
+    kept(buf, input, out, space, first)
+}
+
 fn main() {
     let mut buf = [0u8; 262144];
     let mut out = [0u8; 262144];
     let mut space = [0u8; ENTRY];
-    if let Written::Next(first) = log_append::begin(&mut out, datagram::MAX_PAYLOAD as u64) {
-        kept(&mut buf, &mut out, &mut space, first);
-    }
+    made(&mut buf, Input { at: 0, end: 0 }, &mut out, &mut space);
 }

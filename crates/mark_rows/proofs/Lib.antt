@@ -1,6 +1,6 @@
 pub mod Counted
-pub mod Gives
-pub mod Laid
+pub mod RowsGiven
+pub mod RowsLaid
 pub mod Lengths
 pub mod Once
 pub mod Trips

@@ -1,18 +1,14 @@
 -- The marks of a list's elements, to the end of its numbers: one element more, and none left. Assumes nothing.
 use mathlib.Core.Path.{_≡_, refl, sym, ap, _∙_}
-use mathlib.Core.Logic.{inl, inr}
 use mathlib.Core.Bool.{Bool}
 use mathlib.Core.List.{List, [], _∷_, _++_}
 use Prim.Native.Nat.{ℕ, zero, suc, _+_, _-_, _≤_, _<_, min}
 use native.Mathlib.Omega.{arith}
-use lib.Dec.{ltb}
 use lib.IntN.{ℤ}
 use lib.ListN.{length, drop, length-append, length-drop, drop-of-length-le}
 use lib.Seq.{drop-drop}
-use borrow.Author.Tests.{ltb-true, ltb-false}
-use Rattle.wire.proofs.Choices.{either}
 use Rattle.count_rules.specs.Marks.{markLength, markAt}
-use Rattle.pit_marks.proofs.ElementTurn.{takes-one}
+use Rattle.pit_marks.proofs.ElementTurn.{takes-one, drop-most}
 use Rattle.mark_rows.specs.Placed.{PlacedMark, placedAt, placedIn}
 use Rattle.mark_rows.specs.InsideRows.{placedFrom}
 
@@ -21,12 +17,6 @@ pub placed-none : (two : Bool) (n : ℕ) → placedIn two n [] ≡ []
 unfolding placedIn placedAt markAt markLength
 placed-none two zero = refl
 placed-none two (suc n) = placed-none two n
-
-drop-most : (j : ℕ) (l : List ℤ) → drop j l ≡ drop (min j (length l)) l
-drop-most j l = elim (either (ltb j (length l))) [
-  | inl e ↦ let h : j < length l = ltb-true j (length l) e in let q : j ≡ min j (length l) = omega arith in ap (λ (i : ℕ). drop i l) q
-  | inr e ↦ let h : length l ≤ j = ltb-false j (length l) e in let m : length l ≤ min j (length l) = omega arith in drop-of-length-le l h ∙ sym (drop-of-length-le l m)
-]
 
 module _ (two : Bool) where
   -- as many turns as there are numbers are enough

@@ -5,7 +5,7 @@ use mathlib.Core.List.{List, [], _∷_, _++_}
 use Prim.Native.Nat.{ℕ, zero, suc, _%_, _≤_, _<_}
 use native.Mathlib.Omega.{arith}
 use lib.IntN.{ℤ, pos}
-use lib.ListN.{length, length-append}
+use lib.ListN.{length}
 use Rattle.wire.specs.Choice.{pick}
 use Rattle.lmcp.specs.Table.{second}
 use Rattle.lmcp.specs.Spelled.{nowhere, spot, Element, null, marked, spellElement, spellAll, Spelled, PitsKeep, SpelledBy}
@@ -20,6 +20,7 @@ use Rattle.mark_rows.specs.Rows.{rowsOf}
 use Rattle.mark_rows.specs.Spelled.{elementRow, RowsAsSpelled}
 use Rattle.mark_rows.proofs.RowTurn.{placed-none}
 use Rattle.mark_rows.proofs.Counted.{marksOf}
+use Rattle.pit_marks.proofs.Proper.{elements-some}
 
 module _ (two : Bool) where
   abbrev placedElement : Element → List PlacedMark
@@ -39,14 +40,6 @@ element-is false rest (marked pit true nowhere depth) = refl
 element-is false rest (marked pit true (spot lat lon height) depth) = refl
 element-is false rest (marked pit false nowhere depth) = refl
 element-is false rest (marked pit false (spot lat lon height) depth) = refl
-
-element-some : (two : Bool) (e : Element) → 1 ≤ length (spellElement two e)
-element-some two null = omega arith
-element-some two (marked pit sure at depth) = omega arith
-
-elements-some : (two : Bool) (es : List Element) → length es ≤ length (spellAll two es)
-elements-some two [] = omega arith
-elements-some two (e ∷ es) = omega (arith, length-append (spellElement two e) (spellAll two es), element-some two e, elements-some two es)
 
 elements-are : (two : Bool) (es : List Element) (n : ℕ) → length es ≤ n → placedIn two n (spellAll two es) ≡ gather (placedElement two) es
 unfolding placedIn

@@ -9,7 +9,7 @@ use lib.ListN.{length, take, drop, length-append, take-append-drop}
 use lib.Seq.{take-at, drop-at, take-add}
 use Rattle.wire.specs.Choice.{pick}
 use Rattle.wire.specs.Bytes.{be, bytes, Bytes}
-use Rattle.wire.proofs.Numbers.{be-bytes, bytes-be, be-lt, length-bytes, drop-bytes}
+use Rattle.wire.proofs.Numbers.{be-bytes, bytes-be, length-bytes, drop-bytes}
 use Rattle.moss.specs.Limits.{maxMessage}
 use Rattle.moss.specs.Blocks.{block, laid, isCut, firstMessage, behind, before, messagesWithin, messagesIn}
 use Rattle.moss.proofs.MessageTurn.{messages-next, messages-none}
@@ -82,14 +82,3 @@ within-laid (suc t) b (m ∷ ms) h e =
 
 pub messages-laid : (b : List ℕ) (ms : List (List ℕ)) → Bytes b → messagesIn b ≡ some ms → laid ms ≡ b
 messages-laid b ms h e = within-laid (length b) b ms h e
-
--- messages that were read have lengths of two bytes
-within-short : (t : ℕ) (b : List ℕ) (ms : List (List ℕ)) → Bytes b → messagesWithin t b ≡ some ms → Short ms
-within-short t b [] h e = tt
-within-short zero b (m ∷ ms) h e = absurd (within-zero b m ms e)
-within-short (suc t) b (m ∷ ms) h e =
-    let f = within-front t b m ms e in
-    (omega (arith, front-size f, be-lt 2 b h), within-short t (behind b) ms (drop-bytes b (2 + be 2 b) h) (f .behind))
-
-pub messages-short : (b : List ℕ) (ms : List (List ℕ)) → Bytes b → messagesIn b ≡ some ms → Short ms
-messages-short b ms h e = within-short (length b) b ms h e

@@ -31,6 +31,10 @@ module _ (two : Bool) (l : List ℤ) where
     unfolding markLength
     length-somewhere e = rw (ne-eqb _ _ some, ne-eqb _ _ e, q)
 
+no-mark : (l : List ℤ) → at l 0 ≡ 0 → markAt l ≡ []
+unfolding markAt
+no-mark l e = rw (eq-eqb _ _ e)
+
 pub depth-least : (two : Bool) → pick two 1 0 ≤ 1
 depth-least true = omega arith
 depth-least false = omega arith
@@ -43,10 +47,10 @@ takes-one two l =
     (λ e. pick-all (λ (n : ℕ). 1 ≤ n + pick two 1 0) (eqb (at l 3) 0) (λ e. omega arith) (λ e. omega arith))
 
 -- less is left then
-pub moves-on : (place n len next : ℕ) → place < len → 1 ≤ n → next ≡ min (place + n) len → len - next < len - place
-moves-on place n len next h g e = omega arith
+pub goes-on : (place at n len next : ℕ) → place < len → place ≤ at → 1 ≤ n → next ≡ min (at + n) len → len - next < len - place
+goes-on place at n len next h g o e = omega arith
 
-drop-most : (j : ℕ) (l : List ℤ) → drop j l ≡ drop (min j (length l)) l
+pub drop-most : (j : ℕ) (l : List ℤ) → drop j l ≡ drop (min j (length l)) l
 drop-most j l = elim (either (ltb j (length l))) [
   | inl e ↦ let h : j < length l = ltb-true j (length l) e in let q : j ≡ min j (length l) = omega arith in ap (λ (i : ℕ). drop i l) q
   | inr e ↦ let h : length l ≤ j = ltb-false j (length l) e in let m : length l ≤ min j (length l) = omega arith in drop-of-length-le l h ∙ sym (drop-of-length-le l m)
@@ -90,3 +94,20 @@ module _ (two : Bool) where
   -- none at the end
   pub marks-end : (l : List ℤ) (place : ℕ) → length l ≤ place → marksFrom l place ≡ []
   marks-end l place h = ap (λ (r : List ℤ). marksIn two (length r) r) (drop-of-length-le l h) ∙ marks-none two 0
+
+  -- past the end too: no element, and none after it
+  pub marks-turn-any : (l : List ℤ) (place n : ℕ) → n ≡ markLength two (drop place l) → marksFrom l place ≡ markAt (drop place l) ++ marksFrom l (min (place + n) (length l))
+  unfolding markAt
+  marks-turn-any l place n q = elim (either (ltb place (length l))) [
+    | inl e ↦ marks-turn l place n (ltb-true place (length l) e) q
+    | inr e ↦
+        let h : length l ≤ place = ltb-false place (length l) e in
+        let m : length l ≤ min (place + n) (length l) = omega arith in
+        marks-end l place h ∙ sym (marks-end l (min (place + n) (length l)) m) ∙ ap (λ (r : List ℤ). markAt r ++ marksFrom l (min (place + n) (length l))) (sym (drop-of-length-le l h))
+  ]
+
+  -- a null is no mark
+  pub marks-null : (l : List ℤ) (place : ℕ) → place < length l → at (drop place l) 0 ≡ 0 → marksFrom l (place + 1) ≡ marksFrom l place
+  marks-null l place h z =
+      let m : min (place + 1) (length l) ≡ place + 1 = omega arith in
+      sym (marks-turn l place 1 h (length-null two (drop place l) z) ∙ ap (λ (ms : List Mark). ms ++ marksFrom l (min (place + 1) (length l))) (no-mark (drop place l) z) ∙ ap (marksFrom l) m)

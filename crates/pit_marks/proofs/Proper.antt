@@ -25,11 +25,11 @@ use Rattle.count_rules.proofs.Spells.{mark-is, past-is, list-is}
 use Rattle.count_rules.proofs.Steps.{listOf, marks-none}
 use Rattle.pit_marks.specs.Enters.{elementsOf}
 
-element-some : (two : Bool) (e : Element) → 1 ≤ length (spellElement two e)
+pub element-some : (two : Bool) (e : Element) → 1 ≤ length (spellElement two e)
 element-some two null = omega arith
 element-some two (marked pit sure at depth) = omega arith
 
-elements-some : (two : Bool) (es : List Element) → length es ≤ length (spellAll two es)
+pub elements-some : (two : Bool) (es : List Element) → length es ≤ length (spellAll two es)
 elements-some two [] = omega arith
 elements-some two (e ∷ es) = omega (arith, length-append (spellElement two e) (spellAll two es), element-some two e, elements-some two es)
 

@@ -19,7 +19,7 @@ use Rattle.count_rules.specs.Report.{tiles, pits, surePits}
 use Rattle.count_rules.specs.Keys.{span, pitKey, pitKeys, sureKeys}
 use Rattle.count_rules.specs.Meaning.{Names}
 use Rattle.count_rules.proofs.Keys.{pits-part, sure-part, pits-end, sure-end}
-use Rattle.count_rules.proofs.Under.{named}
+use Rattle.count_rules.proofs.ListMembers.{named}
 use Rattle.pit_marks.specs.declared.Sizes.{Sizes}
 use Rattle.pit_marks.specs.Lines.{endOf, pitsIn}
 use Rattle.pit_marks.specs.Sets.{Sets, Has}

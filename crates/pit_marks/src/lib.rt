@@ -10,7 +10,7 @@ ghost use Rattle.count_rules.specs.Keys.{span};
 ghost use Rattle.wire.specs.Slices.{buffer};
 ghost use Rattle.pit_marks.specs.Sets.{setsBefore, setsAfter};
 ghost use Rattle.pit_marks.specs.Enters.{keyIn, enterPit, enterMarks, EntersList};
-ghost use Rattle.pit_marks.specs.Inside.{EntersSure, Leaves};
+ghost use Rattle.pit_marks.specs.Inside.{EntersSure, Leaves, Past};
 ghost use Rattle.pit_marks.specs.Lines.{endOf, pitsIn, Lays};
 use sorted_set::Entered;
 
@@ -73,6 +73,20 @@ fn element_length(list: &[i64], place: usize, two: bool) -> usize
         return 4 + depth;
     }
     7 + depth
+}
+
+// Where the next element that is not null begins, or the end.
+fn past_nulls(list: &[i64], place: usize) -> usize
+    ensures { λ r. ⌜ Past (now (list .entry)) place r ⌝ }
+{
+    let mut p = place;
+    while p < list.len() {
+        if number_at(list, p, 0) != 0 {
+            return p;
+        }
+        p += 1;
+    }
+    p
 }
 
 // Where the next element begins, or the end.
@@ -139,7 +153,7 @@ fn enter_element(
     enter_pit(pits, sure, had, x, is_sure)
 }
 
-// The elements of a list, behind its head.
+// The elements of a list, behind its head. Nulls are passed over at once.
 fn enter_elements(
     list: &[i64],
     tile: u64,
@@ -154,12 +168,13 @@ fn enter_elements(
     let mut now = had;
     let mut place: usize = 4;
     while place < list.len() {
-        let taken = enter_element(list, place, tile, &mut *pits, &mut *sure, now);
+        let at = past_nulls(list, place);
+        let taken = enter_element(list, at, tile, &mut *pits, &mut *sure, now);
         let Taken::Now(next) = taken else {
             return taken;
         };
         now = next;
-        place = next_place(place, element_length(list, place, two), list.len());
+        place = next_place(at, element_length(list, at, two), list.len());
     }
     Taken::Now(now)
 }

@@ -52,7 +52,7 @@ fault-same : (a : Taken) → faultIn (lookedBy a) ≡ faultOf a
 fault-same (taken.Now now) = refl
 fault-same (taken.Refused now n) = refl
 
-sizes-same : (had : Sizes) (a : Taken) → sizesIn had (lookedBy a) ≡ sizesOf a
+pub sizes-same : (had : Sizes) (a : Taken) → sizesIn had (lookedBy a) ≡ sizesOf a
 sizes-same had (taken.Now now) = refl
 sizes-same had (taken.Refused now n) = refl
 

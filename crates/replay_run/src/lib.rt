@@ -2,11 +2,16 @@
 // to a fresh receiver, and a line says what it answers. `replay_log` shares the lines.
 ghost use Prim.Native.Nat.{_≤_};
 ghost use mathlib.Core.Path.{_≡_};
+ghost use mathlib.Core.Bool.{true};
 ghost use lib.ListN.{length};
 ghost use Rattle.wire.specs.Slices.{buffer};
+ghost use Rattle.receiver_state.specs.View.{shaped};
 ghost use Rattle.receiver.specs.Lent.{lentBefore, lentAfter};
+ghost use Rattle.stream.specs.declared.Kind.the-variants.{Bytes2};
 ghost use Rattle.output.specs.Output.{Pours, lineLimit};
-ghost use Rattle.replay_run.specs.Lines.{answerText, emptiedText, line, Replayed};
+ghost use Rattle.record_lines.specs.Lines.{Tells};
+ghost use Rattle.replay_run.specs.Lines.{answerText, emptiedText, line, lines, Replayed};
+ghost use Rattle.replay_run.specs.Inside.{linesWith};
 use receiver::Call;
 use steps::Answer;
 use steps::Emptied;
@@ -72,28 +77,29 @@ fn one_more(
     pour_line(out, at, n, answer, emptied)
 }
 
-// One line a datagram, and the last line.
+// One line a datagram of the input, and the last line. Answers whether the system took all of them; it stops where it did not.
 fn replayed(
     buf: &mut [u8],
+    input: Input,
     out: &mut [u8],
     state: &mut [u64],
     names: &mut [u8],
     store: &mut [u8],
     ledger: &mut [u32],
-)
-    requires { ⌜ lineLimit ≤ length (now out) ⌝ }
+) -> bool
+    requires { ⌜ shaped (now state) (now names) ≡ true ⌝ }
+    ensures { λ r. ⌜ Tells Bytes2 (linesWith (lentBefore state names store ledger)) (now (buf .entry)) input (buffer out) 0 r ⌝ }
 {
-    let mut input = Input { at: 0, end: 0 };
+    let mut rest = input;
     let mut at: usize = 0;
     let mut n: u64 = 0;
     while n < stream::MANY {
-        let next = stream::next_record(buf, input, Kind::Bytes2);
+        let next = stream::next_record(buf, rest, Kind::Bytes2);
         let Next::Record(from, len, left) = next else {
-            output::finish(out, at, n, next);
-            return;
+            return output::finish(out, at, n, next);
         };
         n += 1;
-        input = left;
+        rest = left;
         at = one_more(
             out,
             at,
@@ -104,28 +110,42 @@ fn replayed(
             ledger,
             wire::part(buf, from, len),
         );
+        if at == output::CLOSED {
+            return false;
+        }
     }
+    output::finish(out, at, n, Next::Cut)
 }
 
-// Replays standard input over a lent buffer. What is read and written no contract can say; the buffer keeps its length. A state of
-// the receiver's own lengths is opened, so the refusal, after which nothing would be replayed, does not come.
-pub fn run(buf: &mut [u8])
-    ensures { λ _. ⌜ length (now (buf .exit)) ≡ length (now (buf .entry)) ⌝ }
+// The same over a fresh receiver. A state of the receiver's own lengths is opened, so the refusal, after which nothing would be replayed, does
+// not come.
+fn afresh(buf: &mut [u8], input: Input, out: &mut [u8]) -> bool
+    requires { ⌜ lineLimit ≤ length (now out) ⌝ }
+    ensures { λ r. ⌜ Tells Bytes2 lines (now (buf .entry)) input (buffer out) 0 r ⌝ }
 {
-    let mut out = [0u8; output::HOLDS];
     let mut state = [0u64; receiver::STATE_WORDS];
     let mut names = [0u8; receiver::NAME_BYTES];
     let mut store = [0u8; STORE];
     let mut ledger = [0u32; receiver::LEDGER];
     let opened = open_and_payload::open(&mut state, &mut names, STORE);
-    if let Call::Done = opened {
-        replayed(
-            buf,
-            &mut out,
-            &mut state,
-            &mut names,
-            &mut store,
-            &mut ledger,
-        );
-    }
+    let Call::Done = opened else {
+        return false;
+    };
+    replayed(
+        buf,
+        input,
+        out,
+        &mut state,
+        &mut names,
+        &mut store,
+        &mut ledger,
+    )
+}
+
+// Replays standard input over a lent buffer. What is read and written no contract can say; the buffer keeps its length.
+pub fn run(buf: &mut [u8])
+    ensures { λ _. ⌜ length (now (buf .exit)) ≡ length (now (buf .entry)) ⌝ }
+{
+    let mut out = [0u8; output::HOLDS];
+    afresh(buf, Input { at: 0, end: 0 }, &mut out);
 }

@@ -29,10 +29,11 @@ use Rattle.pit_marks.specs.declared.Taken.{Taken}
 use Rattle.pit_marks.specs.declared.Taken.the-variants as taken
 use Rattle.pit_marks.specs.Sets.{Sets, heldIn}
 use Rattle.pit_marks.specs.Enters.{keyIn, withPits, withTiles, sizesOf, Pitted, pitted, sureEntered, ifSure, pitEntered, enterPit, onward, enterMarks, tileEntered, elementsOf, enterList}
-use Rattle.pit_payloads.specs.Looks.{Left, lookedBy, inRead}
+use Rattle.pit_payloads.specs.Looks.{Left, inRead}
 use Rattle.pit_payloads.specs.Took.{faultIn, sizesIn}
 use Rattle.stretch.specs.declared.Stop.the-variants as stop
 use Rattle.stretch.specs.Stretch.{Kit, lookedAt, kitWith, enterOn, here, byStep, stretch}
+use Rattle.pit_payloads.proofs.PayloadTaken.{sizes-same}
 
 pub record Fits (x : Sets) (had : Sizes) : Type 0 where
   pub tiles : had .tiles ≤ length (x .tiles)
@@ -114,15 +115,11 @@ list-fits l x had f = by (entered (x .tiles) (had .tiles) (at l 2)) refl
 
 -- ---- a payload
 
-looked-sizes : (had : Sizes) (a : Taken) → sizesIn had (lookedBy a) ≡ sizesOf a
-looked-sizes had (taken.Now now) = refl
-looked-sizes had (taken.Refused now n) = refl
-
 read-fits : (room : ℕ) (r : Read) (x : Sets) (had : Sizes) → Fits x had → Fits (inRead room r x had .sets) (sizesIn had (inRead room r x had .answer))
 read-fits room (got l rest) x had f =
     pick-all (λ (e : Left). Fits (e .sets) (sizesIn had (e .answer))) (ltb room (length l)) (λ u. f)
     (λ u. pick-all (λ (e : Left). Fits (e .sets) (sizesIn had (e .answer))) (eqb (at l 1) 5)
-    (λ v. subst (Fits (enterList l x had .sets)) (sym (looked-sizes had (enterList l x had .answer))) (list-fits l x had f)) (λ v. f))
+    (λ v. subst (Fits (enterList l x had .sets)) (sym (sizes-same had (enterList l x had .answer))) (list-fits l x had f)) (λ v. f))
 read-fits room (refused n) x had f = f
 
 -- ---- a stretch

@@ -3,15 +3,15 @@ use mathlib.Core.Path.{_≡_, refl, sym, ap, _∙_, subst}
 use mathlib.Core.Logic.{inl, inr}
 use mathlib.Core.Bool.{Bool, true, false}
 use mathlib.Core.List.{List, [], _∷_, _++_, map}
-use Prim.Native.Nat.{ℕ, zero, suc, _+_, _<_}
+use Prim.Native.Nat.{ℕ, zero, suc, _<_}
 use native.Mathlib.Omega.{arith}
 use native.Mathlib.Decide.{ℕ-discrete}
-use borrow.Author.Tests.{eq-eqb, ne-eqb}
+use borrow.Author.Tests.{eq-eqb}
 use Rattle.wire.specs.Choice.{pick}
 use Rattle.steps.specs.Search.{one}
-use Rattle.arrival.specs.Demand.{Scene, size, message, Feed, done, completed, own}
+use Rattle.arrival.specs.Demand.{Scene, size, message, Feed, done, completed}
 use Rattle.arrival.proofs.Track.{Lawful, Fair, fair-of, times, done-once}
-use Rattle.arrival.proofs.Whole.{Apart, completed-apart}
+use Rattle.arrival.proofs.Whole.{completed-apart}
 use Rattle.arrival.proofs.Demand3.{delivered-own}
 use Rattle.log.specs.declared.reader.Limits.{Limits}
 use Rattle.log.specs.Editions.{limitsIn}
@@ -27,16 +27,9 @@ use Rattle.count_rules.proofs.Logs.{backwards, back-members, bytesIn, by-log}
 use Rattle.stretch.specs.Stretch.{entriesOf}
 use Rattle.season.specs.Season.{Flight, listsOf}
 use Rattle.season.specs.Losses.{Arrives, wholeOf, cameWhole}
+use Rattle.count_rules.proofs.Delivered.{own-bytes, times-in, apart-below}
 
 -- ---- which messages were completed
-
-times-in : (i : ℕ) (l : List ℕ) → 0 < times i l → In i l
-unfolding times
-times-in i [] h = absurd (let z : ⊥ = omega arith in z)
-times-in i (x ∷ l) h = elim (ℕ-discrete i x) [
-  | yes e ↦ inl e
-  | no e ↦ inr (times-in i l (let g : 0 < 0 + times i l = rw (ne-eqb x i (λ q. e (sym q))) at h in omega arith))
-]
 
 in-times : (i : ℕ) (l : List ℕ) → In i l → 0 < times i l
 unfolding times
@@ -44,17 +37,8 @@ in-times i [] h = absurd h
 in-times i (x ∷ l) (inl e) = rw (eq-eqb x i (sym e)) (omega arith)
 in-times i (x ∷ l) (inr h) = (let o : 0 < times i l = in-times i l h in omega arith)
 
-below : (σ : Scene) (l : List ℕ) → Apart σ l → (i : ℕ) → In i l → i < size σ
-below σ [] a i h = absurd h
-below σ (x ∷ l) a i (inl e) = subst (λ (j : ℕ). j < size σ) (sym e) (a .0)
-below σ (x ∷ l) a i (inr h) = below σ l (a .2) i h
-
 abbrev payload : Scene → ℕ → List ℕ
 payload σ i = message σ i .payload
-
-own-bytes : (σ : Scene) (l : List ℕ) → bytesIn (map (own σ) l) ≡ map (payload σ) l
-own-bytes σ [] = refl
-own-bytes σ (i ∷ l) = ap (λ (ps : List (List ℕ)). payload σ i ∷ ps) (own-bytes σ l)
 
 -- ---- those that came whole
 
@@ -100,7 +84,7 @@ module _ (σ : Scene) (f : Feed) (s : Arrives σ f) where
   whole-members = record {
     there = λ p h.
         let o : Origin (payload σ) (completed σ f) p = map-from (payload σ) (completed σ f) p h in
-        let b : o .x < size σ = below σ (completed σ f) (completed-apart σ law f fair) (o .x) (o .inside) in
+        let b : o .x < size σ = apart-below σ (completed σ f) (completed-apart σ law f fair) (o .x) (o .inside) in
         let t : 0 < times (o .x) (completed σ f) = in-times (o .x) (completed σ f) (o .inside) in
         let d : done σ f (o .x) ≡ true = is-done (done σ f (o .x)) (subst (λ (n : ℕ). 0 < n) (done-once σ law f fair (o .x) b) t) in
         subst (λ (q : List ℕ). In q (cameWhole σ f)) (sym (o .gives)) (came-in σ f (size σ) (o .x) b d);

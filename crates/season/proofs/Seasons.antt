@@ -15,12 +15,12 @@ use Rattle.log.specs.Told.{readAll}
 use Rattle.log.proofs.Onward.{read-all}
 use Rattle.sorted_set.specs.Lists.{In, SameMembers}
 use Rattle.sorted_set.proofs.Members.{in-left, in-right, in-either, gather-same}
-use Rattle.count_rules.specs.Marks.{PitList, listIn}
+use Rattle.count_rules.specs.Marks.{PitList}
 use Rattle.count_rules.specs.Report.{tiles, pits, surePits, Line, line, report}
 use Rattle.count_rules.specs.Meaning.{Marks, MarksSure}
 use Rattle.count_rules.specs.Run.{answers, payloads, listsRead}
 use Rattle.count_rules.specs.Walk.{seenAfter}
-use Rattle.count_rules.proofs.Which.{same-report}
+use Rattle.count_rules.proofs.ReportByLists.{same-report}
 use Rattle.count_rules.proofs.Means.{lines-mean}
 use Rattle.pit_marks.specs.declared.Sizes.{Sizes}
 use Rattle.pit_marks.specs.Sets.{Sets, Has}
@@ -30,26 +30,7 @@ use Rattle.stretch.specs.Stretch.{Clean, entriesOf}
 use Rattle.stretch.proofs.Laws.{clean-answers}
 use Rattle.season.specs.Season.{Map, mapOf, Shows, Flight, setOut, flown, season, listsOf, listsOfAll, Handed, Unrefused, Holds, SeasonHolds, LinesOf, SeasonLines, AnyOrder, WhicheverFirst, NoneLost}
 use Rattle.season.proofs.Went.{Went, stretch-went}
-
--- ---- which lists were seen
-
-seen-keeps : (seen : List PitList) (ps : List (List ℕ)) (l : PitList) → In l seen → In l (seenAfter seen ps)
-seen-keeps seen [] l h = h
-seen-keeps seen (p ∷ ps) l h = seen-keeps (listIn p ++ seen) ps l (in-right l (listIn p) seen h)
-
-seen-has : (seen : List PitList) (ps : List (List ℕ)) (l : PitList) → In l (listsRead ps) → In l (seenAfter seen ps)
-seen-has seen [] l h = absurd h
-seen-has seen (p ∷ ps) l h = elim (in-either l (listIn p) (listsRead ps) h) [
-  | inl k ↦ seen-keeps (listIn p ++ seen) ps l (in-left l (listIn p) seen k)
-  | inr k ↦ seen-has (listIn p ++ seen) ps l k
-]
-
-seen-from : (seen : List PitList) (ps : List (List ℕ)) (l : PitList) → In l (seenAfter seen ps) → In l (listsRead ps) ⊎ In l seen
-seen-from seen [] l h = inr h
-seen-from seen (p ∷ ps) l h = elim (seen-from (listIn p ++ seen) ps l h) [
-  | inl k ↦ inl (in-right l (listIn p) (listsRead ps) k)
-  | inr k ↦ elim (in-either l (listIn p) seen k) [ inl j ↦ inl (in-left l (listIn p) (listsRead ps) j) | inr j ↦ inr j ]
-]
+use Rattle.count_rules.proofs.Seen.{seen-from, seen-has, seen-keeps}
 
 -- ---- a flight
 

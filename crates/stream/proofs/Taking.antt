@@ -60,7 +60,7 @@ be-front (suc k) x y h =
     let q : getD (x ++ y) k 0 ≡ getD x k 0 = List·getD-append x y 0 k (omega arith) in
     λ i. p i * 256 + q i
 
-body-front : (kind : Kind) (x y : List ℕ) → headOf kind ≤ length x → bodyLength kind (x ++ y) ≡ bodyLength kind x
+pub body-front : (kind : Kind) (x y : List ℕ) → headOf kind ≤ length x → bodyLength kind (x ++ y) ≡ bodyLength kind x
 unfolding bodyLength
 body-front kind x y h =
     let m : ℕ = headOf kind - widthOf kind in
@@ -74,7 +74,7 @@ body-front kind x y h =
     narrow Numbers = omega arith
     narrow Entry = omega arith
 
-whole-true : (kind : Kind) (x : List ℕ) → headOf kind ≤ length x → headOf kind + bodyLength kind x ≤ length x → isWhole kind x ≡ true
+pub whole-true : (kind : Kind) (x : List ℕ) → headOf kind ≤ length x → headOf kind + bodyLength kind x ≤ length x → isWhole kind x ≡ true
 unfolding isWhole
 whole-true kind x h k = and-of _ _ (le-leb (headOf kind) (length x) h) (le-leb (headOf kind + bodyLength kind x) (length x) k)
 

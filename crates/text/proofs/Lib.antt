@@ -1,2 +1,3 @@
+pub mod BodyNumbers
 pub mod Puts
 pub mod Texts

@@ -53,7 +53,3 @@ put-no-byte out at b h = record { wrote = sym (overlay-out out at (b ∷ []) h);
 -- the same text by another name
 pub put-is : {out left s t : List ℕ} {at r : ℕ} → Put out at s left r → s ≡ t → Put out at t left r
 put-is {out} {left} {s} {t} {at} {r} p e = subst (λ (x : List ℕ). Put out at x left r) e p
-
--- a place past the end is as good as the end
-pub put-from : {out left s : List ℕ} {at next r : ℕ} → next ≡ min at (length out) → Put out next s left r → Put out at s left r
-put-from {out} {left} {s} {at} {next} {r} e p = put-then (put-nothing out at next e) p

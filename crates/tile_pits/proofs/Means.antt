@@ -20,13 +20,13 @@ use Rattle.sorted_set.specs.Halving.{isThere}
 use Rattle.sorted_set.proofs.Members.{gather-in, gather-from, Source}
 use Rattle.sorted_set.proofs.Rises.{rising-rises, rising-unique}
 use Rattle.sorted_set.proofs.Parts.{gather-rises}
-use Rattle.count_rules.specs.Marks.{Mark, PitList}
+use Rattle.count_rules.specs.Marks.{PitList}
 use Rattle.count_rules.specs.Report.{pitOf, pitIfSure, pits, surePits}
-use Rattle.count_rules.specs.Keys.{span, pitKey, pitKeys, sureKeys, AllWithin}
+use Rattle.count_rules.specs.Keys.{span, pitKey, pitKeys, sureKeys}
 use Rattle.count_rules.specs.Meaning.{Marks, MarksSure, Means}
-use Rattle.count_rules.proofs.Means.{sure-is, lines-mean}
-use Rattle.count_rules.proofs.Keys.{pits-end, sure-end}
-use Rattle.count_rules.proofs.Under.{only, Taken, taken-from, taken-in}
+use Rattle.count_rules.proofs.Means.{lines-mean}
+use Rattle.count_rules.proofs.Keys.{pits-end, sure-end, sure-within, pits-within}
+use Rattle.count_rules.proofs.ListMembers.{only, Taken, taken-from, taken-in}
 use Rattle.pit_marks.specs.declared.Sizes.{Sizes}
 use Rattle.pit_marks.specs.Sets.{Sets, Has}
 use Rattle.tile_pits.specs.declared.Pits.the-variants.{Many}
@@ -62,18 +62,6 @@ module _ (b : ℕ → Bool) where
       one : (t : Bool) (x : ℕ) → Rising (pick t (x ∷ []) [])
       one true x = (λ z h. absurd h, tt)
       one false x = tt
-
--- ---- all that is taken is uint32
-
-module _ (ls : List PitList) (a : AllWithin ls) where
-  tile-within : (g : Mark → List ℕ) (t p : ℕ) → Taken g ls t p → t < span
-  tile-within g t p k = subst (λ (u : ℕ). u < span) (k .its-tile) (a (k .list) (k .among) .tile)
-
-  pits-within : (t p : ℕ) → Taken pitOf ls t p → (t < span) × (p < span)
-  pits-within t p k = (tile-within pitOf t p k, subst (λ (q : ℕ). q < span) (sym (only (k .gives))) (a (k .list) (k .among) .pits (k .mark) (k .inside)))
-
-  sure-within : (t p : ℕ) → Taken pitIfSure ls t p → (t < span) × (p < span)
-  sure-within t p k = (tile-within pitIfSure t p k, subst (λ (q : ℕ). q < span) (sure-is (k .mark) p (k .gives) .1) (a (k .list) (k .among) .pits (k .mark) (k .inside)))
 
 -- ---- over sets that hold the marks of lists
 

@@ -20,7 +20,7 @@ use Rattle.sorted_set.proofs.Places.{below-most, before, behind, stands, stands
 use Rattle.count_rules.specs.Marks.{Mark, PitList}
 use Rattle.count_rules.specs.Report.{distinct}
 use Rattle.count_rules.specs.Keys.{span, pitKey, keysBy}
-use Rattle.count_rules.proofs.Under.{Taken, taken-from, taken-in}
+use Rattle.count_rules.proofs.ListMembers.{Taken, taken-from, taken-in}
 use Rattle.pit_marks.specs.Lines.{endOf, pitsIn}
 use Rattle.tile_pits.specs.Pits.{firstOf}
 

@@ -1,6 +1,6 @@
 pub mod Places
-pub mod Tells
-pub mod Cases
+pub mod Differences
+pub mod WatchCases
 pub mod Unique
 pub mod Runs
 pub mod Works

@@ -21,9 +21,9 @@ use Rattle.watch.specs.Difference.{difference, told}
 use Rattle.watch.specs.Senders.{empty, place, senderPlace, moved}
 use Rattle.watch.specs.Watching.{asked, moves, after}
 use Rattle.watch.specs.Runs.{answers, afterAll, shown, distance, final, Counters, Steps, Whole, Last}
-use Rattle.watch.proofs.Tells.{restarted-number, back-restarts}
+use Rattle.watch.proofs.Differences.{restarted-number, back-restarts}
 use Rattle.watch.proofs.Places.{place-at, place-new}
-use Rattle.watch.proofs.Cases.{asked-known, asked-new, moved-known, moved-new, after-moves}
+use Rattle.watch.proofs.WatchCases.{asked-known, asked-new, moved-known, moved-new, after-moves}
 
 -- ---- one step
 

@@ -1,5 +1,5 @@
 -- What the watch notes of a number, in the paper's values, and what each case of the code's answer means. Definitions only.
-use Prim.Native.Nat.{ℕ}
+use Prim.Native.Nat.{ℕ, _+_, _*_, _^_}
 use Rattle.watch.specs.declared.Answer.{Answer}
 use Rattle.watch.specs.declared.Answer.the-variants.{First, Forward, Same, Late, Restarted, Refused}
 
@@ -18,3 +18,12 @@ notes Same = same
 notes (Late by) = late by
 notes (Restarted number) = restarted number
 notes (Refused number) = refused number
+
+-- as one number: 1 first, 2 forward, 3 same, 4 late, 5 restarted, times 2^32, and the number beside it; or the refusal number alone
+abbrev pub notedCode : Noted → ℕ
+notedCode first = 1 * 2 ^ 32
+notedCode (forward missing) = 2 * 2 ^ 32 + missing
+notedCode same = 3 * 2 ^ 32
+notedCode (late by) = 4 * 2 ^ 32 + by
+notedCode (restarted number) = 5 * 2 ^ 32 + number
+notedCode (refused number) = number

@@ -6,7 +6,7 @@ ghost use Prim.Native.Nat.{_≤_};
 ghost use lib.IntN.{pos, natAbs};
 ghost use lib.Signed.{ltZ};
 ghost use lib.ListN.{length, take};
-ghost use Rattle.watch.specs.Noted.{notes};
+ghost use Rattle.watch.specs.Noted.{notes, notedCode};
 ghost use Rattle.watch.specs.Difference.{difference, told};
 ghost use Rattle.watch.specs.Senders.{empty, place, moved};
 ghost use Rattle.watch.specs.Watching.{asked, moves, Result};
@@ -157,6 +157,20 @@ pub fn does_move(answer: Answer) -> bool
         Answer::Late(_) => false,
         Answer::Restarted(_) => true,
         Answer::Refused(_) => false,
+    }
+}
+
+// What the watch says, as one number: the kind times 2^32 and the number beside it, or the number of the refusal.
+pub fn noted_code(answer: Answer) -> u64
+    ensures { λ r. ⌜ r ≡ notedCode (notes answer) ⌝ }
+{
+    match answer {
+        Answer::First => 4294967296,
+        Answer::Forward(missing) => 2 * 4294967296 + missing as u64,
+        Answer::Same => 3 * 4294967296,
+        Answer::Late(by) => 4 * 4294967296 + by as u64,
+        Answer::Restarted(number) => 5 * 4294967296 + number as u64,
+        Answer::Refused(number) => number as u64,
     }
 }
 

@@ -2,7 +2,7 @@
 use mathlib.Core.Path.{sym, _∙_}
 use native.Mathlib.Omega.{arith}
 use lib.ListN.{drop, length-drop}
-use Rattle.ack_blocks.proofs.Cases.{fault-kind, fault-cut, fault-run, fault-map, fault-none}
+use Rattle.ack_blocks.proofs.BlockCases.{fault-kind, fault-cut, fault-run, fault-map, fault-none}
 use borrow.Author.Needs.{needs}
 use Rattle.ack_blocks.proofs.fault_at.Statement.{statement}
 use Rattle.ack_blocks.proofs.fault_at.Tie as tie

@@ -5,7 +5,7 @@ use lib.ListN.{drop}
 use lib.Dec.{eqb}
 use Rattle.ack_blocks.specs.Blocks.{Block, has, between, inMap}
 use Rattle.ack_blocks.specs.Read.{bitsIn, mapIn}
-use Rattle.ack_blocks.proofs.Cases.{block-single, block-run, block-map}
+use Rattle.ack_blocks.proofs.BlockCases.{block-single, block-run, block-map}
 use borrow.Author.Needs.{needs}
 use Rattle.ack_blocks.proofs.has_at.Statement.{statement}
 use Rattle.ack_blocks.proofs.has_at.Tie as tie

@@ -1,5 +1,5 @@
 -- A bitmap: its bits, its last number, its padding. Assumes nothing.
-use Rattle.ack_blocks.proofs.Cases.{padding-is, step-is, step-some, map-none, map-over, map-good, map-padded}
+use Rattle.ack_blocks.proofs.BlockCases.{padding-is, step-is, step-some, map-none, map-over, map-good, map-padded}
 use mathlib.Core.Path.{_≡_, ap, sym, _∙_}
 use Prim.Native.Nat.{_+_, _-_, _*_, _≤_, _<_}
 use native.Mathlib.Omega.{arith}
@@ -35,9 +35,6 @@ fits e = omega (arith, e .before .before .before .bits-at .ensures .0, e .before
 -- a map has fewer than 64 bits of padding
 few : (q : tie.After-map-bytes) → 8 * q .map-bytes .result - q .before .before .before .before .bits-at .result < 64
 few q = omega arith
-
-rem-if3 : tie.Need-rem-if3
-rem-if3 c = step-some _ (few (c .before))
 
 returns-3 : tie.Need-returns-3
 returns-3 c =
@@ -89,6 +86,6 @@ map-fault-spec =
     (λ c. search needs)
     (λ c. search needs)
     (λ c κs. search needs)
-    rem-if3
+    (λ c. step-some _ (few (c .before)))
     returns-3
     returns-4)

@@ -5,7 +5,7 @@ use native.Mathlib.Omega.{arith}
 use lib.ListN.{drop}
 use lib.Dec.{eqb}
 use Rattle.ack_blocks.specs.Read.{bitsIn, mapIn}
-use Rattle.ack_blocks.proofs.Cases.{map-before, map-past, map-bit, map-byte}
+use Rattle.ack_blocks.proofs.BlockCases.{map-before, map-past, map-bit, map-byte}
 use borrow.Author.Needs.{needs}
 use Rattle.ack_blocks.proofs.map_has.Statement.{statement}
 use Rattle.ack_blocks.proofs.map_has.Tie as tie

@@ -4,7 +4,7 @@ use Prim.Native.Nat.{ℕ, _+_}
 use native.Mathlib.Omega.{arith}
 use lib.ListN.{drop}
 use Rattle.ack_blocks.specs.Read.{bitsIn, mapBytes}
-use Rattle.ack_blocks.proofs.Cases.{size-single, size-run, size-map}
+use Rattle.ack_blocks.proofs.BlockCases.{size-single, size-run, size-map}
 use borrow.Author.Needs.{needs}
 use Rattle.ack_blocks.proofs.size_at.Statement.{statement}
 use Rattle.ack_blocks.proofs.size_at.Tie as tie

@@ -6,7 +6,7 @@ use lib.ListN.{length, drop}
 use mathlib.Core.Bool.{Bool, _||_}
 use Rattle.ack_blocks.specs.Read.{gives, refuses, blocksIn, told}
 use Rattle.ack_blocks.specs.InsideWalk.{also}
-use Rattle.ack_blocks.proofs.Walks.{also-none, walk-next, walk-bad, walk-end}
+use Rattle.ack_blocks.proofs.BlockTurns.{also-none, walk-next, walk-bad, walk-end}
 use borrow.Author.Needs.{needs}
 use Rattle.ack_blocks.proofs.walk.Statement.{statement}
 use Rattle.ack_blocks.proofs.walk.Tie as tie
@@ -21,9 +21,6 @@ loop-holds : tie.Need-loop-holds Inv-loop μ-loop
 loop-holds c =
     let a = c .before .args in
     also-none (told (a .n) (blocksIn (a .b .now)))
-
-fault-at-requires : tie.Need-fault-at-requires Inv-loop μ-loop
-fault-at-requires c κs = record { place = omega arith; fits = omega arith }
 
 returns : tie.Need-returns Inv-loop μ-loop
 returns c =
@@ -77,7 +74,7 @@ walk-spec =
     Inv-loop
     μ-loop
     loop-holds
-    fault-at-requires
+    (λ c κs. record { place = omega arith; fits = omega arith })
     returns
     (λ c κs. search needs)
     (λ c κs. search needs)

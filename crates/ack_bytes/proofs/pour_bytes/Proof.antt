@@ -15,14 +15,12 @@ returns c =
 
 returns-2 : tie.Need-returns-2
 returns-2 c =
-    let at-pour3 = c .before .before in
-    let place = at-pour3 .before .before .before .before .before in
-    let start = place .before .before .before .before .before .before .before .before .before .before in
-    let a = start .args in
-    let h = place in
-    let p = h .before .before .before .before in
-    pours-is (pours-then (pours-then (p .pour2 .ensures) (h .pour-hex .ensures)) (at-pour3 .pour3 .ensures))
-    (bytes-some (a .blocks .now) (p .before .before .before .if1 .left))
+    let end = c .before .before in
+    let hex = end .before .before .before .before .before in
+    let word = hex .before .before .before .before in
+    let choice = word .before .before .before in
+    let a = choice .before .before .before .args in
+    pours-is (pours-then (pours-then (word .pour2 .ensures) (hex .pour-hex .ensures)) (end .pour3 .ensures)) (bytes-some (a .blocks .now) (choice .if1 .left))
 
 pub pour-bytes-spec : {M : Type 1} → statement M
 pour-bytes-spec =

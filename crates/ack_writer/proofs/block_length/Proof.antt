@@ -3,7 +3,7 @@ use mathlib.Core.Path.{ap, sym, _∙_}
 use native.Mathlib.Omega.{arith}
 use lib.ListN.{length}
 use Rattle.ack_blocks.specs.Blocks.{Block, blockBytes}
-use Rattle.ack_writer.proofs.Cases.{one-single, one-run, single-length, run-length}
+use Rattle.ack_writer.proofs.BlockOfRun.{one-single, one-run, single-length, run-length}
 use Rattle.ack_writer.proofs.block_length.Statement.{statement}
 use Rattle.ack_writer.proofs.block_length.Tie as tie
 

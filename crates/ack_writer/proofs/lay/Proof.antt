@@ -5,7 +5,7 @@ use native.Mathlib.Omega.{arith}
 use lib.ListN.{length}
 use borrow.Author.Tests.{not-true, not-false}
 use Rattle.ack_writer.proofs.Runs.{room-makes}
-use Rattle.ack_writer.proofs.Lays.{Sofar, sofar-start, sofar-next, sofar-falls, sofar-room, sofar-laid}
+use Rattle.ack_writer.proofs.ListTurns.{Sofar, sofar-start, sofar-next, sofar-falls, sofar-room, sofar-laid}
 use borrow.Author.Needs.{needs}
 use Rattle.ack_writer.proofs.lay.Statement.{statement}
 use Rattle.ack_writer.proofs.lay.Tie as tie
@@ -20,9 +20,6 @@ loop-holds : tie.Need-loop-holds Inv-loop μ-loop
 loop-holds c =
     let a = c .before .before .args in
     sofar-start (a .list .now) (a .blocks .now)
-
-same-length : tie.Need-same-length Inv-loop μ-loop
-same-length c = c .before .before .before .before .loop .inv .size
 
 returns : tie.Need-returns Inv-loop μ-loop
 returns c =
@@ -53,9 +50,6 @@ loop-again c =
     let u = not-false _ (at-if1 .if1 .left) in
     sofar-next (a .list .now) (a .blocks .now) (l .blocks) _ (l .at) (l .i) _ _ _ (l .inv) r u (at-put-next .put-next .ensures)
 
-same-length-2 : tie.Need-same-length-2 Inv-loop μ-loop
-same-length-2 c = c .before .before .loop .inv .size
-
 returns-2 : tie.Need-returns-2 Inv-loop μ-loop
 returns-2 c =
     let at-loop-test = c .before in
@@ -78,7 +72,7 @@ lay-spec =
     μ-loop
     loop-holds
     (λ c κs. search needs)
-    same-length
+    (λ c. c .before .before .before .before .loop .inv .size)
     returns
     (λ c. search needs)
     (λ c. search needs)
@@ -86,5 +80,5 @@ lay-spec =
     loop-less
     loop-again
     (λ c κs. search needs)
-    same-length-2
+    (λ c. c .before .before .loop .inv .size)
     returns-2)

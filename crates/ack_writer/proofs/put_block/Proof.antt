@@ -6,7 +6,7 @@ use Rattle.wire.specs.Overlay.{overlay}
 use Rattle.wire.proofs.Numbers.{length-bytes}
 use Rattle.ack_blocks.specs.Blocks.{Block, blockBytes}
 use Rattle.ack_writer.proofs.Runs.{put-next}
-use Rattle.ack_writer.proofs.Cases.{one-single, one-run}
+use Rattle.ack_writer.proofs.BlockOfRun.{one-single, one-run}
 use borrow.Author.Needs.{needs}
 use Rattle.ack_writer.proofs.put_block.Statement.{statement}
 use Rattle.ack_writer.proofs.put_block.Tie as tie

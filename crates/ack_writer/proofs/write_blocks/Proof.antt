@@ -4,13 +4,10 @@ use Prim.Native.Nat.{ℕ}
 use lib.ListN.{length-replicate}
 use Rattle.ack_blocks.specs.Limits.{maxBlocks}
 use Rattle.ack_writer.specs.Write.{writes}
-use Rattle.ack_writer.proofs.Lays.{front-of, front-size, leaves, puts}
+use Rattle.ack_writer.proofs.ListTurns.{front-of, front-size, leaves, puts}
 use borrow.Author.Needs.{needs}
 use Rattle.ack_writer.proofs.write_blocks.Statement.{statement}
 use Rattle.ack_writer.proofs.write_blocks.Tie as tie
-
-slice-aggregate-lay : tie.Need-slice-aggregate-lay
-slice-aggregate-lay c = sym (length-replicate {A = ℕ} maxBlocks 0)
 
 enum-told : tie.Need-enum-told
 enum-told c = search needs
@@ -30,9 +27,6 @@ array-share-prefix-blocks c =
     let a = start .args in
     front-of (a .list .now) _ _ _ _ _ (at-lay .lay .ensures) (ap writes (at-r .r .given .1)) (length-replicate {A = ℕ} maxBlocks 0) .0
 
-slice-aggregate-put-bytes : tie.Need-slice-aggregate-put-bytes
-slice-aggregate-put-bytes c = front-size _ _ (array-share-prefix-blocks (c .before))
-
 returns-2 : tie.Need-returns-2
 returns-2 c =
     let at-put-bytes = c .before .before in
@@ -46,13 +40,13 @@ pub write-blocks-spec : {M : Type 1} → statement M
 write-blocks-spec =
     tie.close
     (tie.spec
-    slice-aggregate-lay
+    (λ c. sym (length-replicate {A = ℕ} maxBlocks 0))
     (λ c κs. search needs)
     (λ c. search needs)
     enum-told
     returns
     array-share-prefix-blocks
-    slice-aggregate-put-bytes
+    (λ c. front-size _ _ (array-share-prefix-blocks (c .before)))
     (λ c κs. search needs)
     (λ c. search needs)
     returns-2)

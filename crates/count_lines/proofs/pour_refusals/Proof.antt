@@ -7,7 +7,7 @@ use borrow.Author.Needs.{needs}
 use Rattle.output.specs.Output.{Pours}
 use Rattle.output.proofs.Sending.{pours-none, pours-then, pours-is}
 use Rattle.count_lines.specs.Lines.{refusedLine, refusedLines}
-use Rattle.count_lines.proofs.More.{refused-more}
+use Rattle.count_lines.proofs.OneLineMore.{refused-more}
 use Rattle.count_lines.proofs.pour_refusals.Statement.{statement}
 use Rattle.count_lines.proofs.pour_refusals.Tie as tie
 
@@ -16,9 +16,6 @@ Inv-loop out₀ at refused next₀ i₀ out next i = (i ≤ length refused) × (
 
 abbrev μ-loop : tie.MeasureT-loop
 μ-loop out₀ at refused next₀ i₀ out next i = length refused - i
-
-loop-holds : tie.Need-loop-holds Inv-loop μ-loop
-loop-holds c = let a = c .before .before .args in (omega arith, refl, pours-none (a .out .now) (a .at))
 
 loop-again : tie.Need-loop-again Inv-loop μ-loop
 loop-again c =
@@ -46,7 +43,7 @@ pour-refusals-spec =
     (tie.spec
     Inv-loop
     μ-loop
-    loop-holds
+    (λ c. let a = c .before .before .args in (omega arith, refl, pours-none (a .out .now) (a .at)))
     (λ c κs. search needs)
     (λ c κs. search needs)
     (λ c. search needs)

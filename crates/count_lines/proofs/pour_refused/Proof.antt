@@ -1,6 +1,6 @@
 -- No line for none, else its pieces. Assumes nothing.
 use Rattle.output.proofs.Sending.{pours-none, pours-is, pours-then}
-use Rattle.count_lines.proofs.More.{refused-none, refused-some}
+use Rattle.count_lines.proofs.OneLineMore.{refused-none, refused-some}
 use borrow.Author.Needs.{needs}
 use Rattle.count_lines.proofs.pour_refused.Statement.{statement}
 use Rattle.count_lines.proofs.pour_refused.Tie as tie

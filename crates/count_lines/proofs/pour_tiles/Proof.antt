@@ -7,7 +7,7 @@ use borrow.Author.Needs.{needs}
 use Rattle.output.specs.Output.{Pours}
 use Rattle.output.proofs.Sending.{pours-none, pours-then, pours-is}
 use Rattle.count_lines.specs.Lines.{tileLine, tileLines}
-use Rattle.count_lines.proofs.More.{tile-more}
+use Rattle.count_lines.proofs.OneLineMore.{tile-more}
 use Rattle.count_lines.proofs.pour_tiles.Statement.{statement}
 use Rattle.count_lines.proofs.pour_tiles.Tie as tie
 
@@ -21,9 +21,6 @@ Inv-loop out₀ at n tile pits sure next₀ i₀ out next i = (i ≤ n) × (leng
 
 abbrev μ-loop : tie.MeasureT-loop
 μ-loop out₀ at n tile pits sure next₀ i₀ out next i = n - i
-
-loop-holds : tie.Need-loop-holds Inv-loop μ-loop
-loop-holds c = let a = c .before .before .before .before .args in (omega arith, refl, pours-none (a .out .now) (a .at))
 
 loop-again : tie.Need-loop-again Inv-loop μ-loop
 loop-again c =
@@ -54,7 +51,7 @@ pour-tiles-spec =
     (tie.spec
     Inv-loop
     μ-loop
-    loop-holds
+    (λ c. let a = c .before .before .before .before .args in (omega arith, refl, pours-none (a .out .now) (a .at)))
     (λ c κs. search needs)
     (λ c κs. search needs)
     (λ c κs. search needs)

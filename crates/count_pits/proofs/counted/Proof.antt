@@ -4,9 +4,6 @@ use Rattle.output.proofs.Zeros.{zeros}
 use Rattle.count_pits.proofs.counted.Statement.{statement}
 use Rattle.count_pits.proofs.counted.Tie as tie
 
-slice-aggregate-pour-log : tie.Need-slice-aggregate-pour-log
-slice-aggregate-pour-log c = zeros 2_097_152
-
 same-length : tie.Need-same-length
 same-length c =
     let at-out = c .before .before .before .before .before .before in
@@ -16,7 +13,7 @@ pub counted-spec : {M : Type 1} → statement M
 counted-spec =
     tie.close
     (tie.spec
-    slice-aggregate-pour-log
+    (λ c. zeros 2_097_152)
     (λ c. search needs)
     (λ c. search needs)
     (λ c κs. search needs)

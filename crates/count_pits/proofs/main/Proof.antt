@@ -4,8 +4,5 @@ use Rattle.output.proofs.Zeros.{zeros}
 use Rattle.count_pits.proofs.main.Statement.{statement}
 use Rattle.count_pits.proofs.main.Tie as tie
 
-slice-aggregate-run : tie.Need-slice-aggregate-run
-slice-aggregate-run c = zeros _
-
 pub main-spec : {M : Type 1} → statement M
-main-spec = tie.close (tie.spec slice-aggregate-run (λ c. search needs) (λ c κs. search needs) (λ c. search needs))
+main-spec = tie.close (tie.spec (λ c. zeros _) (λ c. search needs) (λ c κs. search needs) (λ c. search needs))

@@ -2,7 +2,7 @@
 use mathlib.Core.Path.{ap, _∙_}
 use Rattle.output.proofs.Sending.{pours-is}
 use Rattle.count_pits.specs.Lines.{outcomeLines, countLines}
-use Rattle.count_pits.proofs.Same.{same-lines}
+use Rattle.count_pits.proofs.StructLines.{same-lines}
 use borrow.Author.Needs.{needs}
 use Rattle.count_pits.proofs.pour_log.Statement.{statement}
 use Rattle.count_pits.proofs.pour_log.Tie as tie

@@ -6,7 +6,9 @@ use Rattle.count_pits.proofs.pour_report.Tie as tie
 
 slice-aggregate-pour-tiles-3 : tie.Need-slice-aggregate-pour-tiles-3
 slice-aggregate-pour-tiles-3 c =
-    let start = c .before .before .before .before .before .before .before .before .before .before .before .before .before .before .before .before .before .before .before .before .before .before in
+    let earlier = c .before .before .before .before .before .before .before .before in
+    let earlier-2 = earlier .before .before .before .before .before .before .before .before in
+    let start = earlier-2 .before .before .before .before .before .before in
     let g = start .good .1 .1 .0 .1 .1 .1 .1 .1 .1 .1 .1 .1 .1 .1 .0 in search needs
 
 returns : tie.Need-returns

@@ -28,8 +28,9 @@ returns-2 : tie.Need-returns-2
 returns-2 c =
     let t = c .before .before in
     let k = t .before .before .before in
-    let a = k .before .before .before .before .before .before .before .before .before .args in
-    let h = sym (ap says (k .indexed2 .given .1)) ∙ k .before .before .before .before .index-log .ensures .answer in
+    let walked = k .before .before .before .before in
+    let a = walked .before .before .before .before .before .args in
+    let h = sym (ap says (k .indexed2 .given .1)) ∙ walked .index-log .ensures .answer in
     pours-is (t .pour-refused .ensures) (ap (λ (w : Answer). answerLine w (firstEntry (a .log .now) (a .sender) (a .sequence))) h)
 
 pub answer-spec : {M : Type 1} → statement M

@@ -8,16 +8,7 @@ use Rattle.find.proofs.looked_up.Tie as tie
 slice-aggregate-run : tie.Need-slice-aggregate-run
 slice-aggregate-run c = zeros _
 
-slice-aggregate-run-2 : tie.Need-slice-aggregate-run-2
-slice-aggregate-run-2 c = zeros _
-
-slice-aggregate-run-3 : tie.Need-slice-aggregate-run-3
-slice-aggregate-run-3 c = zeros _
-
-returns : tie.Need-returns
-returns c = tt
-
 pub looked-up-spec : {M : Type 1} → statement M
 looked-up-spec =
     tie.close
-    (tie.spec slice-aggregate-run slice-aggregate-run-2 slice-aggregate-run-3 (λ c κs. search needs) returns)
+    (tie.spec slice-aggregate-run (λ c. zeros _) (λ c. zeros _) (λ c κs. search needs) (λ c. tt))

@@ -37,8 +37,9 @@ returns-2 c =
 
 loop-again : tie.Need-loop-again Inv-loop μ-loop
 loop-again c =
-    let a = c .before .before .before .before .before .before .before .before .before .args in
-    let l = c .before .before .before .before .before .before .loop in
+    let turn = c .before .before .before .before .before .before in
+    let a = turn .before .before .before .args in
+    let l = turn .loop in
     let e = sym (ap says (c .before .next .given .1)) ∙ c .before .before .before .with-digit .ensures in
     (omega arith, digits-next (a .most) (l .v) (a .text .now) (l .i) (c .before .before .before .before .before .loop-test .taken) _ e ∙ l .inv .1)
 

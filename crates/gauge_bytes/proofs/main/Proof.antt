@@ -5,27 +5,12 @@ use Rattle.output.proofs.Zeros.{zeros}
 use Rattle.gauge_bytes.proofs.main.Statement.{statement}
 use Rattle.gauge_bytes.proofs.main.Tie as tie
 
-slice-aggregate-run : tie.Need-slice-aggregate-run
-slice-aggregate-run c = zeros _
-
-slice-aggregate-run-2 : tie.Need-slice-aggregate-run-2
-slice-aggregate-run-2 c = zeros _
-
-slice-aggregate-run-3 : tie.Need-slice-aggregate-run-3
-slice-aggregate-run-3 c = zeros _
-
-run-requires : tie.Need-run-requires
-run-requires c κs = (sym (zeros _), search needs)
-
-returns : tie.Need-returns
-returns c = tt
-
 pub main-spec : {M : Type 1} → statement M
 main-spec =
     tie.close
     (tie.spec
-    slice-aggregate-run
-    slice-aggregate-run-2
-    slice-aggregate-run-3
-    run-requires
-    returns)
+    (λ c. zeros _)
+    (λ c. zeros _)
+    (λ c. zeros _)
+    (λ c κs. (sym (zeros _), search needs))
+    (λ c. tt))

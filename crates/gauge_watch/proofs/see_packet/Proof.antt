@@ -16,9 +16,6 @@ see-header-requires c κs =
     let k = place in
     sym (ap reads (r .given .1)) ∙ k .read-packet .ensures
 
-returns : tie.Need-returns
-returns c = c .see-header .ensures
-
 returns-2 : tie.Need-returns-2
 returns-2 c =
     let at-read2 = c .before in
@@ -37,5 +34,5 @@ see-packet-spec =
     (λ c. search needs)
     see-header-requires
     (λ c. search needs)
-    returns
+    (λ c. c .see-header .ensures)
     returns-2)

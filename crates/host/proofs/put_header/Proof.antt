@@ -14,33 +14,6 @@ returns c =
     let t = lt-ltb _ 10 (c .if1 .taken) in
     record { gave = rw t; left = rw t }
 
-slice-write-fields-2 : tie.Need-slice-write-fields-2
-slice-write-fields-2 c = simp length-set (omega arith)
-
-slice-write-fields-3 : tie.Need-slice-write-fields-3
-slice-write-fields-3 c = simp length-set (omega arith)
-
-slice-write-fields-4 : tie.Need-slice-write-fields-4
-slice-write-fields-4 c = simp length-set (omega arith)
-
-slice-write-fields-5 : tie.Need-slice-write-fields-5
-slice-write-fields-5 c = simp length-set (omega arith)
-
-slice-write-fields-6 : tie.Need-slice-write-fields-6
-slice-write-fields-6 c = simp length-set (omega arith)
-
-slice-write-fields-7 : tie.Need-slice-write-fields-7
-slice-write-fields-7 c = simp length-set (omega arith)
-
-slice-write-fields-8 : tie.Need-slice-write-fields-8
-slice-write-fields-8 c = simp length-set (omega arith)
-
-slice-write-fields-9 : tie.Need-slice-write-fields-9
-slice-write-fields-9 c = simp length-set (omega arith)
-
-slice-write-fields-10 : tie.Need-slice-write-fields-10
-slice-write-fields-10 c = simp length-set (omega arith)
-
 returns-2 : tie.Need-returns-2
 returns-2 c =
     let at-kind-of = c .before .before .before .before in
@@ -57,18 +30,18 @@ put-header-spec =
     returns
     (λ c κs. search needs)
     (λ c. search needs)
-    slice-write-fields-2
-    slice-write-fields-3
-    slice-write-fields-4
-    slice-write-fields-5
-    slice-write-fields-6
+    (λ c. simp length-set (omega arith))
+    (λ c. simp length-set (omega arith))
+    (λ c. simp length-set (omega arith))
+    (λ c. simp length-set (omega arith))
+    (λ c. simp length-set (omega arith))
     (λ c. search needs)
-    slice-write-fields-7
+    (λ c. simp length-set (omega arith))
     (λ c. search needs)
-    slice-write-fields-8
+    (λ c. simp length-set (omega arith))
     (λ c. search needs)
-    slice-write-fields-9
+    (λ c. simp length-set (omega arith))
     (λ c. search needs)
-    slice-write-fields-10
+    (λ c. simp length-set (omega arith))
     (λ c. search needs)
     returns-2)

@@ -5,9 +5,6 @@ use borrow.Author.Needs.{needs}
 use Rattle.host_acks.proofs.qm_acks_ask.Statement.{statement}
 use Rattle.host_acks.proofs.qm_acks_ask.Tie as tie
 
-returns : tie.Need-returns
-returns c = ask-short _ _ _ (c .if1 .taken)
-
 returns-2 : tie.Need-returns-2
 returns-2 c =
     let p = c .before .before in
@@ -32,7 +29,7 @@ pub qm-acks-ask-spec : {M : Type 1} → statement M
 qm-acks-ask-spec =
     tie.close
     (tie.spec
-    returns
+    (λ c. ask-short _ _ _ (c .if1 .taken))
     (λ c κs. search needs)
     (λ c. search needs)
     (λ c κs. search needs)

@@ -5,9 +5,6 @@ use borrow.Author.Needs.{needs}
 use Rattle.host_acks.proofs.qm_acks_write.Statement.{statement}
 use Rattle.host_acks.proofs.qm_acks_write.Tie as tie
 
-returns : tie.Need-returns
-returns c = write-short _ _ _ (c .if1 .taken)
-
 returns-2 : tie.Need-returns-2
 returns-2 c =
     let p = c .before .before in
@@ -25,7 +22,7 @@ pub qm-acks-write-spec : {M : Type 1} → statement M
 qm-acks-write-spec =
     tie.close
     (tie.spec
-    returns
+    (λ c. write-short _ _ _ (c .if1 .taken))
     (λ c κs. search needs)
     (λ c. search needs)
     (λ c κs. search needs)

@@ -6,9 +6,6 @@ use borrow.Author.Needs.{needs}
 use Rattle.host_flight.proofs.qm_log_first.Statement.{statement}
 use Rattle.host_flight.proofs.qm_log_first.Tie as tie
 
-returns : tie.Need-returns
-returns c = first-short _ _ (lt-ltb _ 3 (c .if1 .taken))
-
 returns-2 : tie.Need-returns-2
 returns-2 c =
     let putting = c .before .before in
@@ -25,7 +22,7 @@ pub qm-log-first-spec : {M : Type 1} → statement M
 qm-log-first-spec =
     tie.close
     (tie.spec
-    returns
+    (λ c. first-short _ _ (lt-ltb _ 3 (c .if1 .taken)))
     (λ c κs. search needs)
     (λ c. search needs)
     (λ c. search needs)

@@ -6,9 +6,6 @@ use borrow.Author.Needs.{needs}
 use Rattle.host_flight.proofs.qm_log_next.Statement.{statement}
 use Rattle.host_flight.proofs.qm_log_next.Tie as tie
 
-returns : tie.Need-returns
-returns c = next-short _ _ _ (lt-ltb _ 6 (c .if1 .taken))
-
 enum-told : tie.Need-enum-told
 enum-told c = search needs
 
@@ -35,7 +32,7 @@ pub qm-log-next-spec : {M : Type 1} → statement M
 qm-log-next-spec =
     tie.close
     (tie.spec
-    returns
+    (λ c. next-short _ _ _ (lt-ltb _ 6 (c .if1 .taken)))
     (λ c κs. search needs)
     (λ c. search needs)
     (λ c κs. search needs)

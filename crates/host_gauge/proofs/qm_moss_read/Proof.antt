@@ -5,9 +5,6 @@ use borrow.Author.Needs.{needs}
 use Rattle.host_gauge.proofs.qm_moss_read.Statement.{statement}
 use Rattle.host_gauge.proofs.qm_moss_read.Tie as tie
 
-returns : tie.Need-returns
-returns c = packet-short _ _ (c .if1 .taken)
-
 returns-2 : tie.Need-returns-2
 returns-2 c =
     let p = c .before .before in
@@ -25,7 +22,7 @@ pub qm-moss-read-spec : {M : Type 1} → statement M
 qm-moss-read-spec =
     tie.close
     (tie.spec
-    returns
+    (λ c. packet-short _ _ (c .if1 .taken))
     (λ c κs. search needs)
     (λ c. search needs)
     (λ c. search needs)

@@ -5,12 +5,6 @@ use borrow.Author.Needs.{needs}
 use Rattle.host_gauge.proofs.qm_moss_write.Statement.{statement}
 use Rattle.host_gauge.proofs.qm_moss_write.Tie as tie
 
-returns : tie.Need-returns
-returns c = session-short _ _ _ _ _ _ (c .if1 .taken)
-
-returns-2 : tie.Need-returns-2
-returns-2 c = write-short _ _ _ _ _ _ (c .if2 .taken)
-
 returns-3 : tie.Need-returns-3
 returns-3 c =
     let p = c .before .before in
@@ -32,8 +26,8 @@ pub qm-moss-write-spec : {M : Type 1} → statement M
 qm-moss-write-spec =
     tie.close
     (tie.spec
-    returns
-    returns-2
+    (λ c. session-short _ _ _ _ _ _ (c .if1 .taken))
+    (λ c. write-short _ _ _ _ _ _ (c .if2 .taken))
     (λ c κs. search needs)
     (λ c κs. search needs)
     (λ c. search needs)

@@ -7,8 +7,5 @@ use borrow.Author.Needs.{needs}
 use Rattle.host_index.proofs.place_numbers.Statement.{statement}
 use Rattle.host_index.proofs.place_numbers.Tie as tie
 
-returns : tie.Need-returns
-returns c = sym (ap (λ (f : Found). placeNumbers (says f)) (c .before .found .given .1))
-
 pub place-numbers-spec : {M : Type 1} → statement M
-place-numbers-spec = tie.close (tie.spec (λ c. search needs) (λ c. search needs) returns (λ c. search needs))
+place-numbers-spec = tie.close (tie.spec (λ c. search needs) (λ c. search needs) (λ c. sym (ap (λ (f : Found). placeNumbers (says f)) (c .before .found .given .1))) (λ c. search needs))

@@ -4,9 +4,6 @@ use borrow.Author.Needs.{needs}
 use Rattle.host_index.proofs.qm_find.Statement.{statement}
 use Rattle.host_index.proofs.qm_find.Tie as tie
 
-returns : tie.Need-returns
-returns c = find-short _ _ _ _ _ (c .if1 .taken)
-
 returns-2 : tie.Need-returns-2
 returns-2 c =
     let putting = c .before .before in
@@ -20,7 +17,7 @@ pub qm-find-spec : {M : Type 1} → statement M
 qm-find-spec =
     tie.close
     (tie.spec
-    returns
+    (λ c. find-short _ _ _ _ _ (c .if1 .taken))
     (λ c κs. search needs)
     (λ c κs. search needs)
     (λ c κs. search needs)

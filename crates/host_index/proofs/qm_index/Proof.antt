@@ -4,11 +4,5 @@ use borrow.Author.Needs.{needs}
 use Rattle.host_index.proofs.qm_index.Statement.{statement}
 use Rattle.host_index.proofs.qm_index.Tie as tie
 
-told-requires : tie.Need-told-requires
-told-requires c κs = index-few _ _ _ _ (c .before .before .index-log .ensures)
-
-returns : tie.Need-returns
-returns c = index-told _ _ _ _ _ (c .before .before .before .index-log .ensures) (c .told .ensures)
-
 pub qm-index-spec : {M : Type 1} → statement M
-qm-index-spec = tie.close (tie.spec (λ c κs. search needs) told-requires (λ c. search needs) returns)
+qm-index-spec = tie.close (tie.spec (λ c κs. search needs) (λ c κs. index-few _ _ _ _ (c .before .before .index-log .ensures)) (λ c. search needs) (λ c. index-told _ _ _ _ _ (c .before .before .before .index-log .ensures) (c .told .ensures)))

@@ -14,9 +14,6 @@ add-result c =
     let few = subst (λ (r : Indexed). Few (says r)) (met .indexed .given .1) (met .before .before .pre) in
     omega (arith, few)
 
-returns : tie.Need-returns
-returns c = sym (ap (λ (r : Indexed). indexCode (says r)) (c .before .indexed .given .1))
-
 pub told-spec : {M : Type 1} → statement M
 told-spec =
     tie.close
@@ -25,5 +22,5 @@ told-spec =
     add-result
     (λ c. search needs)
     (λ c κs. search needs)
-    returns
+    (λ c. sym (ap (λ (r : Indexed). indexCode (says r)) (c .before .indexed .given .1)))
     (λ c. search needs))

@@ -5,9 +5,6 @@ use borrow.Author.Needs.{needs}
 use Rattle.host_messages.proofs.qm_write_message.Statement.{statement}
 use Rattle.host_messages.proofs.qm_write_message.Tie as tie
 
-returns : tie.Need-returns
-returns c = write-short _ _ _ _ (c .if1 .taken)
-
 returns-2 : tie.Need-returns-2
 returns-2 c =
     let p = c .before .before in
@@ -25,7 +22,7 @@ pub qm-write-message-spec : {M : Type 1} → statement M
 qm-write-message-spec =
     tie.close
     (tie.spec
-    returns
+    (λ c. write-short _ _ _ _ (c .if1 .taken))
     (λ c κs. search needs)
     (λ c. search needs)
     (λ c κs. search needs)

@@ -17,15 +17,16 @@ returns c =
 
 returns-2 : tie.Need-returns-2
 returns-2 c =
-    let earlier = c .before .before .before .before .before .before .before .before in
-    let earlier-2 = earlier .before .before .before .before .before .before .before .before in
-    let done = earlier-2 .before .before .before in
-    let a = done .before .before .before .before
-    .before .before .before .before .before .before .before .before .before .before .before .before .before .before .before .args in
-    let earlier-3 = done .before .before .before .before .before .before .before .before in
+    let telling = c .before .before .before .before .before .before .before .before in
+    let slices = telling .before .before .before .before .before .before .before .before in
+    let done = slices .before .before .before in
+    let room = done .before .before .before .before .before .before .before .before in
+    let choice = room .before in
+    let loaned = choice .before .before .before .before .before .before .before .before in
+    let a = loaned .before .before .args in
     told-so (a .log .now) (a .place) (a .most) (desk (lent (a .state .now) (a .names .now) (a .store .now) (a .ledger .now)) (book (a .numbers .now) (setsOf (a .tiles .now) (a .pits .now) (a .sure .now))))
     (record { tiles = a .had-tiles; pits = a .had-pits; sure = a .had-sure }) (a .told .now)
-    (earlier-3 .before .if1 .left)
+    (choice .if1 .left)
     (done .count-on .result) _ (done .count-on .ensures) _ (c .before .before .put-stretch .ensures)
 
 pub qm-count-on-spec : {M : Type 1} → statement M

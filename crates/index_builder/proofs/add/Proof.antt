@@ -7,9 +7,6 @@ use borrow.Author.Needs.{needs}
 use Rattle.index_builder.proofs.add.Statement.{statement}
 use Rattle.index_builder.proofs.add.Tie as tie
 
-returns : tie.Need-returns
-returns c = adds-batch (c .before .before .before .add-within .ensures) (omega (arith, length-replicate {A = ℕ} 192 0))
-
 pub add-spec : {M : Type 1} → statement M
 add-spec =
     tie.close
@@ -17,4 +14,4 @@ add-spec =
     (λ c. search needs)
     (λ c κs. search needs)
     (λ c. search needs)
-    returns)
+    (λ c. adds-batch (c .before .before .before .add-within .ensures) (omega (arith, length-replicate {A = ℕ} 192 0))))

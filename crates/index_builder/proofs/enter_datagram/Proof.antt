@@ -1,6 +1,6 @@
 -- A row where the reader accepts the datagram, or none. Assumes nothing.
 use mathlib.Core.Path.{sym, _∙_}
-use Rattle.index_builder.proofs.Walks.{take-none, take-one}
+use Rattle.index_builder.proofs.EntryTurns.{take-none, take-one}
 use borrow.Author.Needs.{needs}
 use Rattle.index_builder.proofs.enter_datagram.Statement.{statement}
 use Rattle.index_builder.proofs.enter_datagram.Tie as tie

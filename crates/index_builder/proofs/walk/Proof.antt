@@ -9,12 +9,10 @@ use Rattle.datagram.specs.Read.{readDatagram}
 use Rattle.datagram.specs.declared.Read.{Read}
 use Rattle.log_index.specs.Index.{rowFor, rowsFrom}
 use Rattle.log_index.proofs.Gathers.{ahead, next-found, next-ended, next-refused, rows-past}
-use Rattle.index_builder.proofs.Walks.{Going, going-start, going-next, going-refused, going-none, going-done}
+use Rattle.index_builder.proofs.EntryTurns.{Going, going-start, going-next, going-refused, going-none, going-done}
 use borrow.Author.Needs.{needs}
 use Rattle.index_builder.proofs.walk.Statement.{statement}
 use Rattle.index_builder.proofs.walk.Tie as tie
-
--- The loop: the rows in the index, those that wait and those to come are all. Assumes nothing.
 
 abbrev Inv-loop : tie.InvT-loop
 Inv-loop log from limits index₀ n batch₀ at₀ rows₀ waiting₀ index batch at rows waiting = (rows + waiting + from ≤ n + at) × ((at ≤ length log + from) × Going index₀ n (rowsFrom limits log from) (length batch₀) index rows batch waiting (rowsFrom limits log at))
@@ -45,7 +43,8 @@ settle-requires c κs =
 
 loop-less : tie.Need-loop-less Inv-loop μ-loop
 loop-less c =
-    let s = c .before .before .before .before .before .before .before .before .before .before .before in
+    let at-enter-datagram = c .before .before .before .before .before .before .before in
+    let s = at-enter-datagram .before .before .before .before in
     let at-next-entry = s .before .before in
     let turn = at-next-entry .before .before in
     let z = turn .before .before .before in
@@ -100,12 +99,6 @@ returns c =
     let all : Bytes (a .log .now) = λ i. omega (arith, z .shared-slice-known .given i) in
     let e = next-ended (a .limits) (a .log .now) all (l .at) (sym (at-next-entry .next-entry .ensures) ∙ k .enum-told .given .1) in
     going-done _ _ _ _ _ _ _ _ _ (l .inv .1 .1) e _ _ (at-finish .finish .ensures)
-
-same-length-3 : tie.Need-same-length-3 Inv-loop μ-loop
-same-length-3 c = c .before .before .before .before .before .loop .inv .1 .1 .size
-
-same-length-4 : tie.Need-same-length-4 Inv-loop μ-loop
-same-length-4 c = c .before .before .before .before .before .loop .inv .1 .1 .held
 
 returns-2 : tie.Need-returns-2 Inv-loop μ-loop
 returns-2 c =
@@ -163,8 +156,8 @@ walk-spec =
     (λ c. search needs)
     returns
     (λ c. search needs)
-    same-length-3
-    same-length-4
+    (λ c. c .before .before .before .before .before .loop .inv .1 .1 .size)
+    (λ c. c .before .before .before .before .before .loop .inv .1 .1 .held)
     returns-2
     finish-requires-2
     (λ c. search needs)

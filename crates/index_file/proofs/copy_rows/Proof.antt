@@ -33,9 +33,6 @@ loop-again c =
     let a = turn .before .before .before .args in
     (omega arith, copy-turn (fileRow (a .file .now)) (a .index .now) (turn .loop .i) _ _ _ (turn .loop .inv .1) (row .row-at .ensures) (put .put-words .ensures))
 
-same-length : tie.Need-same-length Inv-loop μ-loop
-same-length c = c .before .loop .inv .1 .size
-
 returns : tie.Need-returns Inv-loop μ-loop
 returns c =
     let turn = c .before in
@@ -54,5 +51,5 @@ copy-rows-spec =
     (λ c. search needs)
     (λ c. search needs)
     loop-again
-    same-length
+    (λ c. c .before .loop .inv .1 .size)
     returns)

@@ -16,9 +16,6 @@ Inv-loop file n i₀ i = (1 ≤ i) × ((i ≤ n + 1) × (inOrder (fileRow file) 
 abbrev μ-loop : tie.MeasureT-loop
 μ-loop file n i₀ i = n - i
 
-loop-holds : tie.Need-loop-holds Inv-loop μ-loop
-loop-holds c = (omega arith, (omega arith, order-none (fileRow (c .before .args .file .now))))
-
 returns : tie.Need-returns Inv-loop μ-loop
 returns c =
     let asked = c .before in
@@ -53,7 +50,7 @@ in-order-spec =
     (tie.spec
     Inv-loop
     μ-loop
-    loop-holds
+    (λ c. (omega arith, (omega arith, order-none (fileRow (c .before .args .file .now)))))
     (λ c. search needs)
     (λ c κs. search needs)
     (λ c κs. search needs)

@@ -4,15 +4,6 @@ use borrow.Author.Needs.{needs}
 use Rattle.index_file.proofs.read_head.Statement.{statement}
 use Rattle.index_file.proofs.read_head.Tie as tie
 
-returns : tie.Need-returns
-returns c = head-short (c .before .before .args .file .now) (c .if1 .taken)
-
-returns-2 : tie.Need-returns-2
-returns-2 c = head-other (c .before .before .before .before .args .file .now) (c .if2 .taken)
-
-returns-3 : tie.Need-returns-3
-returns-3 c = head-odd (c .before .before .before .before .before .args .file .now) (c .if3 .taken)
-
 returns-4 : tie.Need-returns-4
 returns-4 c = head-count (c .before .before .before .before .before .before .before .args .file .now) _ (c .before .number .ensures) (c .if4 .taken)
 
@@ -30,11 +21,11 @@ pub read-head-spec : {M : Type 1} → statement M
 read-head-spec =
     tie.close
     (tie.spec
-    returns
+    (λ c. head-short (c .before .before .args .file .now) (c .if1 .taken))
     (λ c. search needs)
-    returns-2
+    (λ c. head-other (c .before .before .before .before .args .file .now) (c .if2 .taken))
     (λ c. search needs)
-    returns-3
+    (λ c. head-odd (c .before .before .before .before .before .args .file .now) (c .if3 .taken))
     (λ c κs. search needs)
     returns-4
     (λ c κs. search needs)

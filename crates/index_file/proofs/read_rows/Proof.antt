@@ -10,9 +10,6 @@ use Rattle.index_file.proofs.read_rows.Tie as tie
 enum-told : tie.Need-enum-told
 enum-told c = search needs
 
-returns : tie.Need-returns
-returns c = reads-other _ _ _ (sym (c .before .before .read-head .ensures) ∙ c .enum-told .given .1)
-
 returns-2 : tie.Need-returns-2
 returns-2 c =
     let ordered = c .before in
@@ -45,7 +42,7 @@ read-rows-spec =
     (λ c κs. search needs)
     (λ c. search needs)
     enum-told
-    returns
+    (λ c. reads-other _ _ _ (sym (c .before .before .read-head .ensures) ∙ c .enum-told .given .1))
     (λ c κs. search needs)
     returns-2
     returns-3

@@ -19,9 +19,6 @@ Inv-loop index n out₀ at₀ i₀ out at i = (length out ≡ length out₀) × 
 abbrev μ-loop : tie.MeasureT-loop
 μ-loop index n out₀ at₀ i₀ out at i = n - i
 
-loop-holds : tie.Need-loop-holds Inv-loop μ-loop
-loop-holds c = let a = c .before .before .args in (refl, (omega arith, pours-none (a .out .now) 0))
-
 loop-again : tie.Need-loop-again Inv-loop μ-loop
 loop-again c =
     let p = c .before .before in
@@ -47,7 +44,7 @@ listed-spec =
     (tie.spec
     Inv-loop
     μ-loop
-    loop-holds
+    (λ c. let a = c .before .before .args in (refl, (omega arith, pours-none (a .out .now) 0)))
     (λ c κs. search needs)
     (λ c. search needs)
     (λ c. search needs)

@@ -8,12 +8,6 @@ use Rattle.index_look.proofs.has_key.Tie as tie
 enum-told : tie.Need-enum-told
 enum-told c = search needs
 
-enum-told-2 : tie.Need-enum-told-2
-enum-told-2 c = search needs
-
-enum-told-3 : tie.Need-enum-told-3
-enum-told-3 c = search needs
-
 returns : tie.Need-returns
 returns c =
     let opened = c .before .before in
@@ -70,7 +64,7 @@ has-key-spec =
     (λ c κs. search needs)
     (λ c κs. search needs)
     returns-3
-    enum-told-2
+    (λ c. search needs)
     returns-4
-    enum-told-3
+    (λ c. search needs)
     returns-5)

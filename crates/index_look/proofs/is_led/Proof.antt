@@ -3,12 +3,9 @@ use borrow.Author.Needs.{needs}
 use Rattle.index_look.proofs.is_led.Statement.{statement}
 use Rattle.index_look.proofs.is_led.Tie as tie
 
-returns : tie.Need-returns
-returns c = c .has-key .ensures
-
 pub is-led-spec : {M : Type 1} → statement M
 is-led-spec =
     tie.close
     (tie.spec
     (λ c κs. search needs)
-    returns)
+    (λ c. c .has-key .ensures))

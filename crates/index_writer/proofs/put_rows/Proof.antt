@@ -33,9 +33,6 @@ loop-again c =
     let a = turn .before .before .before .args in
     (omega arith, lay-turn (rowAt (a .index .now)) (a .file .now) (turn .loop .i) _ _ (rowAt (a .index .now) (turn .loop .i)) (turn .loop .inv .1) refl (put .put-row .ensures))
 
-same-length : tie.Need-same-length Inv-loop μ-loop
-same-length c = c .before .loop .inv .1 .size
-
 returns : tie.Need-returns Inv-loop μ-loop
 returns c =
     let turn = c .before in
@@ -64,5 +61,5 @@ put-rows-spec =
     (λ c. search needs)
     (λ c. search needs)
     loop-again
-    same-length
+    (λ c. c .before .loop .inv .1 .size)
     returns)

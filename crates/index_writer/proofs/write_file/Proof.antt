@@ -7,12 +7,6 @@ use borrow.Author.Needs.{needs}
 use Rattle.index_writer.proofs.write_file.Statement.{statement}
 use Rattle.index_writer.proofs.write_file.Tie as tie
 
-returns : tie.Need-returns
-returns c = writes-fewer _ _ _ _ (omega (arith, c .if1 .taken))
-
-returns-2 : tie.Need-returns-2
-returns-2 c = writes-short _ _ _ _ (omega (arith, c .before .if1 .left)) (omega (arith, c .if2 .taken))
-
 returns-3 : tie.Need-returns-3
 returns-3 c = writes-short _ _ _ _ (omega (arith, c .before .before .if1 .left)) (omega (arith, c .if3 .taken, c .before .if2 .left))
 
@@ -31,8 +25,8 @@ pub write-file-spec : {M : Type 1} → statement M
 write-file-spec =
     tie.close
     (tie.spec
-    returns
-    returns-2
+    (λ c. writes-fewer _ _ _ _ (omega (arith, c .if1 .taken)))
+    (λ c. writes-short _ _ _ _ (omega (arith, c .before .if1 .left)) (omega (arith, c .if2 .taken)))
     (λ c. search needs)
     returns-3
     (λ c κs. search needs)

@@ -15,9 +15,6 @@ returns c =
     let at : (k : ℕ) → cell (t .table .result) (a .i) k ≡ cell (packedOf (a .version)) (a .i) k = λ k. ap (λ (y : List (List ℕ)). cell y (a .i) k) (t .table .ensures) in
     row-is (a .version) (a .i) (t .before .if1 .taken) (c .before .before .before .before .before .entry .ensures ∙ at 0) (c .before .before .before .entry2 .ensures ∙ at 1) (at 2) (c .entry3 .ensures ∙ at 3)
 
-returns-2 : tie.Need-returns-2
-returns-2 c = let a = c .before .args in rows-end (a .version) (a .i) (c .if1 .left)
-
 pub row-at-spec : {M : Type 1} → statement M
 row-at-spec =
     tie.close
@@ -30,4 +27,4 @@ row-at-spec =
     (λ c. search needs)
     (λ c κs. search needs)
     returns
-    returns-2)
+    (λ c. let a = c .before .args in rows-end (a .version) (a .i) (c .if1 .left)))

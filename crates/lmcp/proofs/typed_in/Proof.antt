@@ -4,12 +4,6 @@ use Rattle.lmcp.proofs.Types.{typed-low, typed-high, typed-any, typed-d
 use Rattle.lmcp.proofs.typed_in.Statement.{statement}
 use Rattle.lmcp.proofs.typed_in.Tie as tie
 
-returns : tie.Need-returns
-returns c = typed-low (pitsurv (c .before .args .version)) _ _ (c .if1 .taken)
-
-returns-2 : tie.Need-returns-2
-returns-2 c = typed-high (pitsurv (c .before .before .args .version)) _ _ (c .if2 .taken)
-
 returns-3 : tie.Need-returns-3
 returns-3 c =
     let at-if2 = c .before in
@@ -25,4 +19,4 @@ returns-4 c =
     typed-declared (pitsurv (start .args .version)) _ _ (at-if1 .if1 .left) (at-if2 .if2 .left) (c .if3 .left)
 
 pub typed-in-spec : {M : Type 1} → statement M
-typed-in-spec = tie.close (tie.spec returns returns-2 returns-3 returns-4)
+typed-in-spec = tie.close (tie.spec (λ c. typed-low (pitsurv (c .before .args .version)) _ _ (c .if1 .taken)) (λ c. typed-high (pitsurv (c .before .before .args .version)) _ _ (c .if2 .taken)) returns-3 returns-4)

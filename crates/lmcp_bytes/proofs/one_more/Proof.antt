@@ -1,7 +1,7 @@
 -- A list is written, or it is too long, and its line goes out. Assumes nothing.
 use mathlib.Core.Path.{_≡_, refl, sym, ap, _∙_, subst}
 use mathlib.Core.Bool.{Bool}
-use mathlib.Core.List.{List}
+use mathlib.Core.List.{List, _++_}
 use Prim.Native.Nat.{ℕ, _/_}
 use lib.IntN.{ℤ}
 use lib.ListN.{length, take}
@@ -9,9 +9,11 @@ use lib.Seq.{sets}
 use borrow.Author.Tests.{lt-ltb, le-ltb}
 use Rattle.lmcp.specs.Message.{WrittenTo}
 use Rattle.lmcp.specs.Lists.{writeList}
-use Rattle.output.proofs.Sending.{pours-then}
+use Rattle.text.specs.Text.{decimal}
+use Rattle.output.proofs.Sending.{pours-then, pours-is}
 use Rattle.lmcp_bytes.specs.Lines.{numbersOf, byLength}
 use Rattle.lmcp_bytes.proofs.Taken.{length-numbers, taken-front}
+use Rattle.lmcp_bytes.proofs.Writing.{text-longer, text-written}
 use borrow.Author.Needs.{needs}
 use native.Mathlib.Omega.{arith}
 use Rattle.lmcp_bytes.proofs.one_more.Statement.{statement}
@@ -23,11 +25,17 @@ returns c =
     let t = p .before .before in
     let d = t .before .before .before in
     let a = d .before .before .before .before .before .args in
-    subst
-    (λ (b : Bool). byLength b (a .calculate) (a .body .now) (a .n) (record { list = a .list .now; bytes = a .bytes .now; out = a .out .now }) (a .at)
-    (record { list = a .list .now; bytes = a .bytes .now; out = p .pour-longer .last .0 }) (p .pour-longer .result))
-    (sym (lt-ltb (length (a .list .now)) (length (a .body .now) / 8) (t .if1 .taken)))
-    (record { same-list = refl; same-bytes = refl; said = pours-then (d .pour-decimal .ensures) (p .pour-longer .ensures) })
+    record {
+      held =
+          subst
+          (λ (b : Bool). byLength b (a .calculate) (a .body .now) (record { list = a .list .now; bytes = a .bytes .now; out = a .out .now })
+          (record { list = a .list .now; bytes = a .bytes .now; out = p .pour-longer .last .0 }))
+          (sym (lt-ltb (length (a .list .now)) (length (a .body .now) / 8) (t .if1 .taken)))
+          (record { same-list = refl; same-bytes = refl });
+      said =
+          pours-is (pours-then (d .pour-decimal .ensures) (p .pour-longer .ensures))
+          (ap (λ (l : List ℕ). decimal (a .n) ++ l) (text-longer (length (a .list .now)) (length (a .bytes .now)) (a .calculate) (a .body .now) (t .if1 .taken)));
+    }
 
 returns-2 : tie.Need-returns-2
 returns-2 c =
@@ -43,18 +51,19 @@ returns-2 c =
     (λ i. take (l .take-list .ensures .0 i) (l .take-list .ensures .1 i))
     ∙ ap (λ (k : ℕ). take k (sets (a .list .now) 0 vs)) (sym (length-numbers (length (a .body .now) / 8) (a .body .now)))
     ∙ taken-front (a .list .now) vs (omega (arith, length-numbers (length (a .body .now) / 8) (a .body .now), t .if1 .left)) in
-    subst
-    (λ (b : Bool). byLength b (a .calculate) (a .body .now) (a .n) (record { list = a .list .now; bytes = a .bytes .now; out = a .out .now }) (a .at)
-    (record { list = l .take-list .last .1 .0; bytes = w .write-message .last .1 .1 .0; out = p .pour-made .last .0 }) (p .pour-made .result))
-    (sym (le-ltb (length (a .list .now)) (length (a .body .now) / 8) (t .if1 .left)))
-    (record {
-      taken = l .take-list .ensures .1;
-      made = w .write-message .result;
-      written =
-          subst (λ (x : List ℤ). WrittenTo (writeList (a .calculate) x) (a .bytes .now) (w .write-message .result) (w .write-message .last .1 .1 .0)) (f .front .ensures ∙ e)
-          (w .write-message .ensures);
-      said = pours-then (d .pour-decimal .ensures) (p .pour-made .ensures);
-    })
+    let u = subst (λ (x : List ℤ). WrittenTo (writeList (a .calculate) x) (a .bytes .now) (w .write-message .result) (w .write-message .last .1 .1 .0)) (f .front .ensures ∙ e)
+    (w .write-message .ensures) in
+    record {
+      held =
+          subst
+          (λ (b : Bool). byLength b (a .calculate) (a .body .now) (record { list = a .list .now; bytes = a .bytes .now; out = a .out .now })
+          (record { list = l .take-list .last .1 .0; bytes = w .write-message .last .1 .1 .0; out = p .pour-made .last .0 }))
+          (sym (le-ltb (length (a .list .now)) (length (a .body .now) / 8) (t .if1 .left)))
+          (record { taken = l .take-list .ensures .1; made = w .write-message .result; written = u });
+      said =
+          pours-is (pours-then (d .pour-decimal .ensures) (p .pour-made .ensures))
+          (ap (λ (l : List ℕ). decimal (a .n) ++ l) (text-written (length (a .list .now)) (a .calculate) (a .body .now) (a .bytes .now) _ (w .write-message .result) (t .if1 .left) u));
+    }
 
 pub one-more-spec : {M : Type 1} → statement M
 one-more-spec =

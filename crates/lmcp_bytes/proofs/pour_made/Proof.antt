@@ -4,7 +4,7 @@ use mathlib.Core.List.{List, [], _∷_, _++_}
 use Prim.Native.Nat.{ℕ}
 use Rattle.text.specs.Text.{hex}
 use Rattle.output.proofs.Sending.{pours-then, pours-is}
-use Rattle.lmcp_bytes.specs.Lines.{madeText}
+use Rattle.lmcp_bytes.specs.Inside.{madeText}
 use borrow.Author.Needs.{needs}
 use Rattle.lmcp_bytes.proofs.pour_made.Statement.{statement}
 use Rattle.lmcp_bytes.proofs.pour_made.Tie as tie

@@ -1,5 +1,5 @@
 -- The walk that checks, a cycle of four functions. The measure falls with the depth that is left and, at one depth, from fields to a step, objects and an object.
-use mathlib.Core.Path.{_≡_, refl, ap, _∙_}
+use mathlib.Core.Path.{_≡_, refl, sym, ap, _∙_}
 use mathlib.Core.List.{List}
 use Prim.Native.Nat.{ℕ, _+_, _-_, _*_, _≤_, _<_}
 use native.Mathlib.Omega.{arith}
@@ -13,8 +13,10 @@ use Rattle.lmcp.proofs.WalkPlaces.{repeat-all}
 use Rattle.lmcp_check.specs.InsideSteps.{readObject, readFields}
 use Rattle.lmcp.specs.Packed.{packedOf, cell}
 use Rattle.lmcp_check.specs.InsideChecks.{Upto}
-use Rattle.lmcp_check.proofs.Goes.{begins, items-turn, items-stop, items-end}
-use Rattle.lmcp_check.proofs.Steps.{few-rows, step-run, step-object, step-cut, step-chars, step-objects, fields-turn, fields-stop, fields-done, bounds, step-inside, object-null, object-stops, object-some, object-fields}
+use Rattle.lmcp_check.proofs.CheckTurns.{begins, items-turn, items-stop, items-end}
+use Rattle.lmcp.proofs.Rows.{few-rows, bounds}
+use Rattle.lmcp_check.proofs.Steps.{step-run, step-object, step-cut, step-chars, step-objects, fields-turn, fields-stop, fields-done, step-inside, object-null, object-stops, object-some, object-fields}
+use Rattle.lmcp_check.proofs.Nulls.{null-inside, null-checks}
 use borrow.Fn.Kinds.{In}
 use borrow.Fn.PlainCycle.{Measures, is, falls, and}
 use Rattle.lmcp_check.proofs.check_fields.Reads as check-fields
@@ -33,6 +35,7 @@ use Rattle.lmcp_check.proofs.check_chars.Reads as check-chars-reads
 use Rattle.lmcp_check.proofs.check_run.Reads as check-run-reads
 use Rattle.lmcp_check.proofs.entry.Reads as entry-reads
 use Rattle.lmcp_check.proofs.head_of.Reads as head-of-reads
+use Rattle.lmcp_check.proofs.null_at.Reads as null-at-reads
 use Rattle.wire.proofs.number.Reads as number-reads
 use Rattle.lmcp_check.proofs.+check_fields+check_object+check_objects+check_row.{statement}
 use Rattle.lmcp_check.proofs.+check_fields+check_object+check_objects+check_row.Tie.{close}
@@ -99,7 +102,7 @@ abbrev check-object-claims : ℕ → check-object-lts.Claims
 check-object-claims t = (head-of-reads.Asked, head-of-reads.Learnt, check-fields-below t, check-fields.Post)
 
 abbrev check-objects-claims : ℕ → check-objects-lts.Claims
-check-objects-claims t = (check-object-below t, check-object.Post)
+check-objects-claims t = (null-at-reads.Asked, null-at-reads.Learnt, check-object-below t, check-object.Post)
 
 abbrev check-row-claims : ℕ → check-row-lts.Claims
 check-row-claims t = (entry-reads.Asked, entry-reads.Learnt, check-run-reads.Asked, check-run-reads.Learnt, check-object-below t, check-object.Post, number-reads.Asked, number-reads.Learnt, check-chars-reads.Asked, check-chars-reads.Learnt, check-objects-below t, check-objects.Post)
@@ -287,29 +290,51 @@ check-objects-loop-holds t c =
     let a = start .args in
     (search needs, begins (repeat (a .n - 0) (readObject (a .version) (a .deep) (a .declared))) (a .at) (repeat-all (readObject (a .version) (a .deep) (a .declared)) (drop (a .at) (a .s .now)) (a .n)) (start .pre .1 .inside))
 
+check-objects-loop-again : (t : ℕ) → check-objects-lts.Need-loop-again (check-objects-claims t) (check-objects-at t) check-objects.Post check-objects-Inv-loop check-objects-μ-loop
+check-objects-loop-again t c =
+    let at-null = c .before in
+    let test = at-null .before in
+    let turn = test .before in
+    let x = turn .loop in
+    let start = turn .before .before in
+    let a = start .args in
+    let z = null-inside (a .s .now) (x .p) (sym (at-null .null-at .ensures) ∙ c .if1 .taken) in
+    let short = start .pre .1 .short in
+    (search needs, items-turn (readObject (a .version) (a .deep) (a .declared)) (a .n) (x .k) (x .inv .1) (test .loop-test .taken) (x .p + 1) (null-checks (a .version) (a .deep) (a .declared) (a .s .now) short (x .p) (z .0) (z .1)) (omega (arith, z .0, short)))
+
+check-objects-add-p : (t : ℕ) → check-objects-lts.Need-add-p (check-objects-claims t) (check-objects-at t) check-objects.Post check-objects-Inv-loop check-objects-μ-loop
+check-objects-add-p t c =
+    let at-null = c .before in
+    let turn = at-null .before .before in
+    let x = turn .loop in
+    let start = turn .before .before in
+    let z = null-inside (start .args .s .now) (x .p) (sym (at-null .null-at .ensures) ∙ c .if1 .taken) in
+    omega (arith, z .0, start .pre .1 .short)
+
 check-objects-check-object-requires : (t : ℕ) → check-objects-lts.Need-check-object-requires (check-objects-claims t) (check-objects-at t) check-objects.Post check-objects-Inv-loop check-objects-μ-loop
 check-objects-check-object-requires t c κs =
-    let x = c .before .loop in
-    let start = c .before .before .before in
+    let turn = c .before .before .before in
+    let x = turn .loop in
+    let start = turn .before .before in
     (search needs, record { short = start .pre .1 .short; inside = x .inv .1 .within; packed = start .pre .1 .packed })
 
 check-objects-returns : (t : ℕ) → check-objects-lts.Need-returns (check-objects-claims t) (check-objects-at t) check-objects.Post check-objects-Inv-loop check-objects-μ-loop
 check-objects-returns t c =
     let at-object = c .before in
-    let at-test = at-object .before in
+    let at-test = at-object .before .before .before in
     let turn = at-test .before in
     let x = turn .loop in
     let a = turn .before .before .args in
-    items-stop (readObject (a .version) (a .deep) (a .declared)) (a .n) (x .k) (x .inv .1) (at-test .loop-test .taken) (at-object .check-object .result) (at-object .check-object .ensures) (c .if1 .taken)
+    items-stop (readObject (a .version) (a .deep) (a .declared)) (a .n) (x .k) (x .inv .1) (at-test .loop-test .taken) (at-object .check-object .result) (at-object .check-object .ensures) (c .if2 .taken)
 
-check-objects-loop-again : (t : ℕ) → check-objects-lts.Need-loop-again (check-objects-claims t) (check-objects-at t) check-objects.Post check-objects-Inv-loop check-objects-μ-loop
-check-objects-loop-again t c =
+check-objects-loop-again-2 : (t : ℕ) → check-objects-lts.Need-loop-again-2 (check-objects-claims t) (check-objects-at t) check-objects.Post check-objects-Inv-loop check-objects-μ-loop
+check-objects-loop-again-2 t c =
     let at-object = c .before in
-    let at-test = at-object .before in
+    let at-test = at-object .before .before .before in
     let turn = at-test .before in
     let x = turn .loop in
     let a = turn .before .before .args in
-    (search needs, items-turn (readObject (a .version) (a .deep) (a .declared)) (a .n) (x .k) (x .inv .1) (at-test .loop-test .taken) (at-object .check-object .result) (at-object .check-object .ensures) (c .if1 .left))
+    (search needs, items-turn (readObject (a .version) (a .deep) (a .declared)) (a .n) (x .k) (x .inv .1) (at-test .loop-test .taken) (at-object .check-object .result) (at-object .check-object .ensures) (c .if2 .left))
 
 check-objects-returns-2 : (t : ℕ) → check-objects-lts.Need-returns-2 (check-objects-claims t) (check-objects-at t) check-objects.Post check-objects-Inv-loop check-objects-μ-loop
 check-objects-returns-2 t c =
@@ -445,11 +470,16 @@ pub +check-fields+check-object+check-objects+check-row-spec : {M : Type 1} → s
     check-objects-Inv-loop
     check-objects-μ-loop
     (check-objects-loop-holds t)
+    (λ c κs. search needs)
+    (check-objects-add-p t)
+    (λ c. search needs)
+    (λ c. search needs)
+    (check-objects-loop-again t)
     (check-objects-check-object-requires t)
     (check-objects-returns t)
     (λ c. search needs)
     (λ c. search needs)
-    (check-objects-loop-again t)
+    (check-objects-loop-again-2 t)
     (check-objects-returns-2 t))
     λ t. check-row-lts.spec (check-row-claims t)
     (check-row-at t)

@@ -11,10 +11,10 @@ use Rattle.lmcp.specs.Table.{charKind}
 use Rattle.lmcp.specs.Value.{numberOf}
 use Rattle.lmcp.specs.Read.{readValue}
 use Rattle.lmcp.proofs.WalkPlaces.{repeat-all}
-use Rattle.lmcp_check.proofs.Cases.{value-short, value-bad, value-good, fault-char, sound-char}
+use Rattle.lmcp_check.proofs.ReadCases.{value-short, value-bad, value-good, fault-char, sound-char}
 use Rattle.lmcp_check.specs.InsideChecks.{fault0, Upto}
 use Rattle.lmcp.proofs.Widths.{be-one}
-use Rattle.lmcp_check.proofs.Goes.{made, stopped, begins, items-turn, items-stop, items-end}
+use Rattle.lmcp_check.proofs.CheckTurns.{made, stopped, begins, items-turn, items-stop, items-end}
 use Rattle.lmcp_check.proofs.check_chars.Statement.{statement}
 use Rattle.lmcp_check.proofs.check_chars.Tie as tie
 

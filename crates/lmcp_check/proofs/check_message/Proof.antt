@@ -27,15 +27,6 @@ within c = frame-within (M c) (sym (c .before .frame-of .ensures) ∙ c .if1 .le
 returns : tie.Need-returns
 returns c = let f = c .before in wrong-frame (f .before .before .args .message .now) (f .frame-of .result) (f .frame-of .ensures) (c .if1 .taken)
 
-sub-end : tie.Need-sub-end
-sub-end c = omega (arith, within c .0)
-
-sub-s : tie.Need-sub-s
-sub-s c = omega (arith, within c .0)
-
-part-s-start : tie.Need-part-s-start
-part-s-start c = let k : 8 ≤ length (M c) - 4 = omega (arith, within c .0) in k
-
 check-root-requires : tie.Need-check-root-requires
 check-root-requires c κs =
     let e = c .before .before in
@@ -56,9 +47,9 @@ check-message-spec =
     (tie.spec
     (λ c κs. search needs)
     returns
-    sub-end
-    sub-s
-    part-s-start
+    (λ c. omega (arith, within c .0))
+    (λ c. omega (arith, within c .0))
+    (λ c. let k : 8 ≤ length (M c) - 4 = omega (arith, within c .0) in k)
     (λ c. search needs)
     (λ c κs. search needs)
     check-root-requires

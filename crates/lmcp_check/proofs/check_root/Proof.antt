@@ -23,9 +23,6 @@ Version c = start c .args .version
 first : (c : tie.After-wide) → c .wide .result ≡ be 1 (S c)
 first c = be-one (S c) 0 _ (c .wide .ensures .0)
 
-returns : tie.Need-returns
-returns c = let a = c .before .before .args in empty-root (a .version) (a .s .now) (c .if1 .taken)
-
 returns-2 : tie.Need-returns-2
 returns-2 c =
     let w = c .before in
@@ -56,7 +53,7 @@ pub check-root-spec : {M : Type 1} → statement M
 check-root-spec =
     tie.close
     (tie.spec
-    returns
+    (λ c. let a = c .before .before .args in empty-root (a .version) (a .s .now) (c .if1 .taken))
     (λ c. search needs)
     (λ c κs. search needs)
     returns-2

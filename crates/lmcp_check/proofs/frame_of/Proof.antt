@@ -47,17 +47,11 @@ sized c = c .if4 .left ∙ ap (λ (n : ℕ). 12 + n) (c .before .number .ensures
 
 -- ---- the needs
 
-returns : tie.Need-returns
-returns c = too-short _ (c .if1 .taken)
-
 returns-2 : tie.Need-returns-2
 returns-2 c =
     let at-same-at = c .before in
     let place = at-same-at .before .before in
     let e = place in not-magic (M e) (long e) (sym (at-same-at .same-at .ensures) ∙ not-true _ (c .if2 .taken))
-
-returns-3 : tie.Need-returns-3
-returns-3 c = let e = c .before in too-long (M (at2 e)) (long (at2 e)) (known e) (c .if3 .taken)
 
 returns-4 : tie.Need-returns-4
 unfolding be
@@ -108,11 +102,11 @@ pub frame-of-spec : {M : Type 1} → statement M
 frame-of-spec =
     tie.close
     (tie.spec
-    returns
+    (λ c. too-short _ (c .if1 .taken))
     (λ c. search needs)
     (λ c κs. search needs)
     returns-2
-    returns-3
+    (λ c. let e = c .before in too-long (M (at2 e)) (long (at2 e)) (known e) (c .if3 .taken))
     (λ c κs. search needs)
     (λ c. search needs)
     returns-4

@@ -13,7 +13,7 @@ use borrow.Author.Needs.{needs}
 use Rattle.lmcp_check.proofs.head_of.Statement.{statement}
 use Rattle.lmcp_check.proofs.head_of.Tie as tie
 use Rattle.lmcp.specs.Run.{Tag, tag, bad}
-use Rattle.lmcp_check.proofs.Cases.{head-short, head-odd, head-null, head-deep, head-cut, head-unknown, head-known}
+use Rattle.lmcp_check.proofs.ReadCases.{head-short, head-odd, head-null, head-deep, head-cut, head-unknown, head-known}
 use Rattle.lmcp_check.specs.InsideChecks.{fault0, Heads}
 use Rattle.lmcp.proofs.Heads.{typed-least, known-type}
 use Rattle.lmcp.proofs.Widths.{be-one}

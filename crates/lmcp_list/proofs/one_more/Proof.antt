@@ -1,4 +1,6 @@
 -- A message is read, and its line goes out. Assumes nothing.
+use Rattle.output.proofs.Sending.{pours-is}
+use Rattle.lmcp_list.proofs.Reading.{line-found}
 use borrow.Author.Needs.{needs}
 use Rattle.lmcp_list.proofs.one_more.Statement.{statement}
 use Rattle.lmcp_list.proofs.one_more.Tie as tie
@@ -7,7 +9,8 @@ returns : tie.Need-returns
 returns c =
     let p = c .before .before in
     let r = p .before .before .before .before in
-    record { found = r .read-message .result; read = r .read-message .ensures; said = p .pour-line .ensures }
+    let e = r .read-message .ensures in
+    record { found = r .read-message .result; read = e; said = pours-is (p .pour-line .ensures) (line-found _ _ _ _ _ e) }
 
 pub one-more-spec : {M : Type 1} → statement M
 one-more-spec =

@@ -1,7 +1,7 @@
 -- What was found as text, by its cases. Assumes nothing.
 use mathlib.Core.Path.{sym, ap}
 use Rattle.output.proofs.Sending.{pours-then, pours-is}
-use Rattle.lmcp_list.specs.Lines.{foundText}
+use Rattle.lmcp_list.specs.Inside.{foundText}
 use borrow.Author.Needs.{needs}
 use Rattle.lmcp_list.proofs.pour_found.Statement.{statement}
 use Rattle.lmcp_list.proofs.pour_found.Tie as tie

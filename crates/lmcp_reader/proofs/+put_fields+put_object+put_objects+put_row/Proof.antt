@@ -5,26 +5,29 @@ use mathlib.Core.List.{List}
 use Prim.Native.Nat.{ℕ, _+_, _-_, _*_, _≤_, _<_}
 use native.Mathlib.Omega.{arith}
 use lib.IntN.{ℤ, pos}
-use lib.ListN.{length, drop, set}
+use lib.ListN.{length, drop, getD, set}
 use lib.Seq.{slice}
 use borrow.Author.Needs.{needs}
 use Rattle.wire.specs.Bytes.{be}
 use Rattle.lmcp.specs.declared.Row.{Row}
 use Rattle.lmcp.specs.declared.Went.the-variants.{To}
-use Rattle.lmcp.specs.Run.{repeat}
+use Rattle.lmcp.specs.Run.{andThen, repeat}
 use Rattle.lmcp.specs.Table.{pitsurv, rowsOf, fieldsOf}
 use Rattle.lmcp.specs.Packed.{packedOf, cell}
+use Rattle.lmcp.specs.InsidePacked.{widthOf}
 use Rattle.lmcp.specs.Read.{reading}
-use Rattle.lmcp.specs.Ends.{Sofar}
+use Rattle.lmcp.specs.Ends.{begun, Sofar}
 use Rattle.lmcp.proofs.WalkPlaces.{begins, repeat-all, repeat-more, fields-more, items-turn, items-end, fields-turn, fields-done}
 use Rattle.lmcp.proofs.Widths.{be-one}
+use Rattle.lmcp.proofs.Rows.{few-rows, bounds}
+use Rattle.lmcp.proofs.Aheads.{ahead-as, ahead-first, ahead-next}
 use Rattle.lmcp_check.specs.InsideSteps.{readObject, readFields}
-use Rattle.lmcp_check.proofs.Cases.{number-is}
-use Rattle.lmcp_check.proofs.Steps.{few-rows, bounds}
-use Rattle.lmcp_reader.specs.InsidePuts.{Ahead, Few0}
+use Rattle.lmcp_check.proofs.ReadCases.{number-is}
+use Rattle.lmcp.specs.InsideAhead.{Few0}
+use Rattle.lmcp_reader.specs.InsidePuts.{Ahead}
 use Rattle.lmcp_reader.proofs.NumberBits.{through, plain-small}
-use Rattle.lmcp_reader.proofs.Puts.{ahead-as, ahead-first, ahead-next, Here, object-ahead, object-laid, width-is, values-room, values-laid, single-room, single-laid}
-use Rattle.lmcp_reader.proofs.Puts.{few, count-inside, items-ahead, objects-ahead, objects-laid, chars-room, chars-laid}
+use Rattle.lmcp_reader.proofs.Puts.{Placed, object-ahead, object-laid, width-is, values-room, values-laid, single-room, single-laid}
+use Rattle.lmcp_reader.proofs.Puts.{few, count-inside, count-room, objects-ahead, objects-laid, chars-room, chars-laid}
 use Rattle.lmcp_reader.proofs.Puts.{Object, first-inside, null-room, null-laid, some-inside, some-deep, some-typed, some-ahead, some-laid}
 use borrow.Fn.Kinds.{In}
 use borrow.Fn.PlainCycle.{Measures, is, falls, and}
@@ -100,7 +103,7 @@ abbrev put-object-claims : ℕ → put-object-lts.Claims
 put-object-claims t = (wide-reads.Asked, wide-reads.Learnt, put-reads.Asked, put-reads.Learnt, four-reads.Asked, four-reads.Learnt, plain-of-reads.Asked, plain-of-reads.Learnt, put-fields-below t, put-fields.Post)
 
 abbrev put-objects-claims : ℕ → put-objects-lts.Claims
-put-objects-claims t = (put-object-below t, put-object.Post)
+put-objects-claims t = (put-reads.Asked, put-reads.Learnt, put-object-below t, put-object.Post)
 
 abbrev put-row-claims : ℕ → put-row-lts.Claims
 put-row-claims t = (
@@ -127,7 +130,7 @@ put-row-claims t = (
 abbrev put-fields-Inv-loop : put-fields-lts.InvT-loop
 put-fields-Inv-loop s p q table version deep t list₀ a₀ b₀ i₀ end list a b i =
     (i ≤ end) × ((end ≤ length (rowsOf (pitsurv version))) × ((length list ≡ length list₀)
-    × (Sofar Few0 s list₀ q (readFields version deep (fieldsOf (pitsurv version) t) (drop p s)) (readFields version deep (slice i end (rowsOf (pitsurv version)))) a b list
+    × (Sofar Few0 (begun s list₀ q) (readFields version deep (fieldsOf (pitsurv version) t) (drop p s)) (readFields version deep (slice i end (rowsOf (pitsurv version)))) a b list
     × Ahead (readFields version deep (slice i end (rowsOf (pitsurv version))) (drop a s)) b)))
 
 abbrev put-fields-μ-loop : put-fields-lts.MeasureT-loop
@@ -242,9 +245,6 @@ put-object-four-requires t c κs =
     let k = some-inside (object-here t w) (w .wide .result) (object-first t w) (c .if1 .left) in
     omega (arith, k)
 
-put-object-plain-of-requires : (t : ℕ) → put-object-lts.Need-plain-of-requires (put-object-claims t) (put-object-at t) put-object.Post
-put-object-plain-of-requires t c κs = omega (arith, c .before .four .ensures .1)
-
 put-object-add-put-fields : (t : ℕ) → put-object-lts.Need-add-put-fields (put-object-claims t) (put-object-at t) put-object.Post
 put-object-add-put-fields t c =
     let w = c .before .before .before .before .before .before in
@@ -288,7 +288,7 @@ put-object-returns-2 t c =
 abbrev put-objects-Inv-loop : put-objects-lts.InvT-loop
 put-objects-Inv-loop s p q table version deep declared n list₀ a₀ b₀ k₀ list a b k =
     (k ≤ n) × ((length list ≡ length list₀)
-    × (Sofar Few0 s list₀ q (repeat n (readObject version deep declared) (drop p s)) (repeat (n - k) (readObject version deep declared)) a b list
+    × (Sofar Few0 (begun s list₀ q) (repeat n (readObject version deep declared) (drop p s)) (repeat (n - k) (readObject version deep declared)) a b list
     × Ahead (repeat (n - k) (readObject version deep declared) (drop a s)) b))
 
 abbrev put-objects-μ-loop : put-objects-lts.MeasureT-loop
@@ -301,29 +301,69 @@ put-objects-loop-holds t c =
     let e = repeat-all (readObject (a .version) (a .deep) (a .declared)) (drop (a .p) (a .s .now)) (a .n) in
     (search needs, (refl, (begins {Few = Few0} (repeat (a .n - 0) (readObject (a .version) (a .deep) (a .declared))) (a .p) (a .q) (a .list .now) e tt (start .pre .1 .0 .inside), ahead-as e (start .pre .1 .1))))
 
-put-objects-put-object-requires : (t : ℕ) → put-objects-lts.Need-put-object-requires (put-objects-claims t) (put-objects-at t) put-objects.Post put-objects-Inv-loop put-objects-μ-loop
-put-objects-put-object-requires t c κs =
-    let test = c .before in
-    let turn = test .before in
-    let start = turn .before .before in
-    let a = start .args in
-    let x = turn .loop in
-    let m = ahead-as (repeat-more (readObject (a .version) (a .deep) (a .declared)) (drop (x .a) (a .s .now)) (a .n) (x .k) (test .loop-test .taken)) (x .inv .1 .1 .1) in
-    (omega (arith, start .pre .0), (record { short = start .pre .1 .0 .short; inside = x .inv .1 .1 .0 .within; packed = start .pre .1 .0 .packed }, ahead-first _ _ m))
+-- the object at the place of a turn
+abbrev Tested : ℕ → Type 0
+Tested t = put-objects-lts.In-loop (put-objects-claims t) (put-objects-at t) put-objects.Post put-objects-Inv-loop put-objects-μ-loop
+
+abbrev turn-ahead : (t : ℕ) (c : Tested t) → Ahead (andThen (readObject (c .before .before .before .args .version) (c .before .before .before .args .deep) (c .before .before .before .args .declared) (drop (c .before .loop .a) (c .before .before .before .args .s .now)))
+    (repeat (c .before .before .before .args .n - (c .before .loop .k + 1)) (readObject (c .before .before .before .args .version) (c .before .before .before .args .deep) (c .before .before .before .args .declared)))) (c .before .loop .b)
+turn-ahead t c =
+    let a = c .before .before .before .args in
+    let x = c .before .loop in
+    ahead-as (repeat-more (readObject (a .version) (a .deep) (a .declared)) (drop (x .a) (a .s .now)) (a .n) (x .k) (c .loop-test .taken)) (x .inv .1 .1 .1)
+
+abbrev turn-object : (t : ℕ) (c : Tested t) → Object (c .before .before .before .args .version) (c .before .before .before .args .deep) (c .before .before .before .args .declared) (c .before .before .before .args .s .now) (c .before .loop .a) (c .before .loop .b)
+turn-object t c = record { within = c .before .loop .inv .1 .1 .0 .within; ahead = ahead-first _ _ (turn-ahead t c) }
+
+put-objects-shared-slice-read-if1 : (t : ℕ) → put-objects-lts.Need-shared-slice-read-if1 (put-objects-claims t) (put-objects-at t) put-objects.Post put-objects-Inv-loop put-objects-μ-loop
+put-objects-shared-slice-read-if1 t c = first-inside (turn-object t (c .before))
+
+put-objects-add-a : (t : ℕ) → put-objects-lts.Need-add-a (put-objects-claims t) (put-objects-at t) put-objects.Post put-objects-Inv-loop put-objects-μ-loop
+put-objects-add-a t c =
+    let at-if = c .before .before .before in
+    let test = at-if .before .before in
+    omega (arith, first-inside (turn-object t test), test .before .before .before .pre .1 .0 .short)
+
+put-objects-add-b : (t : ℕ) → put-objects-lts.Need-add-b (put-objects-claims t) (put-objects-at t) put-objects.Post put-objects-Inv-loop put-objects-μ-loop
+put-objects-add-b t c =
+    let at-if = c .before .before .before in
+    let test = at-if .before .before in
+    let s = test .before .before .before .args .s .now in
+    omega (arith, null-room (turn-object t test) (getD s (test .before .loop .a) 0) (be-one s (test .before .loop .a) (getD s (test .before .loop .a) 0) refl) (at-if .if1 .taken))
 
 put-objects-loop-again : (t : ℕ) → put-objects-lts.Need-loop-again (put-objects-claims t) (put-objects-at t) put-objects.Post put-objects-Inv-loop put-objects-μ-loop
 put-objects-loop-again t c =
-    let at-object = c .before in
-    let test = at-object .before .before in
+    let at-put = c .before in
+    let at-if = at-put .before .before in
+    let test = at-if .before .before in
     let turn = test .before in
     let start = turn .before .before in
     let a = start .args in
     let x = turn .loop in
     let f = readObject (a .version) (a .deep) (a .declared) in
+    let e = getD (a .s .now) (x .a) 0 in
+    let g = null-laid (turn-object t test) e (be-one (a .s .now) (x .a) e refl) (at-if .if1 .taken) _ (at-put .put .ensures) in
+    (search needs, (at-put .put .kept .0 ∙ x .inv .1 .0, (items-turn Few0 f (a .n) (x .k) (x .inv .1 .1 .0) (test .loop-test .taken) (To (x .a + 1) (x .b + 1)) _ g (x .a + 1) (x .b + 1) refl, ahead-next _ _ (turn-ahead t test) g)))
+
+put-objects-put-object-requires : (t : ℕ) → put-objects-lts.Need-put-object-requires (put-objects-claims t) (put-objects-at t) put-objects.Post put-objects-Inv-loop put-objects-μ-loop
+put-objects-put-object-requires t c κs =
+    let test = c .before .before .before in
+    let start = test .before .before .before in
+    (omega (arith, start .pre .0), (record { short = start .pre .1 .0 .short; inside = test .before .loop .inv .1 .1 .0 .within; packed = start .pre .1 .0 .packed }, ahead-first _ _ (turn-ahead t test)))
+
+put-objects-loop-again-2 : (t : ℕ) → put-objects-lts.Need-loop-again-2 (put-objects-claims t) (put-objects-at t) put-objects.Post put-objects-Inv-loop put-objects-μ-loop
+put-objects-loop-again-2 t c =
+    let at-object = c .before in
+    let at-if = at-object .before .before in
+    let test = at-if .before .before in
+    let turn = test .before in
+    let a = turn .before .before .args in
+    let x = turn .loop in
+    let f = readObject (a .version) (a .deep) (a .declared) in
     let r = at-object .put-object .result in
     let out = at-object .put-object .last .1 .1 .1 .1 .1 .1 .1 .0 in
-    let m = ahead-as (repeat-more f (drop (x .a) (a .s .now)) (a .n) (x .k) (test .loop-test .taken)) (x .inv .1 .1 .1) in
-    (search needs, (at-object .put-object .kept .1 .1 .1 .1 .1 .1 .1 .0 ∙ x .inv .1 .0, (items-turn Few0 f (a .n) (x .k) (x .inv .1 .1 .0) (test .loop-test .taken) (To (r .p) (r .q)) out (at-object .put-object .ensures) (r .p) (r .q) refl, ahead-next _ _ m (at-object .put-object .ensures))))
+    let kept = at-object .put-object .kept .1 .1 .1 .1 .1 .1 .1 .0 in
+    (search needs, (kept ∙ x .inv .1 .0, (items-turn Few0 f (a .n) (x .k) (x .inv .1 .1 .0) (test .loop-test .taken) (To (r .p) (r .q)) out (at-object .put-object .ensures) (r .p) (r .q) refl, ahead-next _ _ (turn-ahead t test) (at-object .put-object .ensures))))
 
 put-objects-returns : (t : ℕ) → put-objects-lts.Need-returns (put-objects-claims t) (put-objects-at t) put-objects.Post put-objects-Inv-loop put-objects-μ-loop
 put-objects-returns t c =
@@ -337,22 +377,24 @@ put-objects-returns t c =
 abbrev Looked : ℕ → Type 0
 Looked t = put-row-lts.After-entry3 (put-row-claims t) (put-row-at t) put-row.Post
 
-abbrev row-here : (t : ℕ) (c : Looked t) → Here (c .before .before .before .before .args .version) (c .before .before .before .before .args .deep) (c .before .before .before .before .args .i) (c .before .before .before .before .args .s .now)
+abbrev row-here : (t : ℕ) (c : Looked t) → Placed (c .before .before .before .before .args .version) (c .before .before .before .before .args .deep) (c .before .before .before .before .args .i) (c .before .before .before .before .args .s .now)
     (c .before .before .before .before .args .p) (c .before .before .before .before .args .q)
 row-here t c =
     let start = c .before .before .before .before in
     let l = start .pre .1 .0 in
     let at : (k : ℕ) → cell (start .args .table .now) (start .args .i) k ≡ cell (packedOf (start .args .version)) (start .args .i) k = λ k. ap (λ (y : List (List ℕ)). cell y (start .args .i) k) (l .packed) in
     record {
-      row-inside = start .pre .1 .1 .0 .1;
+      row = record {
+        inside = start .pre .1 .1 .0 .1;
+        code = c .before .before .entry .result;
+        count = c .before .entry2 .result;
+        arg = c .entry3 .result;
+        code-is = c .before .before .entry .ensures ∙ at 7;
+        count-is = c .before .entry2 .ensures ∙ at 0;
+        arg-is = c .entry3 .ensures ∙ at 3;
+      };
       within = l .inside;
       ahead = start .pre .1 .1 .1;
-      code = c .before .before .entry .result;
-      count = c .before .entry2 .result;
-      arg = c .entry3 .result;
-      code-is = c .before .before .entry .ensures ∙ at 7;
-      count-is = c .before .entry2 .ensures ∙ at 0;
-      arg-is = c .entry3 .ensures ∙ at 3;
     }
 
 -- its number of elements, where it has no count
@@ -381,257 +423,156 @@ put-row-returns t c =
     let H = row-here t r in
     object-laid H (c .before .before .before .before .if1 .taken) (c .before .before .before .if2 .taken) _ _ _ (c .before .put-object .ensures)
 
+-- a row of values without a count: its places
+module _ (t : ℕ) (f : put-row-lts.After-entry4 (put-row-claims t) (put-row-at t) put-row.Post) where
+  abbrev fixed-row : Looked t
+  fixed-row = f .before .before .before
+
+  abbrev fixed-start : put-row-lts.Start (put-row-claims t) (put-row-at t) put-row.Post
+  fixed-start = fixed-row .before .before .before .before
+
+  fixed-width : fixed-row .entry3 .result ≡ widthOf (fixed-row .before .before .entry .result)
+  fixed-width = width-is (row-here t fixed-row) (f .before .if2 .left)
+
+  fixed-room : (fixed-start .args .p + f .entry4 .result * fixed-row .entry3 .result ≤ length (fixed-start .args .s .now)) × (fixed-start .args .q + f .entry4 .result ≤ 4294967296)
+  fixed-room = values-room (row-here t fixed-row) (f .before .if2 .left) (f .before .before .if1 .taken) _ (row-fixed t f)
+
+  one-room : f .entry4 .result ≡ 1 → (fixed-start .args .p + fixed-row .entry3 .result ≤ length (fixed-start .args .s .now)) × (fixed-start .args .q + 1 ≤ 4294967296)
+  one-room = single-room (row-here t fixed-row) (f .before .if2 .left) (f .before .before .if1 .taken) _ (row-fixed t f)
+
+-- an array: its places
+module _ (t : ℕ) (m : put-row-lts.After-number (put-row-claims t) (put-row-at t) put-row.Post) where
+  abbrev array-row : Looked t
+  array-row = m .before .before
+
+  abbrev array-start : put-row-lts.Start (put-row-claims t) (put-row-at t) put-row.Post
+  array-start = array-row .before .before .before .before
+
+  array-inside : array-start .args .p + array-row .before .entry2 .result ≤ length (array-start .args .s .now)
+  array-inside = count-inside (row-here t array-row) (m .before .if1 .left)
+
+  array-room : array-start .args .q < 4294967296
+  array-room = count-room (row-here t array-row) (m .before .if1 .left) _ (m .number .ensures)
+
+  text-room : (array-row .before .before .entry .result ≡ 6 → ⊥) → (array-start .args .p + array-row .before .entry2 .result + m .number .result * array-row .entry3 .result ≤ length (array-start .args .s .now)) × (array-start .args .q + 1 + m .number .result ≤ 4294967296)
+  text-room = chars-room (row-here t array-row) (m .before .if1 .left) _ (m .number .ensures)
+
 put-row-value-of-requires : (t : ℕ) → put-row-lts.Need-value-of-requires (put-row-claims t) (put-row-at t) put-row.Post
 put-row-value-of-requires t c κs =
-    let r = c .before .before .before .before .before in
-    let H = row-here t r in
-    let f = c .before .before in
-    let k = f .before .if2 .left in
-    let z = f .before .before .if1 .taken in
-    let n = f .entry4 .result in
-    let ns = row-fixed t f in
-    omega (arith, single-room H k z n ns (c .before .if3 .taken) .0, width-is H k)
+    omega (arith, one-room t (c .before .before) (c .before .if3 .taken) .0, fixed-width t (c .before .before))
 
 put-row-add-t23 : (t : ℕ) → put-row-lts.Need-add-t23 (put-row-claims t) (put-row-at t) put-row.Post
 put-row-add-t23 t c =
-    let r = c .before .before .before .before .before .before .before .before in
-    let H = row-here t r in
     let f = c .before .before .before .before .before in
-    let k = f .before .if2 .left in
-    let z = f .before .before .if1 .taken in
-    let n = f .entry4 .result in
-    let ns = row-fixed t f in
-    omega (arith, single-room H k z n ns (c .before .before .before .before .if3 .taken) .0, r .before .before .before .before .pre .1 .0 .short)
+    omega (arith, one-room t f (c .before .before .before .before .if3 .taken) .0, fixed-start t f .pre .1 .0 .short)
 
 put-row-add-t24 : (t : ℕ) → put-row-lts.Need-add-t24 (put-row-claims t) (put-row-at t) put-row.Post
 put-row-add-t24 t c =
-    let r = c .before .before .before .before .before .before .before .before in
-    let H = row-here t r in
-    let f = c .before .before .before .before .before in
-    let k = f .before .if2 .left in
-    let z = f .before .before .if1 .taken in
-    let n = f .entry4 .result in
-    let ns = row-fixed t f in
-    omega (arith, single-room H k z n ns (c .before .before .before .before .if3 .taken) .1)
+    omega (arith, one-room t (c .before .before .before .before .before) (c .before .before .before .before .if3 .taken) .1)
 
 put-row-returns-2 : (t : ℕ) → put-row-lts.Need-returns-2 (put-row-claims t) (put-row-at t) put-row.Post
 put-row-returns-2 t c =
-    let r = c .before .before .before .before .before .before .before .before in
-    let H = row-here t r in
     let f = c .before .before .before .before .before in
-    let k = f .before .if2 .left in
-    let z = f .before .before .if1 .taken in
-    let n = f .entry4 .result in
-    let ns = row-fixed t f in
-    let a = r .before .before .before .before .args in
+    let a = fixed-start t f .args in
     let v = c .before .before .value-of in
-    single-laid H k z n ns (c .before .before .before .before .if3 .taken) _ (c .before .put .ensures ∙ ap (λ (y : ℤ). set (a .list .now) (a .q) y) (through (record { sfits = v .ok }) (v .ensures)))
+    single-laid (row-here t (fixed-row t f)) (f .before .if2 .left) (f .before .before .if1 .taken) _ (row-fixed t f) (c .before .before .before .before .if3 .taken) _ (c .before .put .ensures ∙ ap (λ (y : ℤ). set (a .list .now) (a .q) y) (through (record { sfits = v .ok }) (v .ensures)))
 
 put-row-put-values-requires : (t : ℕ) → put-row-lts.Need-put-values-requires (put-row-claims t) (put-row-at t) put-row.Post
 put-row-put-values-requires t c κs =
-    let r = c .before .before .before .before .before in
-    let H = row-here t r in
     let f = c .before .before in
-    let k = f .before .if2 .left in
-    let z = f .before .before .if1 .taken in
-    let n = f .entry4 .result in
-    let ns = row-fixed t f in
-    (values-room H k z n ns, (width-is H k, r .before .before .before .before .pre .1 .0 .short))
+    (fixed-room t f, (fixed-width t f, fixed-start t f .pre .1 .0 .short))
 
 put-row-mul-t28 : (t : ℕ) → put-row-lts.Need-mul-t28 (put-row-claims t) (put-row-at t) put-row.Post
 put-row-mul-t28 t c =
-    let r = c .before .before .before .before .before .before .before in
-    let H = row-here t r in
     let f = c .before .before .before .before in
-    let k = f .before .if2 .left in
-    let z = f .before .before .if1 .taken in
-    let n = f .entry4 .result in
-    let ns = row-fixed t f in
-    omega (arith, values-room H k z n ns .0, r .before .before .before .before .pre .1 .0 .short)
+    omega (arith, fixed-room t f .0, fixed-start t f .pre .1 .0 .short)
 
 put-row-add-t29 : (t : ℕ) → put-row-lts.Need-add-t29 (put-row-claims t) (put-row-at t) put-row.Post
 put-row-add-t29 t c =
-    let r = c .before .before .before .before .before .before .before in
-    let H = row-here t r in
     let f = c .before .before .before .before in
-    let k = f .before .if2 .left in
-    let z = f .before .before .if1 .taken in
-    let n = f .entry4 .result in
-    let ns = row-fixed t f in
-    omega (arith, values-room H k z n ns .0, r .before .before .before .before .pre .1 .0 .short)
+    omega (arith, fixed-room t f .0, fixed-start t f .pre .1 .0 .short)
 
 put-row-add-t30 : (t : ℕ) → put-row-lts.Need-add-t30 (put-row-claims t) (put-row-at t) put-row.Post
 put-row-add-t30 t c =
-    let r = c .before .before .before .before .before .before .before in
-    let H = row-here t r in
-    let f = c .before .before .before .before in
-    let k = f .before .if2 .left in
-    let z = f .before .before .if1 .taken in
-    let n = f .entry4 .result in
-    let ns = row-fixed t f in
-    omega (arith, values-room H k z n ns .1)
+    omega (arith, fixed-room t (c .before .before .before .before) .1)
 
 put-row-returns-3 : (t : ℕ) → put-row-lts.Need-returns-3 (put-row-claims t) (put-row-at t) put-row.Post
 put-row-returns-3 t c =
-    let r = c .before .before .before .before .before .before .before in
-    let H = row-here t r in
     let f = c .before .before .before .before in
-    let k = f .before .if2 .left in
-    let z = f .before .before .if1 .taken in
-    let n = f .entry4 .result in
-    let ns = row-fixed t f in
-    values-laid H k z n ns _ (c .before .put-values .ensures)
+    values-laid (row-here t (fixed-row t f)) (f .before .if2 .left) (f .before .before .if1 .taken) _ (row-fixed t f) _ (c .before .put-values .ensures)
 
 put-row-plain-of-requires : (t : ℕ) → put-row-lts.Need-plain-of-requires (put-row-claims t) (put-row-at t) put-row.Post
 put-row-plain-of-requires t c κs =
-    let r = c .before .before .before in
-    let H = row-here t r in
     let m = c .before in
-    let z = m .before .if1 .left in
-    let n = m .number .result in
-    let ns = m .number .ensures in
-    let a = r .before .before .before .before .args in
-    plain-small (H .count) n (few H z) (number-is (a .s .now) (a .p) (H .count) n (omega (arith, few H z)) ns .1)
+    let H = row-here t (array-row t m) in
+    let a = array-start t m .args in
+    let w = few H (m .before .if1 .left) in
+    plain-small (H .row .count) (m .number .result) w (number-is (a .s .now) (a .p) (H .row .count) (m .number .result) (omega (arith, w)) (m .number .ensures) .1)
 
 put-row-add-put-objects : (t : ℕ) → put-row-lts.Need-add-put-objects (put-row-claims t) (put-row-at t) put-row.Post
 put-row-add-put-objects t c =
-    let r = c .before .before .before .before .before .before .before in
-    let H = row-here t r in
     let m = c .before .before .before .before .before in
-    let z = m .before .if1 .left in
-    let n = m .number .result in
-    let ns = m .number .ensures in
-    omega (arith, count-inside H z, r .before .before .before .before .pre .1 .0 .short)
+    omega (arith, array-inside t m, array-start t m .pre .1 .0 .short)
 
 put-row-add-put-objects-2 : (t : ℕ) → put-row-lts.Need-add-put-objects-2 (put-row-claims t) (put-row-at t) put-row.Post
 put-row-add-put-objects-2 t c =
-    let r = c .before .before .before .before .before .before .before in
-    let H = row-here t r in
-    let m = c .before .before .before .before .before in
-    let z = m .before .if1 .left in
-    let n = m .number .result in
-    let ns = m .number .ensures in
-    omega (arith, items-ahead H z n ns .0)
+    omega (arith, array-room t (c .before .before .before .before .before))
 
 put-row-put-objects-requires : (t : ℕ) → put-row-lts.Need-put-objects-requires (put-row-claims t) (put-row-at t) put-row.Post
 put-row-put-objects-requires t c κs =
-    let r = c .before .before .before .before .before .before .before .before in
-    let H = row-here t r in
     let m = c .before .before .before .before .before .before in
-    let z = m .before .if1 .left in
-    let n = m .number .result in
-    let ns = m .number .ensures in
-    let start = r .before .before .before .before in
+    let start = array-start t m in
     let l = start .pre .1 .0 in
-    (omega (arith, start .pre .0), (record { short = l .short; inside = count-inside H z; packed = l .packed }, objects-ahead H z n ns (c .before .if4 .taken)))
+    let more = objects-ahead (row-here t (array-row t m)) (m .before .if1 .left) _ (m .number .ensures) (c .before .if4 .taken) in
+    (omega (arith, start .pre .0), (record { short = l .short; inside = array-inside t m; packed = l .packed }, more))
 
 put-row-returns-4 : (t : ℕ) → put-row-lts.Need-returns-4 (put-row-claims t) (put-row-at t) put-row.Post
 put-row-returns-4 t c =
-    let earlier = c .before .before .before .before .before .before .before .before in
-    let r = earlier .before .before in
-    let H = row-here t r in
     let m = c .before .before .before .before .before .before .before .before in
-    let z = m .before .if1 .left in
-    let n = m .number .result in
-    let ns = m .number .ensures in
-    objects-laid H z n ns (c .before .before .before .if4 .taken) (row-counted t (c .before .before .before .before .before)) _ _ _ (c .before .put-objects .ensures)
+    objects-laid (row-here t (array-row t m)) (m .before .if1 .left) _ (m .number .ensures) (c .before .before .before .if4 .taken) (row-counted t (c .before .before .before .before .before)) _ _ _ (c .before .put-objects .ensures)
 
 put-row-add-put-values : (t : ℕ) → put-row-lts.Need-add-put-values (put-row-claims t) (put-row-at t) put-row.Post
 put-row-add-put-values t c =
-    let r = c .before .before .before .before .before .before .before in
-    let H = row-here t r in
     let m = c .before .before .before .before .before in
-    let z = m .before .if1 .left in
-    let n = m .number .result in
-    let ns = m .number .ensures in
-    omega (arith, count-inside H z, r .before .before .before .before .pre .1 .0 .short)
+    omega (arith, array-inside t m, array-start t m .pre .1 .0 .short)
 
 put-row-add-put-values-2 : (t : ℕ) → put-row-lts.Need-add-put-values-2 (put-row-claims t) (put-row-at t) put-row.Post
 put-row-add-put-values-2 t c =
-    let r = c .before .before .before .before .before .before .before in
-    let H = row-here t r in
-    let m = c .before .before .before .before .before in
-    let z = m .before .if1 .left in
-    let n = m .number .result in
-    let ns = m .number .ensures in
-    omega (arith, items-ahead H z n ns .0)
+    omega (arith, array-room t (c .before .before .before .before .before))
 
 put-row-put-values-requires-2 : (t : ℕ) → put-row-lts.Need-put-values-requires-2 (put-row-claims t) (put-row-at t) put-row.Post
 put-row-put-values-requires-2 t c κs =
-    let r = c .before .before .before .before .before .before .before .before in
-    let H = row-here t r in
     let m = c .before .before .before .before .before .before in
-    let z = m .before .if1 .left in
-    let n = m .number .result in
-    let ns = m .number .ensures in
     let k = c .before .if4 .left in
-    (chars-room H z n ns k, (width-is H k, r .before .before .before .before .pre .1 .0 .short))
+    (text-room t m k, (width-is (row-here t (array-row t m)) k, array-start t m .pre .1 .0 .short))
 
 put-row-add-t39 : (t : ℕ) → put-row-lts.Need-add-t39 (put-row-claims t) (put-row-at t) put-row.Post
 put-row-add-t39 t c =
-    let earlier = c .before .before .before .before .before .before .before .before in
-    let r = earlier .before .before in
-    let H = row-here t r in
     let m = c .before .before .before .before .before .before .before .before in
-    let z = m .before .if1 .left in
-    let n = m .number .result in
-    let ns = m .number .ensures in
-    omega (arith, chars-room H z n ns (c .before .before .before .if4 .left) .0, r .before .before .before .before .pre .1 .0 .short)
+    omega (arith, text-room t m (c .before .before .before .if4 .left) .0, array-start t m .pre .1 .0 .short)
 
 put-row-mul-t40 : (t : ℕ) → put-row-lts.Need-mul-t40 (put-row-claims t) (put-row-at t) put-row.Post
 put-row-mul-t40 t c =
-    let earlier = c .before .before .before .before .before .before .before .before in
-    let r = earlier .before .before in
-    let H = row-here t r in
     let m = c .before .before .before .before .before .before .before .before in
-    let z = m .before .if1 .left in
-    let n = m .number .result in
-    let ns = m .number .ensures in
-    omega (arith, chars-room H z n ns (c .before .before .before .if4 .left) .0, r .before .before .before .before .pre .1 .0 .short)
+    omega (arith, text-room t m (c .before .before .before .if4 .left) .0, array-start t m .pre .1 .0 .short)
 
 put-row-add-t43 : (t : ℕ) → put-row-lts.Need-add-t43 (put-row-claims t) (put-row-at t) put-row.Post
 put-row-add-t43 t c =
-    let earlier = c .before .before .before .before .before .before .before .before in
-    let r = earlier .before .before in
-    let H = row-here t r in
     let m = c .before .before .before .before .before .before .before .before in
-    let z = m .before .if1 .left in
-    let n = m .number .result in
-    let ns = m .number .ensures in
-    omega (arith, chars-room H z n ns (c .before .before .before .if4 .left) .0, r .before .before .before .before .pre .1 .0 .short)
+    omega (arith, text-room t m (c .before .before .before .if4 .left) .0, array-start t m .pre .1 .0 .short)
 
 put-row-add-t44 : (t : ℕ) → put-row-lts.Need-add-t44 (put-row-claims t) (put-row-at t) put-row.Post
 put-row-add-t44 t c =
-    let earlier = c .before .before .before .before .before .before .before .before in
-    let r = earlier .before .before in
-    let H = row-here t r in
-    let m = c .before .before .before .before .before .before .before .before in
-    let z = m .before .if1 .left in
-    let n = m .number .result in
-    let ns = m .number .ensures in
-    omega (arith, chars-room H z n ns (c .before .before .before .if4 .left) .1)
+    omega (arith, text-room t (c .before .before .before .before .before .before .before .before) (c .before .before .before .if4 .left) .1)
 
 put-row-add-t45 : (t : ℕ) → put-row-lts.Need-add-t45 (put-row-claims t) (put-row-at t) put-row.Post
 put-row-add-t45 t c =
-    let earlier = c .before .before .before .before .before .before .before .before in
-    let r = earlier .before .before in
-    let H = row-here t r in
-    let m = c .before .before .before .before .before .before .before .before in
-    let z = m .before .if1 .left in
-    let n = m .number .result in
-    let ns = m .number .ensures in
-    omega (arith, chars-room H z n ns (c .before .before .before .if4 .left) .1)
+    omega (arith, text-room t (c .before .before .before .before .before .before .before .before) (c .before .before .before .if4 .left) .1)
 
 put-row-returns-5 : (t : ℕ) → put-row-lts.Need-returns-5 (put-row-claims t) (put-row-at t) put-row.Post
 put-row-returns-5 t c =
-    let earlier = c .before .before .before .before .before .before .before .before in
-    let r = earlier .before .before in
-    let H = row-here t r in
     let m = c .before .before .before .before .before .before .before .before in
-    let z = m .before .if1 .left in
-    let n = m .number .result in
-    let ns = m .number .ensures in
-    chars-laid H z n ns (c .before .before .before .if4 .left) (row-counted t (c .before .before .before .before .before)) _ (c .before .put-values2 .ensures)
+    chars-laid (row-here t (array-row t m)) (m .before .if1 .left) _ (m .number .ensures) (c .before .before .before .if4 .left) (row-counted t (c .before .before .before .before .before)) _ (c .before .put-values2 .ensures)
 
 pub +put-fields+put-object+put-objects+put-row-spec : {M : Type 1} → statement M
 +put-fields+put-object+put-objects+put-row-spec =
@@ -661,7 +602,7 @@ pub +put-fields+put-object+put-objects+put-row-spec : {M : Type 1} → statement
     (put-object-returns t)
     (put-object-add-four t)
     (put-object-four-requires t)
-    (put-object-plain-of-requires t)
+    (λ c κs. omega (arith, c .before .four .ensures .1))
     (λ c κs. search needs)
     (put-object-add-put-fields t)
     (put-object-add-put-fields-2 t)
@@ -675,10 +616,17 @@ pub +put-fields+put-object+put-objects+put-row-spec : {M : Type 1} → statement
     put-objects-Inv-loop
     put-objects-μ-loop
     (put-objects-loop-holds t)
-    (put-objects-put-object-requires t)
+    (put-objects-shared-slice-read-if1 t)
+    (λ c κs. search needs)
+    (put-objects-add-a t)
+    (put-objects-add-b t)
     (λ c. search needs)
     (λ c. search needs)
     (put-objects-loop-again t)
+    (put-objects-put-object-requires t)
+    (λ c. search needs)
+    (λ c. search needs)
+    (put-objects-loop-again-2 t)
     (λ c. search needs)
     (put-objects-returns t))
     λ t. put-row-lts.spec (put-row-claims t)

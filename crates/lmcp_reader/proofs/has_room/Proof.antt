@@ -15,12 +15,6 @@ use Rattle.lmcp_reader.proofs.has_room.Tie as tie
 returns : tie.Need-returns
 returns c = let a = c .before .before .args in (refl, long-list (a .version) (a .s .now) (length (a .list .now)) (c .if1 .taken))
 
-slice-aggregate-put-object : tie.Need-slice-aggregate-put-object
-slice-aggregate-put-object c = let l = c .before .before .before .args .list .now in sym (length-take-le _ l (omega arith))
-
-put-object-requires : tie.Need-put-object-requires
-put-object-requires c κs = c .before .before .before .pre
-
 returns-2 : tie.Need-returns-2
 returns-2 c =
     let w = c .before in
@@ -37,7 +31,7 @@ has-room-spec =
     (tie.spec
     returns
     (λ c. search needs)
-    slice-aggregate-put-object
-    put-object-requires
+    (λ c. let l = c .before .before .before .args .list .now in sym (length-take-le _ l (omega arith)))
+    (λ c κs. c .before .before .before .pre)
     (λ c. search needs)
     returns-2)

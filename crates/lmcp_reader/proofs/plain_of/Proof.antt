@@ -5,8 +5,5 @@ use borrow.Author.Needs.{needs}
 use Rattle.lmcp_reader.proofs.plain_of.Statement.{statement}
 use Rattle.lmcp_reader.proofs.plain_of.Tie as tie
 
-returns : tie.Need-returns
-returns c = toZ-pos w64 (c .args .v) (c .pre)
-
 pub plain-of-spec : {M : Type 1} → statement M
-plain-of-spec = tie.close (tie.spec (λ c. search needs) returns)
+plain-of-spec = tie.close (tie.spec (λ c. search needs) (λ c. toZ-pos w64 (c .args .v) (c .pre)))

@@ -49,15 +49,6 @@ returns c =
     let a = k .before .before .args in
     answer-refused (a .message .now) (a .list .now) (k .check-message .result) (k .check-message .ensures) (c .if1 .taken)
 
-sub-end : tie.Need-sub-end
-sub-end c = omega (arith, within c .0)
-
-sub-s : tie.Need-sub-s
-sub-s c = omega (arith, within c .0)
-
-part-s-start : tie.Need-part-s-start
-part-s-start c = let k : 8 ≤ length (M c) - 4 = omega (arith, within c .0) in k
-
 put-list-requires : tie.Need-put-list-requires
 put-list-requires c κs =
     let v = c .before .version-of in
@@ -79,9 +70,9 @@ read-message-spec =
     (tie.spec
     (λ c κs. search needs)
     returns
-    sub-end
-    sub-s
-    part-s-start
+    (λ c. omega (arith, within c .0))
+    (λ c. omega (arith, within c .0))
+    (λ c. let k : 8 ≤ length (M c) - 4 = omega (arith, within c .0) in k)
     (λ c. search needs)
     (λ c κs. search needs)
     put-list-requires

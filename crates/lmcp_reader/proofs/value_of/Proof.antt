@@ -23,41 +23,26 @@ module _ (c : ℕ) where
   coded-last : (l : List ℕ) → (c ≡ 0 → ⊥) → (c ≡ 1 → ⊥) → (c ≡ 2 → ⊥) → (c ≡ 3 → ⊥) → (c ≡ 4 → ⊥) → coded c l ≡ signed 64 (be 8 l)
   coded-last l a b d e f = simp (ne-eqb c 0 a, ne-eqb c 1 b, ne-eqb c 2 d, ne-eqb c 3 e, ne-eqb c 4 f)
 
-shared-slice-read-wide : tie.Need-shared-slice-read-wide
-shared-slice-read-wide c = omega (arith, ap widthOf (c .before .if1 .taken), c .before .before .before .pre)
-
 returns : tie.Need-returns
 returns c =
     let a = c .before .before .before .before .before .args in
     let at-wide = c .before in
     through (record { sfits = c .plain-of .ok }) (c .plain-of .ensures) ∙ ap pos (be-one (a .s .now) (a .p) _ (at-wide .wide .ensures .0)) ∙ sym (ap (λ (k : ℕ). coded k (drop (a .p) (a .s .now))) (c .before .before .before .if1 .taken))
 
-two-requires : tie.Need-two-requires
-two-requires c κs = omega (arith, ap widthOf (c .if2 .taken), c .before .before .before .pre)
-
 returns-2 : tie.Need-returns-2
 returns-2 c =
     let a = c .before .before .before .before .before .args in
     through (record { sfits = c .plain-of2 .ok }) (c .plain-of2 .ensures) ∙ ap pos (c .before .two .ensures .0) ∙ sym (ap (λ (k : ℕ). coded k (drop (a .p) (a .s .now))) (c .before .before .if2 .taken))
-
-four-requires : tie.Need-four-requires
-four-requires c κs = omega (arith, ap widthOf (c .if3 .taken), c .before .before .before .before .pre)
 
 returns-3 : tie.Need-returns-3
 returns-3 c =
     let a = c .before .before .before .before .before .before .args in
     through (record { sfits = c .plain-of3 .ok }) (c .plain-of3 .ensures) ∙ ap pos (c .before .four .ensures .0) ∙ sym (ap (λ (k : ℕ). coded k (drop (a .p) (a .s .now))) (c .before .before .if3 .taken))
 
-two-requires-2 : tie.Need-two-requires-2
-two-requires-2 c κs = omega (arith, ap widthOf (c .if4 .taken), c .before .before .before .before .before .pre)
-
 returns-4 : tie.Need-returns-4
 returns-4 c =
     let a = c .before .before .before .before .before .before .before .args in
     through (record { sfits = c .signed-of .ok }) (c .signed-of .ensures) ∙ ap (signed 16) (c .before .two2 .ensures .0) ∙ sym (ap (λ (k : ℕ). coded k (drop (a .p) (a .s .now))) (c .before .before .if4 .taken))
-
-four-requires-2 : tie.Need-four-requires-2
-four-requires-2 c κs = omega (arith, ap widthOf (c .if5 .taken), c .before .before .before .before .before .before .pre)
 
 returns-5 : tie.Need-returns-5
 returns-5 c =
@@ -83,20 +68,20 @@ pub value-of-spec : {M : Type 1} → statement M
 value-of-spec =
     tie.close
     (tie.spec
-    shared-slice-read-wide
+    (λ c. omega (arith, ap widthOf (c .before .if1 .taken), c .before .before .before .pre))
     (λ c κs. search needs)
     (λ c κs. search needs)
     returns
-    two-requires
+    (λ c κs. omega (arith, ap widthOf (c .if2 .taken), c .before .before .before .pre))
     (λ c κs. search needs)
     returns-2
-    four-requires
+    (λ c κs. omega (arith, ap widthOf (c .if3 .taken), c .before .before .before .before .pre))
     (λ c κs. search needs)
     returns-3
-    two-requires-2
+    (λ c κs. omega (arith, ap widthOf (c .if4 .taken), c .before .before .before .before .before .pre))
     (λ c κs. search needs)
     returns-4
-    four-requires-2
+    (λ c κs. omega (arith, ap widthOf (c .if5 .taken), c .before .before .before .before .before .before .pre))
     (λ c κs. search needs)
     returns-5
     eight-requires

@@ -13,13 +13,14 @@ use Rattle.lmcp.specs.Run.{after, repeat}
 use Rattle.lmcp.specs.Table.{nothing, pitsurv, rowsOf, fieldsOf}
 use Rattle.lmcp.specs.Packed.{cell}
 use Rattle.lmcp.specs.Write.{writing, writeValue, writeCount}
-use Rattle.lmcp.specs.Ends.{Sofar, Few15}
+use Rattle.lmcp.specs.Ends.{begun, Sofar, Few15}
 use Rattle.lmcp.proofs.WalkPlaces.{same-run, begins, marked-then, marked-end, marked-stops, repeat-all, inside, object-is, inside-null, inside-fields, items-turn, items-stop, items-end, fields-turn, fields-stop, fields-done, mark-stop, mark-on}
 use Rattle.lmcp.proofs.Heads.{write-some}
-use Rattle.lmcp.proofs.Rows.{row-of}
+use Rattle.lmcp.proofs.Rows.{row-of, few-rows, bounds}
 use Rattle.lmcp_size.specs.InsideSteps.{writeObject, writeFields}
 use Rattle.lmcp_size.specs.InsideWeighs.{Ranges}
-use Rattle.lmcp_size.proofs.Rows.{Here, widths, one-object, many-values, one-value, few, many-objects, chars, stops, few-rows, bounds}
+use Rattle.lmcp.proofs.RowWays.{Here, one-object, many-values, one-value, many-objects, chars, stops}
+use Rattle.lmcp_size.proofs.Rows.{widths, few}
 use borrow.Fn.Kinds.{In}
 use borrow.Fn.PlainCycle.{Measures, is, falls, and}
 use Rattle.lmcp_size.proofs.check_fields.Reads as check-fields
@@ -95,7 +96,7 @@ check-row-claims t = (entry-reads.Asked, entry-reads.Learnt, check-object-below 
 abbrev check-fields-Inv-loop : check-fields-lts.InvT-loop
 check-fields-Inv-loop list at to table version deep t p₀ q₀ i₀ end p q i =
     (i ≤ end) × ((end ≤ length (rowsOf (pitsurv version)))
-    × Sofar Few15 list [] to (writeFields version deep (fieldsOf (pitsurv version) t) (drop at list)) (writeFields version deep (slice i end (rowsOf (pitsurv version)))) p q [])
+    × Sofar Few15 (begun list [] to) (writeFields version deep (fieldsOf (pitsurv version) t) (drop at list)) (writeFields version deep (slice i end (rowsOf (pitsurv version)))) p q [])
 
 abbrev check-fields-μ-loop : check-fields-lts.MeasureT-loop
 check-fields-μ-loop list at to table version deep t p₀ q₀ i₀ end p q i = end - i
@@ -226,7 +227,7 @@ check-object-returns-3 t c =
 
 abbrev check-objects-Inv-loop : check-objects-lts.InvT-loop
 check-objects-Inv-loop list at to table version deep declared n p₀ q₀ k₀ p q k =
-    (k ≤ n) × Sofar Few15 list [] to (repeat n (writeObject version deep declared) (drop at list)) (repeat (n - k) (writeObject version deep declared)) p q []
+    (k ≤ n) × Sofar Few15 (begun list [] to) (repeat n (writeObject version deep declared) (drop at list)) (repeat (n - k) (writeObject version deep declared)) p q []
 
 abbrev check-objects-μ-loop : check-objects-lts.MeasureT-loop
 check-objects-μ-loop list at to table version deep declared n p₀ q₀ k₀ p q k = n - k
@@ -322,7 +323,7 @@ check-row-returns t c =
     let a = start .args in
     let H = row-here t e in
     let l = drop (a .at) (a .list .now) in
-    same-run Few15 (a .list .now) [] (a .to) (c .check-object .result) [] (one-object H (a .deep) (c .before .before .if1 .taken) (c .before .if2 .taken) l) (c .check-object .ensures)
+    same-run Few15 (a .list .now) [] (a .to) (c .check-object .result) [] (one-object H writing (a .deep) (c .before .before .if1 .taken) (c .before .if2 .taken) l) (c .check-object .ensures)
 
 check-row-check-value-requires : (t : ℕ) → check-row-lts.Need-check-value-requires (check-row-claims t) (check-row-at t) check-row.Post
 check-row-check-value-requires t c κs =
@@ -344,7 +345,7 @@ check-row-returns-2 t c =
     let n = five .entry5 .result in
     let ns = five .entry5 .ensures ∙ ap (λ (y : List (List ℕ)). cell y (a .i) 1) (start .pre .1 .0 .packed) in
     same-run Few15 (a .list .now) [] (a .to) (c .check-value .result) []
-    (one-value H (a .deep) (five .before .before .if1 .taken) (five .before .if2 .left) n ns (c .before .if3 .taken) l ∙ ap (λ (k : ℕ). writeValue k (H .arg) l) (sym (row-kind t e))) (c .check-value .ensures)
+    (one-value H writing (a .deep) (five .before .before .if1 .taken) (five .before .if2 .left) n ns (c .before .if3 .taken) l ∙ ap (λ (k : ℕ). writeValue k (H .arg) l) (sym (row-kind t e))) (c .check-value .ensures)
 
 check-row-check-values-requires : (t : ℕ) → check-row-lts.Need-check-values-requires (check-row-claims t) (check-row-at t) check-row.Post
 check-row-check-values-requires t c κs =
@@ -366,7 +367,7 @@ check-row-returns-3 t c =
     let n = five .entry5 .result in
     let ns = five .entry5 .ensures ∙ ap (λ (y : List (List ℕ)). cell y (a .i) 1) (start .pre .1 .0 .packed) in
     same-run Few15 (a .list .now) [] (a .to) (c .check-values .result) []
-    (many-values H (a .deep) (five .before .before .if1 .taken) (five .before .if2 .left) n ns l ∙ ap (λ (k : ℕ). repeat n (writeValue k (H .arg)) l) (sym (row-kind t e))) (c .check-values .ensures)
+    (many-values H writing (a .deep) (five .before .before .if1 .taken) (five .before .if2 .left) n ns l ∙ ap (λ (k : ℕ). repeat n (writeValue k (H .arg)) l) (sym (row-kind t e))) (c .check-values .ensures)
 
 check-row-count-of-requires : (t : ℕ) → check-row-lts.Need-count-of-requires (check-row-claims t) (check-row-at t) check-row.Post
 check-row-count-of-requires t c κs =
@@ -375,7 +376,7 @@ check-row-count-of-requires t c κs =
     let a = start .args in
     let H = row-here t e in
     let l = drop (a .at) (a .list .now) in
-    ((start .pre .1 .0 .place, start .pre .1 .0 .inside), few H (a .deep) (c .if1 .left))
+    ((start .pre .1 .0 .place, start .pre .1 .0 .inside), few H (c .if1 .left))
 
 check-row-check-objects-requires : (t : ℕ) → check-row-lts.Need-check-objects-requires (check-row-claims t) (check-row-at t) check-row.Post
 check-row-check-objects-requires t c κs =
@@ -400,7 +401,7 @@ check-row-returns-4 t c =
     let l = drop (a .at) (a .list .now) in
     let h = mark-on Few15 (a .list .now) [] (a .to) (at-count .count-of .result) [] (at-count .count-of .ensures) _ _ _ (at-c .c2 .given .1) in
     let r = c .check-objects .result in
-    same-run Few15 (a .list .now) [] (a .to) r [] (many-objects H (a .deep) (at-count .before .if1 .left) (c .before .if4 .taken) l)
+    same-run Few15 (a .list .now) [] (a .to) r [] (many-objects H writing (a .deep) (at-count .before .if1 .left) (c .before .if4 .taken) l)
     (marked-then h (λ n. repeat n (writeObject (a .version) (a .deep) (H .arg))) r [] (c .check-objects .ensures))
 
 check-row-check-values-requires-2 : (t : ℕ) → check-row-lts.Need-check-values-requires-2 (check-row-claims t) (check-row-at t) check-row.Post
@@ -424,7 +425,7 @@ check-row-returns-5 t c =
     let a = start .args in
     let H = row-here t e in
     let l = drop (a .at) (a .list .now) in
-    stops H (a .deep) (at-count .before .if1 .left) _ l (mark-stop Few15 (a .list .now) [] (a .to) (at-count .count-of .result) [] (at-count .count-of .ensures) _ (at-c .c .given .1))
+    stops H writing (a .deep) (at-count .before .if1 .left) _ l (mark-stop Few15 (a .list .now) [] (a .to) (at-count .count-of .result) [] (at-count .count-of .ensures) _ (at-c .c .given .1))
 
 check-row-returns-6 : (t : ℕ) → check-row-lts.Need-returns-6 (check-row-claims t) (check-row-at t) check-row.Post
 check-row-returns-6 t c =
@@ -438,7 +439,7 @@ check-row-returns-6 t c =
     let h = mark-on Few15 (a .list .now) [] (a .to) (at-count .count-of .result) [] (at-count .count-of .ensures) _ _ _ (at-c .c2 .given .1) in
     let r = c .check-values2 .result in
     same-run Few15 (a .list .now) [] (a .to) r []
-    (chars H (a .deep) (at-count .before .if1 .left) (c .before .if4 .left) l ∙ ap (λ (k : ℕ). after (writeCount (H .count) l) (λ n. repeat n (writeValue k (H .arg)))) (sym (row-kind t e)))
+    (chars H writing (a .deep) (at-count .before .if1 .left) (c .before .if4 .left) l ∙ ap (λ (k : ℕ). after (writeCount (H .count) l) (λ n. repeat n (writeValue k (H .arg)))) (sym (row-kind t e)))
     (marked-then h (λ n. repeat n (writeValue (e .entry4 .result) (H .arg))) r [] (c .check-values2 .ensures))
 
 pub +check-fields+check-object+check-objects+check-row-spec : {M : Type 1} → statement M

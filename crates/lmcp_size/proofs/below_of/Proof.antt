@@ -4,7 +4,7 @@ use mathlib.Core.Bool.{true, false}
 use lib.IntN.{ℤ, pos}
 use lib.Signed.{mag, ltZ}
 use Rattle.lmcp.proofs.Sizes.{through}
-use Rattle.lmcp_size.proofs.Cases.{negative-below, positive-below}
+use Rattle.lmcp_size.proofs.WriteCases.{negative-below, positive-below}
 use borrow.Author.Needs.{needs}
 use Rattle.lmcp_size.proofs.below_of.Statement.{statement}
 use Rattle.lmcp_size.proofs.below_of.Tie as tie
@@ -14,9 +14,6 @@ returns c =
     let start = c .before in
     negative-below (start .args .n) (start .args .z) (subst (λ (y : ℤ). ltZ y (pos 0) ≡ true) (through (start .args .z) (start .fits .z)) (c .if1 .taken))
 
-size-of-requires : tie.Need-size-of-requires
-size-of-requires c κs = search needs
-
 returns-2 : tie.Need-returns-2
 returns-2 c =
     let at-if1 = c .before in
@@ -24,4 +21,4 @@ returns-2 c =
     positive-below (start .args .n) (start .args .z) (c .size-of .result) (c .size-of .ensures ∙ ap mag (through (start .args .z) (start .fits .z))) (subst (λ (y : ℤ). ltZ y (pos 0) ≡ false) (through (start .args .z) (start .fits .z)) (at-if1 .if1 .left))
 
 pub below-of-spec : {M : Type 1} → statement M
-below-of-spec = tie.close (tie.spec returns size-of-requires returns-2)
+below-of-spec = tie.close (tie.spec returns (λ c κs. search needs) returns-2)

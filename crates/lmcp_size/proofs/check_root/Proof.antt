@@ -14,7 +14,7 @@ use Rattle.lmcp.specs.Write.{writing}
 use Rattle.lmcp.specs.Ends.{Few15}
 use Rattle.lmcp.proofs.WalkPlaces.{same-run, root-stops, root-null, root-object, empty}
 use Rattle.lmcp.proofs.Sizes.{through}
-use Rattle.lmcp_size.proofs.Cases.{here, head-end, head-null, root-some}
+use Rattle.lmcp_size.proofs.WriteCases.{here, head-end, head-null, root-some}
 use Rattle.lmcp_size.proofs.check_root.Statement.{statement}
 use Rattle.lmcp_size.proofs.check_root.Tie as tie
 
@@ -37,9 +37,6 @@ returns-2 c =
     let e = here (a .list .now) 0 (omega (arith, at-if1 .if1 .left)) in
     let f : below 1 z ≡ true = sym (at-below-of .below-of .ensures ∙ ap (below 1) same) ∙ c .if2 .taken in
     root-null (writing T) T (a .list .now) (head-null T deepest 0 (a .list .now) (drop (0 + 1) (a .list .now)) z e f)
-
-check-object-requires : tie.Need-check-object-requires
-check-object-requires c κs = record { place = omega arith; inside = omega arith; packed = c .before .table .ensures }
 
 returns-3 : tie.Need-returns-3
 returns-3 c =
@@ -65,5 +62,5 @@ check-root-spec =
     (λ c κs. search needs)
     returns-2
     (λ c κs. search needs)
-    check-object-requires
+    (λ c κs. record { place = omega arith; inside = omega arith; packed = c .before .table .ensures })
     returns-3)

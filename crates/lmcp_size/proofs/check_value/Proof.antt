@@ -11,7 +11,7 @@ use Rattle.wire.specs.Signed.{unsigned}
 use Rattle.wire.proofs.Numbers.{length-bytes}
 use Rattle.lmcp.specs.Value.{fits}
 use Rattle.lmcp.proofs.Sizes.{through}
-use Rattle.lmcp_size.proofs.Cases.{wide-some, at-end, here, value-end, value-good, value-bad}
+use Rattle.lmcp_size.proofs.WriteCases.{wide-some, at-end, here, value-end, value-good, value-bad}
 use Rattle.lmcp_size.proofs.Weighs.{weighed}
 use Rattle.lmcp_size.proofs.check_value.Statement.{statement}
 use Rattle.lmcp_size.proofs.check_value.Tie as tie

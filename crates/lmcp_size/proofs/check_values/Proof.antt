@@ -4,14 +4,14 @@ use lib.ListN.{drop}
 use borrow.Author.Needs.{needs}
 use Rattle.lmcp.specs.Run.{repeat}
 use Rattle.lmcp.specs.Write.{writeValue}
-use Rattle.lmcp.specs.Ends.{Sofar, Few15}
+use Rattle.lmcp.specs.Ends.{begun, Sofar, Few15}
 use Rattle.lmcp.proofs.WalkPlaces.{begins, repeat-all, items-turn, items-stop, items-end}
 use mathlib.Core.List.{[]}
 use Rattle.lmcp_size.proofs.check_values.Statement.{statement}
 use Rattle.lmcp_size.proofs.check_values.Tie as tie
 
 abbrev Inv-loop : tie.InvT-loop
-Inv-loop list at to kind w n p₀ q₀ k₀ p q k = (k ≤ n) × Sofar Few15 list [] to (repeat n (writeValue kind w) (drop at list)) (repeat (n - k) (writeValue kind w)) p q []
+Inv-loop list at to kind w n p₀ q₀ k₀ p q k = (k ≤ n) × Sofar Few15 (begun list [] to) (repeat n (writeValue kind w) (drop at list)) (repeat (n - k) (writeValue kind w)) p q []
 
 abbrev μ-loop : tie.MeasureT-loop
 μ-loop list at to kind w n p₀ q₀ k₀ p q k = n - k

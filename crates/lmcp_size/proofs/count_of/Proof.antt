@@ -10,7 +10,7 @@ use Rattle.wire.specs.Bytes.{bytes}
 use Rattle.wire.proofs.Numbers.{length-bytes}
 use Rattle.lmcp.specs.Value.{below}
 use Rattle.lmcp.proofs.Sizes.{through}
-use Rattle.lmcp_size.proofs.Cases.{at-end, here, count-end, count-good, count-bad}
+use Rattle.lmcp_size.proofs.WriteCases.{at-end, here, count-end, count-good, count-bad}
 use Rattle.lmcp_size.proofs.Weighs.{told}
 use Rattle.lmcp_size.proofs.count_of.Statement.{statement}
 use Rattle.lmcp_size.proofs.count_of.Tie as tie

@@ -3,16 +3,10 @@ use mathlib.Core.Path.{ap, _∙_}
 use lib.Signed.{mag}
 use Rattle.lmcp.specs.Value.{below}
 use Rattle.lmcp.proofs.Sizes.{through}
-use Rattle.lmcp_size.proofs.Cases.{fits-signed, fits-plain}
+use Rattle.lmcp_size.proofs.WriteCases.{fits-signed, fits-plain}
 use borrow.Author.Needs.{needs}
 use Rattle.lmcp_size.proofs.fits_in.Statement.{statement}
 use Rattle.lmcp_size.proofs.fits_in.Tie as tie
-
-size-of-requires : tie.Need-size-of-requires
-size-of-requires c κs = search needs
-
-half-of-requires : tie.Need-half-of-requires
-half-of-requires c κs = search needs
 
 returns : tie.Need-returns
 returns c =
@@ -20,12 +14,6 @@ returns c =
     let at-if1 = at-size-of .before in
     let start = at-if1 .before in
     fits-signed (start .args .kind) (start .args .w) (start .args .z) (at-size-of .size-of .result) (c .half-of .result) (at-if1 .if1 .taken) (at-size-of .size-of .ensures ∙ ap mag (through (start .args .z) (start .fits .z))) (c .half-of .ensures)
-
-values-of-requires : tie.Need-values-of-requires
-values-of-requires c κs = (c .before .pre .wide, c .before .pre .less (c .if1 .left))
-
-below-of-requires : tie.Need-below-of-requires
-below-of-requires c κs = search needs
 
 returns-2 : tie.Need-returns-2
 returns-2 c =
@@ -39,9 +27,9 @@ fits-in-spec =
     tie.close
     (tie.spec
     (λ c. search needs)
-    size-of-requires
-    half-of-requires
+    (λ c κs. search needs)
+    (λ c κs. search needs)
     returns
-    values-of-requires
-    below-of-requires
+    (λ c κs. (c .before .pre .wide, c .before .pre .less (c .if1 .left)))
+    (λ c κs. search needs)
     returns-2)

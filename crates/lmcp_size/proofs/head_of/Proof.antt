@@ -13,7 +13,7 @@ use Rattle.lmcp.specs.Value.{below}
 use Rattle.lmcp.specs.Write.{header, typedBy}
 use Rattle.lmcp.proofs.Heads.{header-length}
 use Rattle.lmcp.proofs.Sizes.{through}
-use Rattle.lmcp_size.proofs.Cases.{at-end, here, head-end, head-null, head-deep, head-typed, head-untyped}
+use Rattle.lmcp_size.proofs.WriteCases.{at-end, here, head-end, head-null, head-deep, head-typed, head-untyped}
 use Rattle.lmcp_size.proofs.Weighs.{told}
 use Rattle.lmcp_size.proofs.head_of.Statement.{statement}
 use Rattle.lmcp_size.proofs.head_of.Tie as tie

@@ -3,21 +3,15 @@ use mathlib.Core.Path.{sym, ap, _∙_}
 use borrow.Author.Needs.{needs}
 use Rattle.lmcp.specs.Value.{below}
 use Rattle.lmcp.proofs.Sizes.{through}
-use Rattle.lmcp_size.proofs.Cases.{version-low, version-high}
+use Rattle.lmcp_size.proofs.WriteCases.{version-low, version-high}
 use Rattle.lmcp_size.proofs.is_version.Statement.{statement}
 use Rattle.lmcp_size.proofs.is_version.Tie as tie
-
-below-of-requires : tie.Need-below-of-requires
-below-of-requires c κs = search needs
 
 returns : tie.Need-returns
 returns c =
     let s = c .before .before in
     let z = s .args .z in
     version-low z (sym (c .before .below-of .ensures ∙ ap (below 1) (through z (s .fits .z))) ∙ c .if1 .taken)
-
-below-of-requires-2 : tie.Need-below-of-requires-2
-below-of-requires-2 c κs = search needs
 
 returns-2 : tie.Need-returns-2
 returns-2 c =
@@ -28,4 +22,4 @@ returns-2 c =
     c .below-of2 .ensures ∙ ap (below 3) same ∙ version-high z (sym (e .before .below-of .ensures ∙ ap (below 1) same) ∙ e .if1 .left)
 
 pub is-version-spec : {M : Type 1} → statement M
-is-version-spec = tie.close (tie.spec below-of-requires returns below-of-requires-2 returns-2)
+is-version-spec = tie.close (tie.spec (λ c κs. search needs) returns (λ c κs. search needs) returns-2)

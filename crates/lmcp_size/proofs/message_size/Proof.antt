@@ -11,9 +11,6 @@ use Rattle.lmcp_size.proofs.Answers.{list-empty, list-other, list-versi
 use Rattle.lmcp_size.proofs.message_size.Statement.{statement}
 use Rattle.lmcp_size.proofs.message_size.Tie as tie
 
-returns : tie.Need-returns
-returns c = list-empty (c .before .args .list .now) (c .if1 .taken)
-
 returns-2 : tie.Need-returns-2
 returns-2 c calculate =
     let n = c .before in
@@ -39,7 +36,7 @@ pub message-size-spec : {M : Type 1} → statement M
 message-size-spec =
     tie.close
     (tie.spec
-    returns
+    (λ c. list-empty (c .before .args .list .now) (c .if1 .taken))
     (λ c. search needs)
     (λ c κs. search needs)
     (λ c. search needs)

@@ -6,7 +6,7 @@ use native.Mathlib.Omega.{arith}
 use borrow.Author.Needs.{needs}
 use Rattle.lmcp.specs.declared.Went.{Went}
 use Rattle.lmcp.specs.Run.{got}
-use Rattle.lmcp.specs.Ends.{Sofar, Few15}
+use Rattle.lmcp.specs.Ends.{begun, Sofar, Few15}
 use Rattle.lmcp_size.specs.InsideSteps.{writeRoot}
 use Rattle.lmcp_size.specs.InsideWeighs.{Weighs}
 use Rattle.lmcp_size.proofs.Answers.{answer-stopped, answer-left, answer-long, answer-good}
@@ -23,7 +23,7 @@ place c = c .root2 .given .0 .0
 abbrev end : tie.After-root2 → ℕ
 end c = c .root2 .given .0 .1 .0
 
-walked : (c : tie.After-root2) → Sofar Few15 (start c .args .list .now) [] 8 (writeRoot (start c .args .version) (start c .args .list .now)) (got []) (place c) (end c) []
+walked : (c : tie.After-root2) → Sofar Few15 (begun (start c .args .list .now) [] 8) (writeRoot (start c .args .version) (start c .args .list .now)) (got []) (place c) (end c) []
 walked c =
     let a = start c .args in
     subst (λ (w : Went). Weighs (a .list .now) 8 (writeRoot (a .version) (a .list .now)) w) (c .root2 .given .1) (c .before .before .check-root .ensures)

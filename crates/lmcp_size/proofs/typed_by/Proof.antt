@@ -5,7 +5,7 @@ use lib.IntN.{ℤ, pos}
 use lib.Signed.{mag, ltZ}
 use Rattle.lmcp.specs.Table.{pitsurv}
 use Rattle.lmcp.proofs.Sizes.{through}
-use Rattle.lmcp_size.proofs.Cases.{negative-typed, positive-typed}
+use Rattle.lmcp_size.proofs.WriteCases.{negative-typed, positive-typed}
 use borrow.Author.Needs.{needs}
 use Rattle.lmcp_size.proofs.typed_by.Statement.{statement}
 use Rattle.lmcp_size.proofs.typed_by.Tie as tie
@@ -14,12 +14,6 @@ returns : tie.Need-returns
 returns c =
     let start = c .before in
     negative-typed (pitsurv (start .args .version)) (start .args .declared) (start .args .z) (subst (λ (y : ℤ). ltZ y (pos 0) ≡ true) (through (start .args .z) (start .fits .z)) (c .if1 .taken))
-
-size-of-requires : tie.Need-size-of-requires
-size-of-requires c κs = search needs
-
-typed-in-requires : tie.Need-typed-in-requires
-typed-in-requires c κs = search needs
 
 returns-2 : tie.Need-returns-2
 returns-2 c =
@@ -30,4 +24,4 @@ returns-2 c =
     (subst (λ (y : ℤ). ltZ y (pos 0) ≡ false) (through (start .args .z) (start .fits .z)) (at-if1 .if1 .left))
 
 pub typed-by-spec : {M : Type 1} → statement M
-typed-by-spec = tie.close (tie.spec returns size-of-requires typed-in-requires returns-2)
+typed-by-spec = tie.close (tie.spec returns (λ c κs. search needs) (λ c κs. search needs) returns-2)

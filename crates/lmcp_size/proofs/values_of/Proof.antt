@@ -1,17 +1,8 @@
 -- `lmcp_size::values_of` meets its contract.
-use Rattle.lmcp_size.proofs.Cases.{wide-some, values-bool, values-char, half-small, values-plain}
+use Rattle.lmcp_size.proofs.WriteCases.{wide-some, values-bool, values-char, half-small, values-plain}
 use borrow.Author.Needs.{needs}
 use Rattle.lmcp_size.proofs.values_of.Statement.{statement}
 use Rattle.lmcp_size.proofs.values_of.Tie as tie
-
-returns : tie.Need-returns
-returns c = values-bool _ _ (c .if1 .taken)
-
-returns-2 : tie.Need-returns-2
-returns-2 c = values-char _ _ (c .if2 .taken)
-
-half-of-requires : tie.Need-half-of-requires
-half-of-requires c κs = search needs
 
 add-result : tie.Need-add-result
 add-result c =
@@ -26,4 +17,4 @@ returns-3 c =
     values-plain (start .args .kind) (start .args .w) (wide-some (start .pre .0) .0) (start .pre .1) (c .half-of .result) (c .half-of .ensures) (at-if1 .if1 .left) (at-if2 .if2 .left)
 
 pub values-of-spec : {M : Type 1} → statement M
-values-of-spec = tie.close (tie.spec (λ c. search needs) returns (λ c. search needs) returns-2 half-of-requires add-result returns-3)
+values-of-spec = tie.close (tie.spec (λ c. search needs) (λ c. values-bool _ _ (c .if1 .taken)) (λ c. search needs) (λ c. values-char _ _ (c .if2 .taken)) (λ c κs. search needs) add-result returns-3)

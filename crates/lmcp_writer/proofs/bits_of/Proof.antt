@@ -4,16 +4,10 @@ use mathlib.Core.Bool.{true, false}
 use lib.IntN.{ℤ, pos}
 use lib.Signed.{mag, ltZ}
 use Rattle.lmcp.proofs.Sizes.{through}
-use Rattle.lmcp_writer.proofs.Cases.{negative-bits, positive-bits}
+use Rattle.lmcp_writer.proofs.NumberBytes.{negative-bits, positive-bits}
 use borrow.Author.Needs.{needs}
 use Rattle.lmcp_writer.proofs.bits_of.Statement.{statement}
 use Rattle.lmcp_writer.proofs.bits_of.Tie as tie
-
-size-of-requires : tie.Need-size-of-requires
-size-of-requires c κs = search needs
-
-sub-result : tie.Need-sub-result
-sub-result c = search needs
 
 returns : tie.Need-returns
 returns c =
@@ -28,4 +22,4 @@ returns-2 c =
     positive-bits (start .args .z) (at-size-of .size-of .result) (at-size-of .size-of .ensures ∙ ap mag (through (start .args .z) (start .fits .z))) (subst (λ (y : ℤ). ltZ y (pos 0) ≡ false) (through (start .args .z) (start .fits .z)) (c .if1 .left))
 
 pub bits-of-spec : {M : Type 1} → statement M
-bits-of-spec = tie.close (tie.spec size-of-requires sub-result returns returns-2)
+bits-of-spec = tie.close (tie.spec (λ c κs. search needs) (λ c. search needs) returns returns-2)

@@ -3,7 +3,7 @@ use borrow.Author.Needs.{needs}
 use Rattle.wire.specs.Bytes.{be}
 use Rattle.lmcp.specs.Table.{pitsurv}
 use Rattle.lmcp_size.specs.InsideWeighs.{one, two, four, eight}
-use Rattle.lmcp_writer.proofs.Cases.{laid-header}
+use Rattle.lmcp_writer.proofs.NumberBytes.{laid-header}
 use Rattle.lmcp_writer.proofs.put_header.Statement.{statement}
 use Rattle.lmcp_writer.proofs.put_header.Tie as tie
 

@@ -5,7 +5,7 @@ use native.Mathlib.Omega.{arith}
 use borrow.Author.Needs.{needs}
 use Rattle.lmcp_size.specs.InsideWeighs.{four}
 use Rattle.lmcp_writer.proofs.Answers.{all-laid}
-use Rattle.lmcp_writer.proofs.Puts.{ahead-more}
+use Rattle.lmcp.proofs.Aheads.{ahead-more}
 use Rattle.lmcp_writer.proofs.put_message.Statement.{statement}
 use Rattle.lmcp_writer.proofs.put_message.Tie as tie
 

@@ -8,13 +8,10 @@ use borrow.Author.Needs.{needs}
 use Rattle.wire.specs.Bytes.{bytes}
 use Rattle.wire.specs.Overlay.{overlay}
 use Rattle.wire.proofs.Overlays.{overlay-sets}
-use Rattle.lmcp_size.proofs.Cases.{wide-last}
+use Rattle.lmcp_size.proofs.WriteCases.{wide-last}
 use Rattle.lmcp_writer.proofs.Widths.{eight-laid}
 use Rattle.lmcp_writer.proofs.put_number.Statement.{statement}
 use Rattle.lmcp_writer.proofs.put_number.Tie as tie
-
-put-four-requires : tie.Need-put-four-requires
-put-four-requires c κs = let i = c .before in omega (arith, i .if1 .taken, i .before .before .pre .0)
 
 returns : tie.Need-returns
 returns c =
@@ -23,18 +20,12 @@ returns c =
     let a = i .before .before .args in
     at-put .put-four .ensures ∙ ap (λ (w : ℕ). overlay (a .out .now) (a .to) (bytes w (a .v))) (sym (i .if1 .taken))
 
-put-two-requires : tie.Need-put-two-requires
-put-two-requires c κs = let i = c .before in omega (arith, i .if2 .taken, i .before .before .before .pre .0)
-
 returns-2 : tie.Need-returns-2
 returns-2 c =
     let at-put = c .before .before in
     let i = at-put .before .before in
     let a = i .before .before .before .args in
     at-put .put-two .ensures ∙ ap (λ (w : ℕ). overlay (a .out .now) (a .to) (bytes w (a .v))) (sym (i .if2 .taken))
-
-slice-write-out : tie.Need-slice-write-out
-slice-write-out c = omega (arith, c .if3 .taken, c .before .before .before .before .pre .0)
 
 returns-3 : tie.Need-returns-3
 unfolding bytes
@@ -45,9 +36,6 @@ returns-3 c =
 -- none of the others
 last : (c : tie.Else3) → c .before .before .before .before .args .w ≡ 8
 last c = let start = c .before .before .before .before in wide-last (start .pre .1) (c .before .before .if1 .left) (c .before .if2 .left) (c .if3 .left)
-
-put-four-requires-2 : tie.Need-put-four-requires-2
-put-four-requires-2 c κs = let i = c .before in omega (arith, last i, i .before .before .before .before .pre .0)
 
 add-put-four : tie.Need-add-put-four
 add-put-four c = let i = c .before .before .before .before .before in let start = i .before .before .before .before in record { fits = omega (arith, last i, start .pre .0, start .good .0 .1) }
@@ -73,17 +61,17 @@ pub put-number-spec : {M : Type 1} → statement M
 put-number-spec =
     tie.close
     (tie.spec
-    put-four-requires
+    (λ c κs. let i = c .before in omega (arith, i .if1 .taken, i .before .before .pre .0))
     (λ c. search needs)
     returns
-    put-two-requires
+    (λ c κs. let i = c .before in omega (arith, i .if2 .taken, i .before .before .before .pre .0))
     (λ c. search needs)
     returns-2
     (λ c. search needs)
-    slice-write-out
+    (λ c. omega (arith, c .if3 .taken, c .before .before .before .before .pre .0))
     (λ c. search needs)
     returns-3
-    put-four-requires-2
+    (λ c κs. let i = c .before in omega (arith, last i, i .before .before .before .before .pre .0))
     add-put-four
     put-four-requires-3
     (λ c. search needs)

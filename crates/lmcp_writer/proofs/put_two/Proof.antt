@@ -6,27 +6,6 @@ use Rattle.lmcp_writer.proofs.Widths.{two-laid}
 use Rattle.lmcp_writer.proofs.put_two.Statement.{statement}
 use Rattle.lmcp_writer.proofs.put_two.Tie as tie
 
-cast-out : tie.Need-cast-out
-cast-out c = search needs
-
-slice-write-out : tie.Need-slice-write-out
-slice-write-out c = search needs
-
-cast-out-2 : tie.Need-cast-out-2
-cast-out-2 c = search needs
-
-add-out : tie.Need-add-out
-add-out c = search needs
-
-slice-write-out-2 : tie.Need-slice-write-out-2
-slice-write-out-2 c = rw length-set (omega (arith, c .pre))
-
-same-length : tie.Need-same-length
-same-length c = search needs
-
-returns : tie.Need-returns
-returns c = two-laid (c .args .out .now) (c .args .to) (c .args .v)
-
 pub put-two-spec : {M : Type 1} → statement M
 put-two-spec =
-    tie.close (tie.spec cast-out slice-write-out cast-out-2 add-out slice-write-out-2 same-length returns)
+    tie.close (tie.spec (λ c. search needs) (λ c. search needs) (λ c. search needs) (λ c. search needs) (λ c. rw length-set (omega (arith, c .pre))) (λ c. search needs) (λ c. two-laid (c .args .out .now) (c .args .to) (c .args .v)))

@@ -13,9 +13,9 @@ use Rattle.wire.proofs.Numbers.{length-bytes}
 use Rattle.lmcp.proofs.WalkPlaces.{sets-append}
 use Rattle.lmcp.proofs.Sizes.{through}
 use Rattle.lmcp.proofs.Widths.{peel}
-use Rattle.lmcp_size.proofs.Cases.{here}
+use Rattle.lmcp_size.proofs.WriteCases.{here}
 use Rattle.lmcp_writer.specs.InsidePuts.{spelled}
-use Rattle.lmcp_writer.proofs.Cases.{laid-number}
+use Rattle.lmcp_writer.proofs.NumberBytes.{laid-number}
 use Rattle.lmcp_writer.proofs.put_values.Statement.{statement}
 use Rattle.lmcp_writer.proofs.put_values.Tie as tie
 

@@ -12,9 +12,6 @@ returns c =
     let a = c .before .before .args in
     begin-over (a .out .now) (a .limit) (c .if1 .taken)
 
-add-n : tie.Need-add-n
-add-n c = omega (arith, seven-most (c .before .before .before .args .limit))
-
 returns-2 : tie.Need-returns-2
 returns-2 c =
     let a = c .before .before .before .before .args in
@@ -40,7 +37,7 @@ begin-spec =
     (tie.spec
     returns
     (λ c κs. search needs)
-    add-n
+    (λ c. omega (arith, seven-most (c .before .before .before .args .limit)))
     returns-2
     (λ c. search needs)
     (λ c κs. search needs)

@@ -9,26 +9,17 @@ use Rattle.log_index.proofs.is_of.Tie as tie
 
 -- A place before n, and both numbers. Assumes nothing.
 
-returns : tie.Need-returns
-returns c = rw (le-ltb _ _ (c .if1 .taken)) refl
-
-returns-2 : tie.Need-returns-2
-returns-2 c = rw (lt-ltb _ _ (c .before .before .if1 .left), ne-eqb _ _ (c .if2 .taken)) refl
-
-returns-3 : tie.Need-returns-3
-returns-3 c = rw (lt-ltb _ _ (c .before .before .before .if1 .left), eq-eqb _ _ (c .before .if2 .left)) refl
-
 pub is-of-spec : {M : Type 1} → statement M
 is-of-spec =
     tie.close
     (tie.spec
-    returns
+    (λ c. rw (le-ltb _ _ (c .if1 .taken)) refl)
     (λ c. search needs)
     (λ c. search needs)
     (λ c. search needs)
-    returns-2
+    (λ c. rw (lt-ltb _ _ (c .before .before .if1 .left), ne-eqb _ _ (c .if2 .taken)) refl)
     (λ c. search needs)
     (λ c. search needs)
     (λ c. search needs)
     (λ c. search needs)
-    returns-3)
+    (λ c. rw (lt-ltb _ _ (c .before .before .before .if1 .left), eq-eqb _ _ (c .before .if2 .left)) refl))

@@ -17,9 +17,6 @@ Inv-loop index₀ n batch m high₀ j₀ index high j = (j ≤ m) × ((high ≤ 
 abbrev μ-loop : tie.MeasureT-loop
 μ-loop index₀ n batch m high₀ j₀ index high j = j
 
-loop-holds : tie.Need-loop-holds Inv-loop μ-loop
-loop-holds c = (omega arith, (omega arith, (refl, refl)))
-
 merge-one-requires : tie.Need-merge-one-requires Inv-loop μ-loop
 merge-one-requires c κs =
     let at-loop-test = c .before in
@@ -39,9 +36,6 @@ loop-again c =
     let h = at-loop-test .loop-test .taken in
     (omega (arith, l .inv .0), (omega (arith, m .within, l .inv .1 .0), (m .size ∙ l .inv .1 .1 .0, merged-turn (l .j) (l .high) _ _ (l .index) _ h m ∙ l .inv .1 .1 .1)))
 
-same-length : tie.Need-same-length Inv-loop μ-loop
-same-length c = c .before .loop .inv .1 .1 .0
-
 returns : tie.Need-returns Inv-loop μ-loop
 returns c =
     let l = c .before .loop in
@@ -53,10 +47,10 @@ merge-all-spec =
     (tie.spec
     Inv-loop
     μ-loop
-    loop-holds
+    (λ c. (omega arith, (omega arith, (refl, refl))))
     (λ c. search needs)
     merge-one-requires
     (λ c. search needs)
     loop-again
-    same-length
+    (λ c. c .before .loop .inv .1 .1 .0)
     returns)

@@ -24,9 +24,6 @@ loop-holds c =
     let a = c .args in
     (omega arith, (omega arith, (refl, sym (moved-none (a .index .now) (a .to) (a .by)))))
 
-add-index : tie.Need-add-index Inv-loop μ-loop
-add-index c = omega (arith, c .before .before .before .pre .1 .1)
-
 slice-write-index : tie.Need-slice-write-index Inv-loop μ-loop
 slice-write-index c =
     let at-loop-test = c .before in
@@ -64,7 +61,7 @@ move-up-spec =
     (λ c. search needs)
     (λ c. search needs)
     (λ c. search needs)
-    add-index
+    (λ c. omega (arith, c .before .before .before .pre .1 .1))
     (λ c. search needs)
     slice-write-index
     (λ c. search needs)

@@ -28,9 +28,6 @@ unfolding rankIn
 loop-holds c =
     (omega arith, (omega arith, starts _ (c .before .args .n) _ refl))
 
-is-before-requires : tie.Need-is-before-requires Inv-loop μ-loop
-is-before-requires c κs = omega (arith, c .before .before .before .pre)
-
 loop-again : tie.Need-loop-again Inv-loop μ-loop
 loop-again c =
     let l = c .before .before .before .loop in
@@ -57,7 +54,7 @@ rank-spec =
     loop-holds
     (λ c. search needs)
     (λ c. search needs)
-    is-before-requires
+    (λ c κs. omega (arith, c .before .before .before .pre))
     (λ c. search needs)
     (λ c. search needs)
     loop-again

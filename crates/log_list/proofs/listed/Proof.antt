@@ -12,7 +12,7 @@ use Rattle.log.proofs.reader.Step.{the-type}
 use Rattle.log.specs.declared.reader.EntryAt.{EntryAt}
 use Rattle.log.specs.declared.reader.Step.{Step}
 use Rattle.log.specs.declared.reader.Step.the-variants as step
-use Rattle.log_reader.proofs.Passing.{ahead}
+use Rattle.log.proofs.EntriesPassed.{ahead}
 use Rattle.output.proofs.Sending.{finishes-shut}
 use Rattle.log_list.proofs.Listing.{Going, going-none, going-more, going-end, going-shut}
 use borrow.Author.Needs.{needs}

@@ -4,7 +4,7 @@ use Prim.Native.Nat.{_+_, _-_, _≤_, _<_}
 use native.Mathlib.Omega.{arith}
 use lib.ListN.{length, drop}
 use Rattle.mark_rows.specs.InsideRows.{placedFrom}
-use Rattle.mark_rows.proofs.Laid.{at-most-one}
+use Rattle.mark_rows.proofs.RowsLaid.{at-most-one}
 use Rattle.mark_rows.proofs.RowTurn.{goes-on, turn-long, end-long}
 use borrow.Author.Needs.{needs}
 use Rattle.mark_rows.proofs.count_marks.Statement.{statement}
@@ -15,9 +15,6 @@ Inv-loop list two n₀ place₀ n place = (n ≤ place) × (n + length (placedFr
 
 abbrev μ-loop : tie.MeasureT-loop
 μ-loop list two n₀ place₀ n place = length list - place
-
-loop-holds : tie.Need-loop-holds Inv-loop μ-loop
-loop-holds c = (omega arith, omega arith)
 
 add-n : tie.Need-add-n Inv-loop μ-loop
 add-n c =
@@ -52,4 +49,4 @@ returns c =
 
 pub count-marks-spec : {M : Type 1} → statement M
 count-marks-spec =
-    tie.close (tie.spec Inv-loop μ-loop loop-holds (λ c κs. search needs) add-n (λ c κs. search needs) loop-less loop-again returns)
+    tie.close (tie.spec Inv-loop μ-loop (λ c. (omega arith, omega arith)) (λ c κs. search needs) add-n (λ c κs. search needs) loop-less loop-again returns)

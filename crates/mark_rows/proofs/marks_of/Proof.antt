@@ -3,7 +3,7 @@ use mathlib.Core.Path.{ap}
 use Prim.Native.Nat.{ℕ}
 use lib.Dec.{eqb}
 use borrow.Author.Tests.{not-true, not-false}
-use Rattle.mark_rows.proofs.Gives.{no-list, no-room, rows-given}
+use Rattle.mark_rows.proofs.RowsGiven.{no-list, no-room, rows-given}
 use borrow.Author.Needs.{needs}
 use Rattle.mark_rows.proofs.marks_of.Statement.{statement}
 use Rattle.mark_rows.proofs.marks_of.Tie as tie

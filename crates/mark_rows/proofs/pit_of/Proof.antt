@@ -8,8 +8,5 @@ use borrow.Author.Needs.{needs}
 use Rattle.mark_rows.proofs.pit_of.Statement.{statement}
 use Rattle.mark_rows.proofs.pit_of.Tie as tie
 
-returns : tie.Need-returns
-returns c = let k : c .args .p % span < 2 ^ 63 = omega arith in toZ-pos w64 (c .args .p % span) k
-
 pub pit-of-spec : {M : Type 1} → statement M
-pit-of-spec = tie.close (tie.spec (λ c. search needs) returns)
+pit-of-spec = tie.close (tie.spec (λ c. search needs) (λ c. let k : c .args .p % span < 2 ^ 63 = omega arith in toZ-pos w64 (c .args .p % span) k))

@@ -4,7 +4,7 @@ use mathlib.Core.List.{List}
 use native.Mathlib.Omega.{arith}
 use lib.IntN.{ℤ}
 use lib.ListN.{length, drop}
-use Rattle.mark_rows.proofs.Laid.{mark-one, null-laid, mark-laid}
+use Rattle.mark_rows.proofs.RowsLaid.{mark-one, null-laid, mark-laid}
 use borrow.Author.Needs.{needs}
 use Rattle.mark_rows.proofs.put_element.Statement.{statement}
 use Rattle.mark_rows.proofs.put_element.Tie as tie

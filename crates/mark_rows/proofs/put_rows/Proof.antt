@@ -8,7 +8,7 @@ use lib.Seq.{sets}
 use Rattle.mark_rows.specs.Placed.{PlacedMark, placedAt}
 use Rattle.mark_rows.specs.Rows.{rowsOf}
 use Rattle.mark_rows.specs.InsideRows.{placedFrom}
-use Rattle.mark_rows.proofs.Laid.{then-laid}
+use Rattle.mark_rows.proofs.RowsLaid.{then-laid}
 use Rattle.mark_rows.proofs.RowTurn.{placed-turn, placed-end, goes-on, turn-long}
 use borrow.Author.Needs.{needs}
 use Rattle.mark_rows.proofs.put_rows.Statement.{statement}
@@ -20,9 +20,6 @@ Inv-loop rows₀ list two q₀ place₀ rows q place =
 
 abbrev μ-loop : tie.MeasureT-loop
 μ-loop rows₀ list two q₀ place₀ rows q place = length list - place
-
-loop-holds : tie.Need-loop-holds Inv-loop μ-loop
-loop-holds c = (refl, (omega (arith, c .pre), refl))
 
 put-element-requires : tie.Need-put-element-requires Inv-loop μ-loop
 put-element-requires c κs =
@@ -66,4 +63,4 @@ returns c =
 
 pub put-rows-spec : {M : Type 1} → statement M
 put-rows-spec =
-    tie.close (tie.spec Inv-loop μ-loop loop-holds put-element-requires (λ c κs. search needs) loop-less loop-again (λ c. search needs) returns)
+    tie.close (tie.spec Inv-loop μ-loop (λ c. (refl, (omega (arith, c .pre), refl))) put-element-requires (λ c κs. search needs) loop-less loop-again (λ c. search needs) returns)

@@ -12,9 +12,6 @@ use Rattle.moss_writer.proofs.plan.Tie as tie
 fits : (c : tie.Else1) → headLength + length (c .before .before .args .blocks .now) ≤ maxPacket
 fits c = omega arith
 
-returns : tie.Need-returns
-returns c = let a = c .before .before .args in sym (written-long (a .kind) (a .blocks .now) (a .room) (omega arith))
-
 returns-2 : tie.Need-returns-2
 returns-2 c =
     let asked = c .before in
@@ -43,4 +40,4 @@ returns-4 c =
 pub plan-spec : {M : Type 1} → statement M
 plan-spec =
     tie.close
-    (tie.spec (λ c. search needs) returns (λ c κs. search needs) returns-2 (λ c. search needs) returns-3 returns-4)
+    (tie.spec (λ c. search needs) (λ c. let a = c .before .before .args in sym (written-long (a .kind) (a .blocks .now) (a .room) (omega arith))) (λ c κs. search needs) returns-2 (λ c. search needs) returns-3 returns-4)

@@ -17,7 +17,8 @@ module _ (limits : Limits) {l l′ : Lent} {sender : ℕ} {d e : List ℕ} {r : 
 returns : tie.Need-returns
 returns c =
     let at-pour-line = c .before .before in
-    let r = at-pour-line .before .before .before .before .before .before .before .before .before .before in
+    let heard = at-pour-line .before .before .before .before .before in
+    let r = heard .before .before .before .before .before in
     let at-part = r .before .before .before .before .before in
     let p = at-part .part .ensures in
     record { outcome = _; heard = same-datagram _ p (r .receive-within .ensures); said = at-pour-line .pour-line .ensures }

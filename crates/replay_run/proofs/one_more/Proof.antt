@@ -6,7 +6,8 @@ use Rattle.replay_run.proofs.one_more.Tie as tie
 returns : tie.Need-returns
 returns c =
     let p = c .before .before in
-    let r = p .before .before .before .before .before .before .before .before .before .before in
+    let heard = p .before .before .before .before .before in
+    let r = heard .before .before .before .before .before in
     record { outcome = _; heard = r .receive .ensures; said = p .pour-line .ensures }
 
 pub one-more-spec : {M : Type 1} → statement M

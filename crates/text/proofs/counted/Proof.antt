@@ -7,11 +7,5 @@ use Rattle.wire.proofs.Signs.{counts}
 use Rattle.text.proofs.counted.Statement.{statement}
 use Rattle.text.proofs.counted.Tie as tie
 
-cast-result : tie.Need-cast-result
-cast-result c = counts w64 (c .args .z) (c .fits .z) (c .pre)
-
-returns : tie.Need-returns
-returns c = ap natAbs (toZ-ofZ w64 (c .args .z) (c .fits .z))
-
 pub counted-spec : {M : Type 1} → statement M
-counted-spec = tie.close (tie.spec cast-result returns)
+counted-spec = tie.close (tie.spec (λ c. counts w64 (c .args .z) (c .fits .z) (c .pre)) (λ c. ap natAbs (toZ-ofZ w64 (c .args .z) (c .fits .z))))

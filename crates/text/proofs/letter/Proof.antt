@@ -4,11 +4,5 @@ use borrow.Author.Tests.{lt-ltb, le-ltb}
 use Rattle.text.proofs.letter.Statement.{statement}
 use Rattle.text.proofs.letter.Tie as tie
 
-returns : tie.Need-returns
-returns c = rw (lt-ltb (c .before .args .d) 10 (c .if1 .taken))
-
-returns-2 : tie.Need-returns-2
-returns-2 c = rw (le-ltb (c .before .args .d) 10 (c .if1 .left))
-
 pub letter-spec : {M : Type 1} → statement M
-letter-spec = tie.close (tie.spec (λ c. search needs) (λ c. search needs) returns (λ c. search needs) (λ c. search needs) returns-2)
+letter-spec = tie.close (tie.spec (λ c. search needs) (λ c. search needs) (λ c. rw (lt-ltb (c .before .args .d) 10 (c .if1 .taken))) (λ c. search needs) (λ c. search needs) (λ c. rw (le-ltb (c .before .args .d) 10 (c .if1 .left))))

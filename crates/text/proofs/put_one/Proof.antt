@@ -4,11 +4,5 @@ use Rattle.text.proofs.Puts.{put-byte, put-no-byte}
 use Rattle.text.proofs.put_one.Statement.{statement}
 use Rattle.text.proofs.put_one.Tie as tie
 
-returns : tie.Need-returns
-returns c = let a = c .before .args in put-byte (a .out .now) (a .at) (a .b) (c .if1 .taken)
-
-returns-2 : tie.Need-returns-2
-returns-2 c = let a = c .before .args in put-no-byte (a .out .now) (a .at) (a .b) (c .if1 .left)
-
 pub put-one-spec : {M : Type 1} → statement M
-put-one-spec = tie.close (tie.spec (λ c. search needs) (λ c. search needs) (λ c. search needs) returns returns-2)
+put-one-spec = tie.close (tie.spec (λ c. search needs) (λ c. search needs) (λ c. search needs) (λ c. let a = c .before .args in put-byte (a .out .now) (a .at) (a .b) (c .if1 .taken)) (λ c. let a = c .before .args in put-no-byte (a .out .now) (a .at) (a .b) (c .if1 .left)))

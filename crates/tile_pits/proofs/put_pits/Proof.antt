@@ -25,9 +25,6 @@ loop-holds c =
     let g : ℕ → ℕ = λ j. pick (isThere (a .sure .now) (a .had-sure) (getD (a .pits .now) (a .first + j) 0)) 1 0 in
     (refl, refl, omega arith, laid-none (a .number .now) (a .n) f, laid-none (a .certain .now) (a .n) g)
 
-add-word : tie.Need-add-word Inv-loop μ-loop
-add-word c = let s = c .before .before .before .before .before .before in omega (arith, s .pre)
-
 loop-again : tie.Need-loop-again Inv-loop μ-loop
 loop-again c =
     let p2 = c .before .before in
@@ -67,7 +64,7 @@ put-pits-spec =
     Inv-loop
     μ-loop
     loop-holds
-    add-word
+    (λ c. let s = c .before .before .before .before .before .before in omega (arith, s .pre))
     (λ c κs. search needs)
     (λ c κs. search needs)
     (λ c κs. search needs)

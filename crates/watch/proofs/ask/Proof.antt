@@ -4,12 +4,9 @@ use borrow.Author.Needs.{needs}
 use mir.Syntax.{w32}
 use mir.ValLaws.{toZ-ofZ}
 use Rattle.watch.specs.Difference.{told}
-use Rattle.watch.proofs.Cases.{asked-claims, asked-known, asked-new, asked-full}
+use Rattle.watch.proofs.WatchCases.{asked-claims, asked-known, asked-new, asked-full}
 use Rattle.watch.proofs.ask.Statement.{statement}
 use Rattle.watch.proofs.ask.Tie as tie
-
-returns : tie.Need-returns
-returns c = let a = c .before .args in sym (asked-claims (a .t1) (a .sender) (a .number) (c .if1 .taken))
 
 returns-2 : tie.Need-returns-2
 returns-2 c =
@@ -42,7 +39,7 @@ pub ask-spec : {M : Type 1} → statement M
 ask-spec =
     tie.close
     (tie.spec
-    returns
+    (λ c. let a = c .before .args in sym (asked-claims (a .t1) (a .sender) (a .number) (c .if1 .taken)))
     (λ c κs. search needs)
     (λ c. search needs)
     (λ c. search needs)

@@ -15,9 +15,6 @@ Inv-loop senders count sender i₀ i = (length (take count senders) ≡ count) �
 abbrev μ-loop : tie.MeasureT-loop
 μ-loop senders count sender i₀ i = count - i
 
-loop-holds : tie.Need-loop-holds Inv-loop μ-loop
-loop-holds c = (length-take-le (c .args .count) (c .args .senders .now) (c .pre), passed-none (c .args .sender) _)
-
 returns : tie.Need-returns Inv-loop μ-loop
 returns c =
     let at-loop-test = c .before .before in
@@ -38,9 +35,16 @@ loop-again c =
       passed-more (l .inv .1) (omega arith) (λ e. c .if1 .left (sym (getD-take (a .count) (a .senders .now) (l .i) 0 (at-loop-test .loop-test .taken)) ∙ e)),
     )
 
-returns-2 : tie.Need-returns-2 Inv-loop μ-loop
-returns-2 c = passed-all (c .before .loop .inv .1) (omega arith)
-
 pub find-spec : {M : Type 1} → statement M
 find-spec =
-    tie.close (tie.spec Inv-loop μ-loop loop-holds (λ c. search needs) (λ c. omega arith) returns (λ c. omega arith) (λ c. omega arith) loop-again returns-2)
+    tie.close (tie.spec
+    Inv-loop
+    μ-loop
+    (λ c. (length-take-le (c .args .count) (c .args .senders .now) (c .pre), passed-none (c .args .sender) _))
+    (λ c. search needs)
+    (λ c. omega arith)
+    returns
+    (λ c. omega arith)
+    (λ c. omega arith)
+    loop-again
+    (λ c. passed-all (c .before .loop .inv .1) (omega arith)))

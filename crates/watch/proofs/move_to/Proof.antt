@@ -1,12 +1,9 @@
 -- A sender's watch moves to a number. Assumes nothing.
 use mathlib.Core.Path.{sym}
 use borrow.Author.Needs.{needs}
-use Rattle.watch.proofs.Cases.{moved-claims, moved-full, moved-known, moved-new}
+use Rattle.watch.proofs.WatchCases.{moved-claims, moved-full, moved-known, moved-new}
 use Rattle.watch.proofs.move_to.Statement.{statement}
 use Rattle.watch.proofs.move_to.Tie as tie
-
-returns : tie.Need-returns
-returns c = let a = c .before .args in sym (moved-claims (a .t1) (a .sender) (a .number) (c .if1 .taken))
 
 returns-2 : tie.Need-returns-2
 returns-2 c =
@@ -33,7 +30,7 @@ pub move-to-spec : {M : Type 1} → statement M
 move-to-spec =
     tie.close
     (tie.spec
-    returns
+    (λ c. let a = c .before .args in sym (moved-claims (a .t1) (a .sender) (a .number) (c .if1 .taken)))
     (λ c κs. search needs)
     returns-2
     (λ c. search needs)

@@ -2,7 +2,7 @@
 use mathlib.Core.Path.{sym, _∙_}
 use borrow.Author.Needs.{needs}
 use Rattle.watch.specs.Noted.{notes}
-use Rattle.watch.proofs.Cases.{after-moves, after-stays}
+use Rattle.watch.proofs.WatchCases.{after-moves, after-stays}
 use Rattle.watch.proofs.see.Statement.{statement}
 use Rattle.watch.proofs.see.Tie as tie
 

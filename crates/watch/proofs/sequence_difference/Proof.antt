@@ -8,7 +8,7 @@ use mir.Val.{toZ}
 use mir.ValLaws.{toZ-ofZ}
 use Rattle.wire.proofs.Signs.{toZ-signed, from-end, from-end-fits}
 use Rattle.watch.specs.Difference.{difference}
-use Rattle.watch.proofs.Tells.{wraps-back}
+use Rattle.watch.proofs.Differences.{wraps-back}
 use Rattle.watch.proofs.sequence_difference.Statement.{statement}
 use Rattle.watch.proofs.sequence_difference.Tie as tie
 
@@ -23,12 +23,6 @@ read c =
     toZ-signed w32 (u .result)
     ∙ wraps-back (start .args .new) (start .args .last) (u .result) (start .fits .new .fits) (start .fits .last .fits) (bits c) (u .ensures)
 
-returns : tie.Need-returns
-returns c = read (c .before)
-
-sub-result : tie.Need-sub-result
-sub-result c = let u = c .before .wrapping-sub-u32 in from-end-fits w32 (u .result) (bits (c .before)) (c .if1 .left)
-
 returns-2 : tie.Need-returns-2
 returns-2 c =
     let at-wrapping-sub-u32 = c .before in
@@ -40,4 +34,4 @@ returns-2 c =
 pub sequence-difference-spec : {M : Type 1} → statement M
 sequence-difference-spec =
     tie.close
-    (tie.spec (λ c κs. search needs) (λ c. search needs) returns (λ c. search needs) (λ c. search needs) sub-result returns-2)
+    (tie.spec (λ c κs. search needs) (λ c. search needs) (λ c. read (c .before)) (λ c. search needs) (λ c. search needs) (λ c. let u = c .before .wrapping-sub-u32 in from-end-fits w32 (u .result) (bits (c .before)) (c .if1 .left)) returns-2)

@@ -11,7 +11,7 @@ use mir.Val.{toZ, ofZ}
 use mir.ValLaws.{toZ-ofZ}
 use Rattle.wire.proofs.Signs.{counts}
 use Rattle.watch.specs.Noted.{late, forward}
-use Rattle.watch.proofs.Tells.{told-late, told-restarted, told-same, told-forward}
+use Rattle.watch.proofs.Differences.{told-late, told-restarted, told-same, told-forward}
 use Rattle.watch.proofs.tell.Statement.{statement}
 use Rattle.watch.proofs.tell.Tie as tie
 
@@ -39,9 +39,6 @@ returns-2 c =
 left : (c : tie.Else1) → ltZ (c .before .args .d) (pos 0) ≡ false
 left c = subst (λ (z : ℤ). ltZ z (pos 0) ≡ false) (same (c .before)) (c .if1 .left)
 
-cast-u : tie.Need-cast-u
-cast-u c = counts w32 (c .before .args .d) (c .before .fits .d) (left c)
-
 returns-3 : tie.Need-returns-3
 returns-3 c =
     let s = c .before .before in
@@ -54,4 +51,4 @@ returns-4 c =
     ∙ sym (told-forward (s .args .number) (s .args .d) (left (c .before)) (λ e. c .if3 .left (ap natAbs (same s) ∙ e)))
 
 pub tell-spec : {M : Type 1} → statement M
-tell-spec = tie.close (tie.spec (λ c κs. search needs) returns returns-2 cast-u returns-3 (λ c. search needs) returns-4)
+tell-spec = tie.close (tie.spec (λ c κs. search needs) returns returns-2 (λ c. counts w32 (c .before .args .d) (c .before .fits .d) (left c)) returns-3 (λ c. search needs) returns-4)

@@ -4,9 +4,6 @@ use borrow.Author.Needs.{needs}
 use Rattle.host_gauge.proofs.watching.qm_gauge_see.Statement.{statement}
 use Rattle.host_gauge.proofs.watching.qm_gauge_see.Tie as tie
 
-returns : tie.Need-returns
-returns c = see-short _ _ (c .if1 .taken)
-
 returns-2 : tie.Need-returns-2
 returns-2 c =
     let putting = c .before .before .before in
@@ -15,7 +12,7 @@ returns-2 c =
     let asking = test .before in
     let seeing = asking .before in
     let showing = seeing .before in
-    see-moved _ _ (showing .before .before .if1 .left) _ (showing .shown .ensures) (seeing .see-packet .result) (seeing .see-packet .ensures) _ (asking .does-move .ensures) _ (c .heard-code .ensures)
+    see-moved _ _ (showing .before .before .if1 .left) _ (showing .shown .ensures) (seeing .see-packet .result) (seeing .see-packet .ensures) _ (asking .does-move .ensures) _ (c .noted-code .ensures)
     (test .if2 .taken) _ _ (numbered .gauge-words .ensures) (putting .put-words .ensures)
 
 returns-3 : tie.Need-returns-3
@@ -24,13 +21,13 @@ returns-3 c =
     let asking = test .before in
     let seeing = asking .before in
     let showing = seeing .before in
-    see-still _ _ (showing .before .before .if1 .left) _ (showing .shown .ensures) (seeing .see-packet .result) (seeing .see-packet .ensures) _ (asking .does-move .ensures) _ (c .heard-code2 .ensures) (test .if2 .left)
+    see-still _ _ (showing .before .before .if1 .left) _ (showing .shown .ensures) (seeing .see-packet .result) (seeing .see-packet .ensures) _ (asking .does-move .ensures) _ (c .noted-code2 .ensures) (test .if2 .left)
 
 pub qm-gauge-see-spec : {M : Type 1} → statement M
 qm-gauge-see-spec =
     tie.close
     (tie.spec
-    returns
+    (λ c. see-short _ _ (c .if1 .taken))
     (λ c κs. search needs)
     (λ c κs. search needs)
     (λ c κs. search needs)

@@ -12,12 +12,6 @@ slice-aggregate-receive c = sym (length-take-le _ _ (let e = c .before .before .
 slice-aggregate-receive-2 : tie.Need-slice-aggregate-receive-2
 slice-aggregate-receive-2 c = sym (length-take-le _ _ (let e = c .before .before .before .before .before .before .least2 .ensures in omega arith))
 
-slice-aggregate-receive-3 : tie.Need-slice-aggregate-receive-3
-slice-aggregate-receive-3 c = sym (length-take-le _ _ (let e = c .before .before .before .before .before .least3 .ensures in omega arith))
-
-slice-aggregate-receive-4 : tie.Need-slice-aggregate-receive-4
-slice-aggregate-receive-4 c = sym (length-take-le _ _ (let e = c .before .before .before .before .least4 .ensures in omega arith))
-
 pub answered-spec : {M : Type 1} → statement M
 answered-spec =
     tie.close
@@ -35,9 +29,9 @@ answered-spec =
     (λ c. search needs)
     slice-aggregate-receive-2
     (λ c. search needs)
-    slice-aggregate-receive-3
+    (λ c. sym (length-take-le _ _ (let e = c .before .before .before .before .before .least3 .ensures in omega arith)))
     (λ c. search needs)
-    slice-aggregate-receive-4
+    (λ c. sym (length-take-le _ _ (let e = c .before .before .before .before .least4 .ensures in omega arith)))
     (λ c. search needs)
     (λ c κs. search needs)
     (λ c. search needs)

@@ -6,12 +6,6 @@ use borrow.Author.Needs.{needs}
 use Rattle.limit_cases.proofs.lent.forgotten_in.Statement.{statement}
 use Rattle.limit_cases.proofs.lent.forgotten_in.Tie as tie
 
-slice-aggregate-forget : tie.Need-slice-aggregate-forget
-slice-aggregate-forget c = sym (length-take-le _ _ (let e = c .before .before .before .least .ensures in omega arith))
-
-slice-aggregate-forget-2 : tie.Need-slice-aggregate-forget-2
-slice-aggregate-forget-2 c = sym (length-take-le _ _ (let e = c .before .before .least2 .ensures in omega arith))
-
 pub forgotten-in-spec : {M : Type 1} → statement M
 forgotten-in-spec =
     tie.close
@@ -22,9 +16,9 @@ forgotten-in-spec =
     (λ c κs. search needs)
     (λ c κs. search needs)
     (λ c. search needs)
-    slice-aggregate-forget
+    (λ c. sym (length-take-le _ _ (let e = c .before .before .before .least .ensures in omega arith)))
     (λ c. search needs)
-    slice-aggregate-forget-2
+    (λ c. sym (length-take-le _ _ (let e = c .before .before .least2 .ensures in omega arith)))
     (λ c κs. search needs)
     (λ c. search needs)
     (λ c κs. search needs)

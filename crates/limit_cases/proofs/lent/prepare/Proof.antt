@@ -6,12 +6,6 @@ use borrow.Author.Needs.{needs}
 use Rattle.limit_cases.proofs.lent.prepare.Statement.{statement}
 use Rattle.limit_cases.proofs.lent.prepare.Tie as tie
 
-slice-aggregate-open : tie.Need-slice-aggregate-open
-slice-aggregate-open c = sym (length-take-le _ _ (let e = c .before .before .least .ensures in omega arith))
-
-slice-aggregate-open-2 : tie.Need-slice-aggregate-open-2
-slice-aggregate-open-2 c = sym (length-take-le _ _ (let e = c .before .before .least2 .ensures in omega arith))
-
 pub prepare-spec : {M : Type 1} → statement M
 prepare-spec =
     tie.close
@@ -19,9 +13,9 @@ prepare-spec =
     (λ c κs. search needs)
     (λ c κs. search needs)
     (λ c. search needs)
-    slice-aggregate-open
+    (λ c. sym (length-take-le _ _ (let e = c .before .before .least .ensures in omega arith)))
     (λ c. search needs)
-    slice-aggregate-open-2
+    (λ c. sym (length-take-le _ _ (let e = c .before .before .least2 .ensures in omega arith)))
     (λ c κs. search needs)
     (λ c κs. search needs)
     (λ c κs. search needs)

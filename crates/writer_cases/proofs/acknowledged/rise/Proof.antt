@@ -13,9 +13,6 @@ Inv-loop list₀ first step x₀ i₀ list x i = length list ≡ length list₀
 abbrev μ-loop : tie.MeasureT-loop
 μ-loop list₀ first step x₀ i₀ list x i = length list₀ - i
 
-loop-less : tie.Need-loop-less Inv-loop μ-loop
-loop-less c = omega (arith, c .before .loop-test .taken)
-
 pub rise-spec : {M : Type 1} → statement M
 rise-spec =
     tie.close
@@ -27,7 +24,7 @@ rise-spec =
     (λ c. search needs)
     (λ c κs. search needs)
     (λ c. search needs)
-    loop-less
+    (λ c. omega (arith, c .before .loop-test .taken))
     (λ c. search needs)
     (λ c. search needs)
     (λ c. search needs))

@@ -6,18 +6,12 @@ use borrow.Author.Needs.{needs}
 use Rattle.writer_cases.proofs.acknowledged.written_of.Statement.{statement}
 use Rattle.writer_cases.proofs.acknowledged.written_of.Tie as tie
 
-slice-aggregate-rise : tie.Need-slice-aggregate-rise
-slice-aggregate-rise c = sym (length-take-le _ _ (let e = c .before .least .ensures in omega arith))
-
 slice-aggregate-write-blocks : tie.Need-slice-aggregate-write-blocks
 slice-aggregate-write-blocks c =
     let filled = c .before .before .before .before .before in
     let counted = filled .before .before .before .before in
     let start = counted .before .before .before .before .before .before in
     sym (length-take-le _ _ (omega (arith, counted .least .ensures, length-front (start .args .list .now) (filled .rise .last .0) (counted .least .result) (filled .rise .kept .0))))
-
-slice-aggregate-write-blocks-2 : tie.Need-slice-aggregate-write-blocks-2
-slice-aggregate-write-blocks-2 c = sym (length-take-le _ _ (let e = c .before .before .least2 .ensures in omega arith))
 
 pub written-of-spec : {M : Type 1} → statement M
 written-of-spec =
@@ -26,7 +20,7 @@ written-of-spec =
     (λ c κs. search needs)
     (λ c κs. search needs)
     (λ c. search needs)
-    slice-aggregate-rise
+    (λ c. sym (length-take-le _ _ (let e = c .before .least .ensures in omega arith)))
     (λ c κs. search needs)
     (λ c κs. search needs)
     (λ c κs. search needs)
@@ -35,7 +29,7 @@ written-of-spec =
     (λ c. search needs)
     slice-aggregate-write-blocks
     (λ c. search needs)
-    slice-aggregate-write-blocks-2
+    (λ c. sym (length-take-le _ _ (let e = c .before .before .least2 .ensures in omega arith)))
     (λ c κs. search needs)
     (λ c. search needs)
     (λ c κs. search needs)

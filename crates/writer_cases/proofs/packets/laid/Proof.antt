@@ -6,9 +6,6 @@ use borrow.Author.Needs.{needs}
 use Rattle.writer_cases.proofs.packets.laid.Statement.{statement}
 use Rattle.writer_cases.proofs.packets.laid.Tie as tie
 
-slice-aggregate-lay-block : tie.Need-slice-aggregate-lay-block
-slice-aggregate-lay-block c = sym (length-take-le _ _ (let e = c .before .least .ensures in omega arith))
-
 pub laid-spec : {M : Type 1} → statement M
 laid-spec =
     tie.close
@@ -17,7 +14,7 @@ laid-spec =
     (λ c κs. search needs)
     (λ c κs. search needs)
     (λ c. search needs)
-    slice-aggregate-lay-block
+    (λ c. sym (length-take-le _ _ (let e = c .before .least .ensures in omega arith)))
     (λ c κs. search needs)
     (λ c κs. search needs)
     (λ c κs. search needs)

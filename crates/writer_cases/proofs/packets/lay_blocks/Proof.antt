@@ -14,9 +14,6 @@ Inv-loop blocks₀ message count at₀ i₀ blocks at i = (at ≤ length blocks)
 abbrev μ-loop : tie.MeasureT-loop
 μ-loop blocks₀ message count at₀ i₀ blocks at i = count - i
 
-loop-holds : tie.Need-loop-holds Inv-loop μ-loop
-loop-holds c = (omega arith, refl)
-
 add-at : tie.Need-add-at Inv-loop μ-loop
 add-at c =
     let b = c .before .before .before .before .before in
@@ -39,7 +36,7 @@ lay-blocks-spec =
     (tie.spec
     Inv-loop
     μ-loop
-    loop-holds
+    (λ c. (omega arith, refl))
     (λ c κs. search needs)
     (λ c. search needs)
     (λ c. search needs)

@@ -6,9 +6,6 @@ use borrow.Author.Needs.{needs}
 use Rattle.writer_cases.proofs.packets.written.Statement.{statement}
 use Rattle.writer_cases.proofs.packets.written.Tie as tie
 
-slice-aggregate-write-packet : tie.Need-slice-aggregate-write-packet
-slice-aggregate-write-packet c = sym (length-take-le _ _ (let e = c .before .before .before .least .ensures in omega arith))
-
 pub written-spec : {M : Type 1} → statement M
 written-spec =
     tie.close
@@ -23,7 +20,7 @@ written-spec =
     (λ c κs. search needs)
     (λ c κs. search needs)
     (λ c. search needs)
-    slice-aggregate-write-packet
+    (λ c. sym (length-take-le _ _ (let e = c .before .before .before .least .ensures in omega arith)))
     (λ c κs. search needs)
     (λ c. search needs)
     (λ c κs. search needs)

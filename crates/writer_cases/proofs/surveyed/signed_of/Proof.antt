@@ -5,10 +5,7 @@ use borrow.Author.Needs.{needs}
 use Rattle.writer_cases.proofs.surveyed.signed_of.Statement.{statement}
 use Rattle.writer_cases.proofs.surveyed.signed_of.Tie as tie
 
-sub-result : tie.Need-sub-result
-sub-result c = from-end-fits w64 (c .before .args .u) (c .before .fits .u .fits) (c .if1 .left)
-
 pub signed-of-spec : {M : Type 1} → statement M
 signed-of-spec =
     tie.close
-    (tie.spec (λ c. search needs) (λ c. search needs) (λ c. search needs) (λ c. search needs) sub-result (λ c. search needs))
+    (tie.spec (λ c. search needs) (λ c. search needs) (λ c. search needs) (λ c. search needs) (λ c. from-end-fits w64 (c .before .args .u) (c .before .fits .u .fits) (c .if1 .left)) (λ c. search needs))

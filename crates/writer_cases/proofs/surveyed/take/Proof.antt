@@ -13,9 +13,6 @@ Inv-loop list₀ case n i₀ list i = (n ≤ 512) × (n ≤ length list₀) × (
 abbrev μ-loop : tie.MeasureT-loop
 μ-loop list₀ case n i₀ list i = n - i
 
-loop-holds : tie.Need-loop-holds Inv-loop μ-loop
-loop-holds c = let e = c .least .ensures in (omega arith, omega arith, refl)
-
 pub take-spec : {M : Type 1} → statement M
 take-spec =
     tie.close
@@ -23,7 +20,7 @@ take-spec =
     Inv-loop
     μ-loop
     (λ c κs. search needs)
-    loop-holds
+    (λ c. let e = c .least .ensures in (omega arith, omega arith, refl))
     (λ c κs. search needs)
     (λ c. search needs)
     (λ c κs. search needs)

@@ -6,18 +6,12 @@ use borrow.Author.Needs.{needs}
 use Rattle.writer_cases.proofs.surveyed.written_of.Statement.{statement}
 use Rattle.writer_cases.proofs.surveyed.written_of.Tie as tie
 
-slice-aggregate-take : tie.Need-slice-aggregate-take
-slice-aggregate-take c = sym (length-take-le _ _ (let e = c .before .least .ensures in omega arith))
-
 slice-aggregate-write-message : tie.Need-slice-aggregate-write-message
 slice-aggregate-write-message c =
     let filled = c .before .before .before .before in
     let counted = filled .before .before in
     let start = counted .before .before .before .before .before in
     sym (length-take-le _ _ (omega (arith, counted .least .ensures, length-front (start .args .list .now) (filled .take .last .0) (counted .least .result) (filled .take .kept .0))))
-
-slice-aggregate-write-message-2 : tie.Need-slice-aggregate-write-message-2
-slice-aggregate-write-message-2 c = sym (length-take-le _ _ (let e = c .before .before .before .least2 .ensures in omega arith))
 
 pub written-of-spec : {M : Type 1} → statement M
 written-of-spec =
@@ -26,7 +20,7 @@ written-of-spec =
     (λ c κs. search needs)
     (λ c κs. search needs)
     (λ c. search needs)
-    slice-aggregate-take
+    (λ c. sym (length-take-le _ _ (let e = c .before .least .ensures in omega arith)))
     (λ c κs. search needs)
     (λ c κs. search needs)
     (λ c κs. search needs)
@@ -34,7 +28,7 @@ written-of-spec =
     slice-aggregate-write-message
     (λ c κs. search needs)
     (λ c. search needs)
-    slice-aggregate-write-message-2
+    (λ c. sym (length-take-le _ _ (let e = c .before .before .before .least2 .ensures in omega arith)))
     (λ c κs. search needs)
     (λ c. search needs)
     (λ c κs. search needs)

@@ -1,0 +1,51 @@
+-- What the writer answers, and the bytes that it left, are said as the list's own line. Assumes nothing.
+use mathlib.Core.Path.{_≡_, refl, ap, _∙_}
+use mathlib.Core.Bool.{Bool, true, false}
+use mathlib.Core.List.{List}
+use Prim.Native.Nat.{ℕ, _+_, _≤_, _<_, _/_}
+use native.Mathlib.Omega.{arith}
+use lib.Dec.{leb}
+use lib.ListN.{length, take, drop}
+use lib.Seq.{take-at}
+use borrow.Author.Tests.{leb-true, lt-ltb, le-ltb}
+use Rattle.wire.specs.Choice.{pick}
+use Rattle.wire.specs.Overlay.{overlay}
+use Rattle.wire.proofs.Overlays.{overlay-eq}
+use Rattle.lmcp.specs.declared.Made.{Made}
+use Rattle.lmcp.specs.declared.Made.the-variants.{Bytes, Refused}
+use Rattle.lmcp.specs.Run.{got, refused}
+use Rattle.lmcp.specs.Write.{Write}
+use Rattle.lmcp.specs.Message.{made, written, WrittenTo}
+use Rattle.lmcp.specs.Lists.{writeList}
+use Rattle.lmcp_bytes.specs.Lines.{numbersOf, longerText, bytesText, refusedText, writeText, listText}
+use Rattle.lmcp_bytes.specs.Inside.{madeText}
+
+-- the front of the output is the message
+front-of : (out m : List ℕ) → length m ≤ length out → take (length m) (overlay out 0 m) ≡ m
+front-of out m h =
+    let k : 0 + length m ≤ length out = omega arith in
+    ap (take (length m)) (overlay-eq out 0 m k) ∙ take-at m (drop (0 + length m) out) (length m) refl
+
+text-made : (x : Write) (out : List ℕ) → madeText (written x out) (made x (length out)) ≡ writeText (length out) x
+unfolding made written
+text-made (got m rest) out = by (leb (length m) (length out)) refl
+  where
+    by : (t : Bool) → leb (length m) (length out) ≡ t
+        → madeText (pick t (overlay out 0 m) out) (pick t (Bytes (length m)) (Refused 13)) ≡ pick t (bytesText m) (refusedText 13)
+    by true h = ap bytesText (front-of out m (leb-true (length m) (length out) h))
+    by false h = refl
+text-made (refused number) out = refl
+
+module _ (most room : ℕ) (calculate : Bool) (body : List ℕ) where
+  pub text-longer : most < length body / 8 → longerText most ≡ listText most room calculate body
+  text-longer h = rw (lt-ltb most (length body / 8) h)
+
+  written-text : length body / 8 ≤ most → writeText room (writeList calculate (numbersOf (length body / 8) body)) ≡ listText most room calculate body
+  written-text h = rw (le-ltb most (length body / 8) h)
+
+pub text-written : (most : ℕ) (calculate : Bool) (body bytes bytes′ : List ℕ) (m : Made) → length body / 8 ≤ most
+    → WrittenTo (writeList calculate (numbersOf (length body / 8) body)) bytes m bytes′ → madeText bytes′ m ≡ listText most (length bytes) calculate body
+text-written most calculate body bytes bytes′ m h w =
+    (λ j. madeText (w .left j) (w .gave j))
+    ∙ text-made (writeList calculate (numbersOf (length body / 8) body)) bytes
+    ∙ written-text most (length bytes) calculate body h

@@ -1,0 +1,3 @@
+pub mod Back
+pub mod Going
+pub mod Streams
