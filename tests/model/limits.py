@@ -11,6 +11,7 @@ NONE, SLOT_SIZE, SIZE, COUNT, KEYS = range(5)  # what a word of a state holds
 LAST_KEYS, LAST_SIZE, LAST_COUNT = range(5, 8)  # the same of the last sender and the last slot
 LAST = {LAST_KEYS: KEYS, LAST_SIZE: SIZE, LAST_COUNT: COUNT}
 SEQUENCE_WORD, SIZE_WORD, COUNT_WORD, TURN_WORD = range(1, 5)  # the words of a slot
+MEMORY = 9  # in place of a slot: how many keys the memory's first sender has
 
 
 def cutter(letter, c, p, m, k, room):
@@ -72,15 +73,23 @@ def forget_line(words, names, a, x, b, y):
 
 
 def tied_line(*c):
-    """Eight messages are open, each of two fragments of a byte, the first one held. Of slots that are meant alike the lower counts, in any step."""
+    """Eight messages are open, each of two fragments of a byte, the first one held. Of slots that are meant alike the lower counts, in any step. With a count of keys
+    the memory has sequence 0 of their sender, that many times: it is asked first. A small message (n is 0) of an open key is refused, of another delivered."""
     slots = [{SEQUENCE_WORD: i, SIZE_WORD: 2, COUNT_WORD: 2, TURN_WORD: i} for i in range(8)]
+    keys = 0
     for slot, word, value in (c[0:3], c[3:6], c[6:9], c[9:12]):
         if slot < 8:
             slots[slot][word] = value
+        elif slot == MEMORY:
+            keys = value
     sequence, k, n = c[12:]
-    if any(s[COUNT_WORD] > 0 and s[SIZE_WORD] > STORE // 8 for s in slots):
+    if keys > 32 or any(s[COUNT_WORD] > 0 and s[SIZE_WORD] > STORE // 8 for s in slots):
         return "refused 9"
+    if keys > 0 and sequence == 0:
+        return "repeat"
     same = [i for i, s in enumerate(slots) if s[COUNT_WORD] > 0 and s[SEQUENCE_WORD] == sequence]
+    if n == 0:
+        return "refused 8" if same else "delivered 1 datagram 10"
     if same:
         s = slots[same[0]]
         if (s[SIZE_WORD], s[COUNT_WORD]) != (n, n):
@@ -123,7 +132,8 @@ def cases():
 
 
 def unmade_cases():
-    """States that no calls make: two slots with one key, two free, two of one turn, a free slot with an old key; and each word of refusal 9 at its last place."""
+    """States that no calls make: two slots with one key, two free, two of one turn, a free slot with an old key; an open key that is remembered; and each word of
+    refusal 9 at its last place."""
     none = (8, 0, 0)
     d = []
     for words in [(none,) * 4, ((5, SEQUENCE_WORD, 2), none, none, none), ((2, SEQUENCE_WORD, 5), none, none, none), ((1, SEQUENCE_WORD, 6), (7, SEQUENCE_WORD, 6), none, none),
@@ -132,6 +142,9 @@ def unmade_cases():
                   ((2, COUNT_WORD, 0), (2, SEQUENCE_WORD, 5), none, none), ((0, COUNT_WORD, 0), (0, SIZE_WORD, 99), none, none), ((3, SIZE_WORD, 9), none, none, none), ((3, SIZE_WORD, 3), none, none, none)]:
         d += [(TIED,) + sum(words, ()) + last for last in [(2, 1, 2), (5, 1, 2), (6, 1, 2), (3, 1, 2), (50, 0, 1), (50, 0, 2), (50, 1, 2), (5, 0, 2), (2, 1, 3)]]
     last = [(LAST_KEYS, 32, NONE, 0), (LAST_KEYS, 33, NONE, 0), (LAST_SIZE, 8, LAST_COUNT, 1), (LAST_SIZE, 9, LAST_COUNT, 1), (LAST_SIZE, 8, LAST_COUNT, 1024), (LAST_SIZE, 8, LAST_COUNT, 1025), (LAST_SIZE, 9, LAST_COUNT, 0)]
+    # a key that is open and remembered, open alone, remembered alone and neither, by a small message and by fragments that fit the open one or do not
+    for words in [(none, none), ((MEMORY, 0, 1), none), ((MEMORY, 0, 32), none), ((MEMORY, 0, 33), none), ((MEMORY, 0, 1), (0, COUNT_WORD, 0)), ((MEMORY, 0, 1), (0, SEQUENCE_WORD, 50))]:
+        d += [(TIED,) + sum(words, ()) + none + none + last for last in [(0, 0, 0), (1, 0, 0), (50, 0, 0), (0, 1, 2), (0, 0, 2), (0, 1, 3), (1, 1, 2), (50, 1, 2)]]
     # each sender is watched by its own last number
     d += [(WATCH, 16, 2**32 - 50, s, n, 100) for s in (1, 2, 15, 16, 17) for n in (2**32 - 49, 51, 50, 1351, 1450, 1451, 1200)]
     return d + [(RECEIVE, RIGHT, RIGHT, STORE, LEDGER) + w for w in last] + [(FORGET, RIGHT, RIGHT) + w for w in last]

@@ -1,11 +1,20 @@
-// States in which two slots or more are meant alike, which no calls make. Eight messages are open, each of two fragments of a byte of which the
-// first is held; a case is four words of slots, each as the slot (8 for none), which word of it, and a value; then the sequence, the number and
-// the count of the fragment that comes, of as many bytes as fragments.
+// States in which two slots or more are meant alike, or an open key is remembered, which no calls make. Eight messages are open, each of two
+// fragments of a byte of which the first is held; a case is four words, each as the slot (8 for none; 9 for the memory, how many keys its first
+// sender has), which word of it, and a value; then the sequence, the number and the count of the fragment that comes, of as many bytes as
+// fragments: with a count of 0 a small message comes.
 ghost use Prim.Native.Nat.{_≤_};
 use receiver::Outcome;
 use steps::Answer;
 use steps::Emptied;
 use steps::PayloadAt;
+
+// A small message of one byte, of the name P. Answers its length.
+fn small(d: &mut [u8], sequence: u64) -> usize {
+    wire::put_bytes(d, 0, b"LC02");
+    wire::put_number(d, 4, 4, sequence);
+    wire::put_bytes(d, 8, b"P\x00A");
+    11
+}
 
 // Fragment k of n of a message of n bytes: one byte, after the name P in the first. Answers its length.
 fn fragment(d: &mut [u8], sequence: u64, k: u64, n: u64) -> usize {
@@ -40,7 +49,7 @@ fn open_all(
     }
 }
 
-// The word of a state that a case names from a place on: no word past the slots'.
+// The word of a state that a case names from a place on: of the memory the first sender's count, which stands after the senders.
 fn spot(case: &[u8], place: usize) -> usize
     requires { ⌜ place ≤ 72 ⌝ }
 {
@@ -49,6 +58,9 @@ fn spot(case: &[u8], place: usize) -> usize
         return slots::HEAD
             + slots::BLOCK * slot
             + wire::least(crate::number(case, place + 8), slots::TURN);
+    }
+    if slot == 9 {
+        return receiver_state::MEMORY + memory::SENDERS_MOST;
     }
     receiver::STATE_WORDS
 }
@@ -94,7 +106,16 @@ fn pour_outcome(out: &mut [u8], at: usize, outcome: Outcome) -> usize {
     pour_emptied(out, next, emptied)
 }
 
-// The case's fragment is received.
+// What comes, by the case.
+fn coming(case: &[u8], d: &mut [u8]) -> usize {
+    let n = wire::number(case, 112, 8);
+    if n == 0 {
+        return small(d, wire::number(case, 96, 8));
+    }
+    fragment(d, wire::number(case, 96, 8), wire::number(case, 104, 8), n)
+}
+
+// The case's datagram is received.
 fn received(
     case: &[u8],
     state: &mut [u64],
@@ -103,12 +124,7 @@ fn received(
     ledger: &mut [u32],
     d: &mut [u8],
 ) -> Outcome {
-    let n = fragment(
-        d,
-        wire::number(case, 96, 8),
-        wire::number(case, 104, 8),
-        wire::number(case, 112, 8),
-    );
+    let n = coming(case, d);
     receiver::receive(state, names, store, ledger, 0, wire::part(d, 0, n))
 }
 
