@@ -89,16 +89,26 @@ def over(faults, met, item, name, count):
 # ---- what need not be believed
 
 
+def crates_in(project, text):
+    """The crates that a text names: `crate`, or by a file of it (`crate/File`, crates/crate/..)."""
+    return {w for w in re.findall(r"(?:`|\bcrates/)(\w+)(?=[`/])|\b(\w+)/\w+", text) for w in w if w in project.crates}
+
+
+def named_on(project, page):
+    """The public theorems that a page names where it names their crate: in that row or paragraph, in the heading above it, or at the page's head."""
+    head, *parts = re.split(r"^## ", read(f"docs/{page}.md"), flags=re.M)
+    for part in parts:
+        heading, _, text = part.partition("\n")
+        above = crates_in(project, head) | {w for w in re.findall(r"\w+", heading) if w in project.crates}
+        for told in re.split(r"\n(?=\||\n)", text):
+            crates = above | crates_in(project, told)
+            for word in re.findall(r"`([^`\s]+)`", told):
+                yield from (i for i in project.theorems.get(word, []) if i.file.crate in crates)
+
+
 def told_of(project):
     """What the pages promise: the contracts, the theorems that they name, and of a program the definitions that its section of CONTRACTS names."""
-    theorems = {}
-    for path in project.paths("*/proofs/*.antt"):
-        for item in project.file(path).items:
-            theorems.setdefault(item.name, []).append(item)
-    words = set(re.findall(r"`([^`\s]+)`", "".join(read(f"docs/{p}.md") for p in PAGES)))
-    out = list(project.contracts)
-    for item in (i for w in sorted(words) for i in theorems.get(w, [])):
-        out.append(project.statement(item) if item.kind == "definition" else item)
+    out = project.contracts + [project.statement(i) for page in PAGES for i in named_on(project, page)]
     for crates, text in pages.sections(read("docs/CONTRACTS.md")):
         files = [project.file(p) for c in crates if os.path.exists(f"crates/{c}/src/main.rt") for p in project.paths(f"{c}/specs/*.antt")]
         out += [f.by_name[w] for f in files for w in set(re.findall(r"`([^`\s]+)`", text)) if w in f.by_name]

@@ -18,7 +18,7 @@ use Rattle.wire.proofs.Choices.{either, never, and-of, or-l, or-r, pick-all}
 use Rattle.steps.specs.Limits.{sendersMost, keysEach}
 use Rattle.steps.specs.Search.{first}
 use Rattle.steps.specs.Memory.{Key, sameKey, among, Place, noPlace, vacant, isOf, has, Memory, emptyMemory, placeAt, isRemembered, furthestBack, placeFor, orElse, withKey}
-use Rattle.steps.specs.Memory.{sunk, remember, freed, forgetKeys, rememberAll, since, Recent, Deed, delivery, forgetting, memoryAfter, without, latest, sequencesOf, amongLast, isThere, isKnown}
+use Rattle.steps.specs.Memory.{sunk, remember, freed, forgetKeys, rememberAll, since, Lately, FewSenders, Deed, delivery, forgetting, memoryAfter, without, latest, sequencesOf, amongLast, isThere, isKnown}
 use Rattle.steps.proofs.Tables.{or-not, or-yes, First, first-some, first-none}
 use Rattle.steps.proofs.Memories.{key-same, has-reverse, without-less, without-other, at-most, Whole, empty-whole, empty-vacant, remember-whole, forget-whole, forget-at, Seated, own, free, full, seated, place-inside}
 use Rattle.steps.proofs.Memories.{own-place, found, not-found, of-sender, of-taken, taken-of, vacant-of, key-taken, key-sender, after-here, after-other, Holds, holds-own, holds-first, freed-own, freed-same, freed-other}
@@ -712,7 +712,12 @@ of-its-sender senders few (x ∷ ks) all k (suc n) e h = elim (ℕ-discrete (x .
         subst (λ (b : Bool). has (take n (pick b (sequencesOf (k .sender) (given ks)) [])) (k .sequence) ≡ true)
         (sym (undropped senders few ks earlier .every k u)) (ih u (omega arith))
 
--- a key delivered lately is remembered
+-- 32 others of its sender have not been delivered since, nor keys of a 17th sender
+pub record Recent (ks : List Key) (k : Key) : Type 0 where
+  pub lately : Lately ks k
+  pub few : FewSenders ks
+
+-- such a key is remembered
 pub recalled : (ks : List Key) (k : Key) → among ks k ≡ true → Recent ks k → isRemembered (rememberAll ks) k ≡ true
 recalled ks k e h =
     let u : Undropped (h .few .senders) ks = undropped (h .few .senders) (h .few .few) ks (h .few .all) in
