@@ -140,17 +140,24 @@ def inside(faults, project):
 # ---- how rules, words and refusals are written
 
 CODE = r"(?:10|3[2-9]|[4-9]\d|1[01]\d|12[0-6])"
-CODES = {"antt": rf"(?:\b{CODE} ∷ ){{4}}", "rt": rf"(?:\b{CODE}(?:u8)?, *){{3}}{CODE}\b"}
+HEX = r"0x[2-7][0-9a-f]"
+CODES = {"antt": rf"(?:\b(?:{CODE}|{HEX}) ∷ ){{4}}", "rt": rf"(?:\b(?:{CODE}|{HEX})(?:u8)?, *){{3}}(?:{CODE}|{HEX})\b"}
+# the paper's own bytes, and raw logs, as they stand there
+RAW = ("marked/specs/Table", "count_laws/specs/Worked")
+# in worked cases the paper's words at least
+SPELLED = {word: " ∷ ".join(f"0x{ord(c):x}" for c in word) for word in ("LMCP", "PITSURV", "TILE")}
 
 
 def written(faults, project):
-    """No line of specs/ begins with `(pick`: chains are `_when_else_`. No list of four or more codes of characters in specs/ and src/, but in worked cases."""
+    """No line of specs/ begins with `(pick`: chains are `_when_else_`. No list of four or more codes of characters in specs/ and src/; in worked cases, which have datagrams, none of the paper's words."""
     for path in project.paths("*/specs/*.antt") + project.paths("*/src/*.rt"):
         text = bare(path, read(path))
         if path.endswith(".antt"):
             faults.rule(not re.search(r"^\s*\(pick\b", text, re.M), f"{path}: a line begins with (pick: write the chain by _when_else_")
-        if "Worked" not in path:
+        if "Worked" not in path and not any(raw in path for raw in RAW):
             faults.rule(not re.search(CODES[path.rpartition(".")[2]], text), f"{path} has a list of codes of characters: write the word by ascii, or *b\"..\"")
+        for word, codes in SPELLED.items() if not any(raw in path for raw in RAW) else ():
+            faults.rule(codes not in text, f"{path} has {word} as a list of codes: write it by ascii")
 
 
 def bare_refusals(faults, project):
