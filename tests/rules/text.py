@@ -13,8 +13,8 @@ MOST = 8  # arguments, and .before in a row
 OVER = set()
 # files of specs/ with definitions that nothing public reaches
 NOT_INSIDE = set()
-# the most characters of a line in proofs/
-LONGEST = 300
+# the most characters of a line
+LONGEST = {"src": 200, "specs": 200, "proofs": 300}
 OPERATORS = set("→ × ≡ λ ≤ < + * : ⌝ ⌜ ∷ ++ = ⊎ - / % ^ && || when else if then in let".split())
 # a word that hands on the number of a refusal
 REFUSES = r"(?:\w+\.)?(?:\w*[rR]efus\w*|bad|broken|noReport|Unread|Unwritten)"
@@ -185,10 +185,11 @@ def long_chains(faults, project):
 
 
 def short_lines(faults, project):
-    """No line of a proof over 300 characters: a reader's window ends before that."""
-    for path in project.paths("*/proofs/**/*.antt"):
+    """No line over 200 characters, of a proof none over 300: a reader's window ends before that."""
+    for path in project.paths("*/src/*.rt") + project.paths("*/specs/*.antt") + project.paths("*/proofs/**/*.antt"):
+        most = LONGEST[path.split("/")[2]]
         longest = max(map(len, read(path).split("\n")))
-        faults.rule(longest <= LONGEST, f"{path}: a line has {longest} characters, more than {LONGEST}")
+        faults.rule(longest <= most, f"{path}: a line has {longest} characters, more than {most}")
 
 
 def check(faults, project):

@@ -1,26 +1,23 @@
 -- The lines of the program `ack_bytes`, in ASCII, and what they are about. Definitions only.
 use mathlib.Core.List.{List, [], _∷_, _++_}
-use Prim.Native.Nat.{ℕ, zero, suc, _/_, _%_}
+use Prim.Native.Nat.{ℕ, _/_, _%_}
 use lib.Dec.{eqb, ltb}
-use lib.ListN.{length, drop}
+use lib.ListN.{length}
 use Rattle.wire.specs.Text.{ascii}
 use Rattle.wire.specs.Choice.{pick}
-use Rattle.wire.specs.Bytes.{be}
 use Rattle.ack_blocks.specs.Limits.{maxBlocks}
 use Rattle.ack_blocks.specs.Read.{Given, gives, refuses}
 use Rattle.ack_writer.specs.Write.{bytesOf, writtenOf}
 use Rattle.text.specs.Text.{decimal, hex}
-use Rattle.record_lines.specs.Streams.{Stream}
+use Rattle.record_lines.specs.Streams.{Stream, numbersIn}
 use Rattle.record_lines.specs.Lines.{linesOf}
 
 -- the numbers that the program holds
 abbrev pub listLimit : ℕ
 listLimit = 65_536
 
--- the first n numbers of a record, of 8 bytes each
 abbrev pub numbersOf : ℕ → List ℕ → List ℕ
-numbersOf zero b = []
-numbersOf (suc n) b = be 8 b ∷ numbersOf n (drop 8 b)
+numbersOf = numbersIn (λ x. x)
 
 abbrev pub recordList : List ℕ → List ℕ
 recordList b = numbersOf (length b / 8) b

@@ -1,3 +1,4 @@
 pub mod Back
+pub mod BodyNumbers
 pub mod Going
 pub mod Streams

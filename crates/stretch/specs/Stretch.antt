@@ -12,9 +12,9 @@ use Rattle.wire.specs.Choice.{pick}
 use Rattle.steps.specs.declared.Answer.the-variants as answer
 use Rattle.steps.specs.Receive.{After, stay}
 use Rattle.steps.specs.Answers.{Reply, refusedBy, kept, repeat, delivered, reply}
-use Rattle.steps.specs.Runs.{World, worldOf, lending}
-use Rattle.receiver_state.specs.View.{view, shaped}
-use Rattle.receiver.specs.Lent.{Lent}
+use Rattle.steps.specs.Runs.{World, worldOf}
+use Rattle.receiver_state.specs.View.{shaped}
+use Rattle.receiver.specs.Lent.{Lent, worldIn}
 use Rattle.lmcp.specs.Lists.{readList}
 use Rattle.log.specs.declared.reader.Limits.{Limits}
 use Rattle.log.specs.declared.reader.Step.{Step}
@@ -55,7 +55,7 @@ pub record Kit : Type 0 where
 
 abbrev pub kitOf : Desk → Sizes → Kit
 kitOf k had = record {
-  world = lending (view (k .lent .state) (k .lent .names)) (k .lent .store) (k .lent .ledger);
+  world = worldIn (k .lent);
   list = k .book .list;
   sets = k .book .sets;
   sizes = had;
