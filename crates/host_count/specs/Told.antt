@@ -7,8 +7,8 @@ use Rattle.wire.specs.Slices.{short}
 use Rattle.wire.specs.Choice.{pick}
 use Rattle.wire.specs.Overlay.{overlay}
 use Rattle.count_rules.specs.Count.{Outcome, reported, noReport, countLog}
-use Rattle.count_rules.specs.Walk.{Held, heldBy}
-use Rattle.count.specs.Counts.{Loan, loan, given}
+use Rattle.count_rules.specs.Walk.{heldBy, loanOf}
+use Rattle.count.specs.Counts.{Loan, given}
 use Rattle.host_count.specs.Numbers.{reportLength, numbersOf}
 
 -- 0, or the refusal's number
@@ -20,10 +20,6 @@ codeOf (noReport n) = n
 abbrev pub reportLeft : Outcome → List ℕ → List ℕ
 reportLeft (reported r) list = overlay list 0 (numbersOf (given r))
 reportLeft (noReport n) list = list
-
--- what is lent, of what is held
-abbrev pub loanOf : Held → Loan
-loanOf h = loan (h .world .store) (h .world .ledger) (h .list)
 
 -- 13 first, where the list for the report is too short: then nothing is done
 pub record CountTold (log : List ℕ) (l : Loan) (report : List ℕ) (answer : ℕ) (l′ : Loan) (report′ : List ℕ) : Type 0 where
