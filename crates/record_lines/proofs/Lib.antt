@@ -1,4 +1,4 @@
-pub mod Back
+pub mod RecordsBack
 pub mod BodyNumbers
-pub mod Going
+pub mod RecordLoop
 pub mod Streams

@@ -21,7 +21,7 @@ use Rattle.log.specs.declared.reader.Step.{Step}
 use Rattle.log.specs.declared.reader.Step.the-variants as step
 use Rattle.log.specs.Entries.{Entry}
 use Rattle.log.specs.Listed.{Listed, whole, broken, after}
-use Rattle.log.specs.Told.{entrySaid, readAt, onward, readOn}
+use Rattle.log.specs.Said.{entrySaid, readAt, onward, readOn}
 use Rattle.count_rules.specs.Marks.{PitList, listIn}
 use Rattle.count_rules.specs.Run.{answerTo, answers, payloadIn, listsRead}
 use Rattle.count_rules.specs.Walk.{seenAt, listAt, seenAfter}

@@ -22,7 +22,7 @@ use Rattle.log.specs.declared.reader.Step.the-variants as step
 use Rattle.log.specs.Editions.{limitsIn}
 use Rattle.log.specs.Entries.{Entry}
 use Rattle.log.specs.Listed.{Listed, whole, broken}
-use Rattle.log.specs.Told.{entrySaid, readAt}
+use Rattle.log.specs.Said.{entrySaid, readAt}
 use Rattle.sorted_set.specs.Lists.{In}
 use Rattle.count_rules.specs.Run.{called, keptIn, repeatedIn, deliveredIn, refusedIn, payloads}
 use Rattle.count_rules.specs.Walk.{listAt}
