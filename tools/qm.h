@@ -32,6 +32,8 @@ int usage(FILE *to, int status);
 int command_usage(FILE *to, unsigned i, int status);
 /* Which qm this is. Answers the status. */
 int version(void);
+/* Whether a text is a decimal number of at most `most`, and which. */
+int is_number(const char *text, qm_u64 most, qm_u64 *number);
 
 /* ---- files */
 
@@ -94,9 +96,6 @@ int walk_end(struct walk *w);
 /* Around one call that goes over a whole log: standard error is told each second how long it takes, where anybody waits. */
 int working(const char *command, const char *path, qm_size length);
 void worked(int shown);
-
-/* Whether a text is a decimal number of at most `most`, and which. */
-int is_number(const char *text, qm_u64 most, qm_u64 *number);
 
 /* ---- the commands: each prints what it has to say and answers the status */
 

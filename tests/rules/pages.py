@@ -1,4 +1,4 @@
-"""The pages are true of the crates: docs/CONTRACTS.md, docs/PAPER.md, docs/REFUSALS.md."""
+"""The pages are true of the crates: docs/CONTRACTS.md, docs/PAPER.md, docs/TRUST.md, docs/REFUSALS.md."""
 import glob
 import os
 import re
@@ -67,6 +67,16 @@ def cited(faults, contracts, paper):
         faults.rule(word in stands, f"docs/CONTRACTS.md or PAPER.md cites {word}, which stands nowhere in crates/")
 
 
+def believed(faults, project):
+    """Every file of specs/ that a contract or a promise rests on stands in one of the tables of docs/TRUST.md: behind its crate (`crate` File, File), or behind some crates that share it."""
+    tabled = set()
+    for row in re.findall(r"^\|.*$", read("docs/TRUST.md"), re.M):
+        for crates, text in re.findall(r"((?:`\w+`(?:, | and )?)+)([^`]*)", row):
+            tabled |= {f"crates/{c}/specs/{file}.antt" for c in re.findall(r"\w+", crates) for file in re.findall(r"\b[A-Z]\w+", text)}
+    for path in sorted({i.file.path for i in project.reached(project.contracts + project.promises).values() if "/specs/" in i.file.path}):
+        faults.rule(path in tabled, f"docs/TRUST.md has {path} in no table, and a contract or a promise rests on it")
+
+
 def refusal_numbers():
     return re.findall(r"^\| (\d+) \|", read("docs/REFUSALS.md"), re.M)
 
@@ -84,4 +94,5 @@ def check(faults, project):
     rows(faults, project, contracts)
     edits(faults, contracts)
     cited(faults, contracts, paper)
+    believed(faults, project)
     refusals(faults)

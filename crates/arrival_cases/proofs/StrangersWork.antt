@@ -31,7 +31,7 @@ use Rattle.arrival.specs.Strangers.{Start, part, Begins, Feed, begun, after, no
 use Rattle.arrival_cases.specs.StrangersWorked.{ours, startAfter, freshStart, fullStart, A, begins, sevenFeed, floodFeed, singleStart, bareStart, sevenMore, eighthMore, againStart, oddStart, Asked, asked, allMet, AllAsked, EachNeeded}
 use Rattle.arrival.proofs.Tests.{tested}
 use Rattle.arrival_cases.proofs.Works.{paper-meets, single-meets}
-use Rattle.arrival.proofs.Anew.{sent-again}
+use Rattle.arrival.proofs.SendingAgain.{sent-again}
 use Rattle.arrival.proofs.Strangers.{strangers}
 
 -- calls of `step` lead to states that calls can reach

@@ -1,6 +1,6 @@
 pub mod Heads
 pub mod Computed
-pub mod Wide
+pub mod LargePayload
 pub mod ListMembers
 pub mod Means
 pub mod Keys

@@ -25,11 +25,11 @@ use Rattle.datagram.specs.declared.Read.{Read}
 use Rattle.datagram.specs.declared.Read.the-variants.{Good, Refused}
 use Rattle.log.specs.Entries.{Entry, Keeps, AllKeep, entryBytes, bodyOf}
 use Rattle.log.specs.Listed.{entryIn}
-use Rattle.log.specs.Told.{entryAt, stepOf, stepIn, nextAt}
+use Rattle.log.specs.Said.{entryAt, stepOf, stepIn, nextAt}
 use Rattle.log.specs.declared.reader.Limits.{Limits}
 use Rattle.log.specs.declared.reader.Step.the-variants.{Found}
-use Rattle.log.proofs.Backs.{entry-back, entry-some}
-use Rattle.log.proofs.Onward.{found-at}
+use Rattle.log.proofs.LogRoundTrip.{entry-back, entry-some}
+use Rattle.log.proofs.ReadingOn.{found-at}
 use Rattle.log_index.specs.Rows.{Row}
 use Rattle.log_index.specs.Index.{rowFor, entryRow, rowsOf}
 use Rattle.log_index.proofs.Sorts.{All}

@@ -4,7 +4,8 @@ ghost use Prim.Native.Nat.{_-_, _*_, _^_, _<_, min};
 ghost use lib.ListN.{getD};
 ghost use lib.Signed.{mag};
 ghost use Rattle.lmcp.specs.Table.{pitsurv, rowsOf, startsOf, nothing};
-ghost use Rattle.lmcp.specs.Packed.{packedOf, cell};
+ghost use Rattle.lmcp.specs.Packed.{packedOf};
+ghost use Rattle.lmcp.specs.InsidePacked.{cell};
 ghost use Rattle.lmcp.specs.Read.{typed};
 
 // The longest whole message, in bytes.

@@ -28,8 +28,8 @@ use Rattle.lmcp.proofs.RowWays.{Here, arg-same, few-bytes, plain-row, one-objec
 use Rattle.lmcp_check.specs.InsideSteps.{readObject, readRow, readFields}
 use Rattle.lmcp.proofs.Heads.{read-headed, read-some}
 use Rattle.lmcp_check.proofs.ReadCases.{number-is, count-short, count-good, value-short, value-bad, value-good, head-short, head-null, head-known, root-some}
-use Rattle.lmcp.specs.Packed.{packedOf, cell}
-use Rattle.lmcp.specs.InsidePacked.{widthOf}
+use Rattle.lmcp.specs.Packed.{packedOf}
+use Rattle.lmcp.specs.InsidePacked.{cell, widthOf}
 use Rattle.lmcp_reader.specs.InsidePuts.{Ahead, coded, codedAll}
 
 -- ---- heads

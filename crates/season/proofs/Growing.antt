@@ -21,9 +21,9 @@ use Rattle.log.specs.declared.reader.First.{First}
 use Rattle.log.specs.declared.reader.First.the-variants as first
 use Rattle.log.specs.declared.reader.Step.{Step}
 use Rattle.log.specs.declared.reader.Step.the-variants.{Found, End, Refused}
-use Rattle.log.specs.Told.{firstOf, firstIn, entryAt, stepOf, stepIn, nextAt, entrySaid, fromFirst, readAt}
-use Rattle.log.proofs.Backs.{entry-back, Back, back-entry, head-back, HeadBack, back-head}
-use Rattle.log.proofs.Onward.{found-at}
+use Rattle.log.specs.Said.{firstOf, firstIn, entryAt, stepOf, stepIn, nextAt, entrySaid, fromFirst, readAt}
+use Rattle.log.proofs.LogRoundTrip.{entry-back, Back, back-entry, head-back, HeadBack, back-head}
+use Rattle.log.proofs.ReadingOn.{found-at}
 use Rattle.sorted_set.specs.Lists.{In}
 use Rattle.count_rules.specs.Run.{payloads}
 use Rattle.pit_marks.specs.declared.Sizes.{Sizes}
@@ -32,7 +32,7 @@ use Rattle.pit_payloads.specs.Took.{faultIn, listsIn}
 use Rattle.stretch.specs.declared.Stop.the-variants as stop
 use Rattle.stretch.specs.declared.Stretch.{Stretch}
 use Rattle.stretch.specs.Stretch.{Desk, Kit, kitOf, inShape, Entered, enterOn, Stretched, here, before, taking, byStep, stretch, toldOn, stretchOf, CountsOn}
-use Rattle.stretch.proofs.Onward.{before-none, before-both, payloads-both, shape-same}
+use Rattle.stretch.proofs.MidStretch.{before-none, before-both, payloads-both, shape-same}
 use Rattle.season.specs.Season.{both}
 use Rattle.season.proofs.Fits.{held-fits, fits-held, stretch-fits}
 use Rattle.season.proofs.Pieces.{told-both}

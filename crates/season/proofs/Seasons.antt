@@ -11,8 +11,8 @@ use Rattle.wire.specs.Slices.{Buffer}
 use Rattle.steps.specs.Answers.{Reply}
 use Rattle.log.specs.Editions.{limitsIn}
 use Rattle.log.specs.Listed.{Listed, entriesIn}
-use Rattle.log.specs.Told.{readAll}
-use Rattle.log.proofs.Onward.{read-all}
+use Rattle.log.specs.Said.{readAll}
+use Rattle.log.proofs.ReadingOn.{read-all}
 use Rattle.sorted_set.specs.Lists.{In, SameMembers}
 use Rattle.sorted_set.proofs.Members.{in-left, in-right, in-either, gather-same}
 use Rattle.count_rules.specs.Marks.{PitList}
@@ -27,7 +27,7 @@ use Rattle.pit_marks.specs.Sets.{Sets, Has}
 use Rattle.pit_marks.specs.Lines.{Lays}
 use Rattle.pit_marks.proofs.Told.{tiles-told, pits-told, sure-told}
 use Rattle.stretch.specs.Stretch.{Clean, entriesOf}
-use Rattle.stretch.proofs.Laws.{clean-answers}
+use Rattle.stretch.proofs.StretchAnswers.{clean-answers}
 use Rattle.season.specs.Season.{Map, mapOf, Shows, Flight, setOut, flown, season, listsOf, listsOfAll, Handed, Unrefused, Holds, SeasonHolds, LinesOf, SeasonLines, AnyOrder, WhicheverFirst, NoneLost}
 use Rattle.season.proofs.Went.{Went, stretch-went}
 use Rattle.count_rules.proofs.Seen.{seen-from, seen-has, seen-keeps}

@@ -1,4 +1,4 @@
-pub mod Quick
+pub mod RunComputed
 pub mod Answered
 pub mod Tables
 pub mod Helds

@@ -13,10 +13,10 @@ use Rattle.lmcp.specs.declared.Row.{Row}
 use Rattle.lmcp.specs.declared.Went.the-variants.{To}
 use Rattle.lmcp.specs.Run.{andThen, repeat}
 use Rattle.lmcp.specs.Table.{pitsurv, rowsOf, fieldsOf}
-use Rattle.lmcp.specs.Packed.{packedOf, cell}
-use Rattle.lmcp.specs.InsidePacked.{widthOf}
+use Rattle.lmcp.specs.Packed.{packedOf}
+use Rattle.lmcp.specs.InsidePacked.{cell, widthOf}
 use Rattle.lmcp.specs.Read.{reading}
-use Rattle.lmcp.specs.Ends.{begun, Sofar}
+use Rattle.lmcp.specs.InsideEnds.{begun, Sofar}
 use Rattle.lmcp.proofs.WalkPlaces.{begins, repeat-all, repeat-more, fields-more, items-turn, items-end, fields-turn, fields-done}
 use Rattle.lmcp.proofs.Widths.{be-one}
 use Rattle.lmcp.proofs.Rows.{few-rows, bounds}
