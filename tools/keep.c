@@ -35,8 +35,9 @@ static void end_soon(int number) {
     ending = number;
 }
 
-/* They come only while input is waited for: a record in hand is kept first. */
+/* They come only between one reading and the next: what was read is kept first. */
 static struct signals while_waiting;
+static const struct timespec at_once;
 
 static void hold_signals(void) {
     struct signals held;
@@ -55,6 +56,11 @@ static void hold_signals(void) {
 static int waits(const struct timespec *most) {
     struct waited in = {.file = 0, .for_what = INPUT};
     return ppoll(&in, 1, most, &while_waiting) > 0;
+}
+
+/* Where input is there a wait ends at once, and no signal comes: so after what was read it is looked whether one did. */
+static void look_for_signals(void) {
+    ppoll(0, 0, &at_once, &while_waiting);
 }
 
 static long second(void) {
@@ -233,7 +239,6 @@ static int ended(struct keeper *k, qm_size length, int status) {
 }
 
 static int keep_all(struct keeper *k) {
-    static const struct timespec at_once = {0};
     qm_size length = 0;
     for (int status;;) {
         qm_size taken = put_records(k, length, &status);
@@ -244,6 +249,7 @@ static int keep_all(struct keeper *k) {
         /* one sync is for all records that wait */
         if (!k->synced || k->unsynced >= MOST_UNSYNCED || !waits(&at_once)) status = acknowledge(k);
         if (status != DONE) return FAILED;
+        look_for_signals();
         if (!ending && !waits(0) && !ending) continue;
         if (ending) {
             length = last_record(length);

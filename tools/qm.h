@@ -86,6 +86,10 @@ struct walk {
 int walk_begin(struct walk *w, const char *command, const char *path);
 /* The same over a log that is mapped already. */
 void walk_over(struct walk *w, const char *command, const char *path, struct mapped log);
+/* A line an entry is printed meanwhile: where the lines go to a terminal they tell how far it is. */
+void walk_prints(struct walk *w);
+/* A line was printed, which seldom comes: where both go to one terminal, how far it is makes way for it. */
+void walk_printed(struct walk *w);
 /* Whether there is one more entry; it is then the one at hand. */
 int walk_on(struct walk *w);
 /* The datagram of the entry at hand. */

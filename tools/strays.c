@@ -55,6 +55,7 @@ static int list_strays(const char *path, struct mapped log, qm_u64 *found) {
         stray = strays_note(&strays, &w, is_repeat(&w, told));
         if (stray != STRAY) continue;
         printf("log %s sender %llu entry %llu tick %llu sequence %llu\n", w.path, w.entry[QM_SENDER], w.entries, w.entry[QM_TICK], told[QM_TOLD_SEQUENCE]);
+        walk_printed(&w);
         ++*found;
     }
     strays_close(&strays);

@@ -34,7 +34,7 @@ static u64 grown(const u8 *log, u64 places) {
             count = head[QM_FILE_ROWS];
             if (qm_index_file_rows(file, length, rows, count * QM_ROW) != 0) return 0;
         }
-        u64 answer = qm_index_on(log, covers, head[QM_COVERED], rows, sizeof rows / 8, count, MOST);
+        u64 answer = qm_index_on(log, covers, head[QM_FILE_COVERED], rows, sizeof rows / 8, count, MOST);
         if (answer >> 32 == 0) {
             printf("refused %llu\n", answer);
             return 0;
