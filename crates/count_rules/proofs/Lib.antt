@@ -16,6 +16,7 @@ pub mod Answered
 pub mod Admitting
 pub mod Logs
 pub mod Delivered
+pub mod Lendings
 pub mod Counted
 pub mod Limits
 pub mod Shows

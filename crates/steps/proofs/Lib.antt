@@ -18,3 +18,5 @@ pub mod Emptying
 pub mod Recalls
 pub mod Limited
 pub mod Running
+pub mod Twins
+pub mod Whatever
