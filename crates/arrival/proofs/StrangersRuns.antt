@@ -26,11 +26,11 @@ use Rattle.arrival.proofs.Strangers.{strangers}
 
 -- ---- the states that calls lead to are states that the step list reaches
 
-record LedTo (n : ℕ) (w nm : List ℕ) : Type 0 where
-  shape : shaped w nm ≡ true
-  reached : Reached n (view w nm)
+pub record LedTo (n : ℕ) (w nm : List ℕ) : Type 0 where
+  pub shape : shaped w nm ≡ true
+  pub reached : Reached n (view w nm)
 
-led-to : {n : ℕ} {w nm : List ℕ} → Led n w nm → LedTo n w nm
+pub led-to : {n : ℕ} {w nm : List ℕ} → Led n w nm → LedTo n w nm
 unfolding received forgotten
 led-to {n} (by-open w nm r w′ nm′ o q) =
     let s : shaped w nm ≡ true = was-shaped (shaped w nm) (sym (o .gave) ∙ q) in
