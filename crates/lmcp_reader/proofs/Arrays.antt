@@ -9,8 +9,8 @@ use borrow.Author.Tests.{eqb-true, ne-eqb}
 use Rattle.wire.specs.Choice.{pick}
 use Rattle.wire.proofs.Choices.{and-l, and-r}
 use Rattle.lmcp.specs.Table.{joined, second, typesOf}
-use Rattle.lmcp.specs.Packed.{packedBy, packedOf, cell}
-use Rattle.lmcp.specs.InsidePacked.{widthOf}
+use Rattle.lmcp.specs.Packed.{packedBy, packedOf}
+use Rattle.lmcp.specs.InsidePacked.{cell, widthOf}
 use Rattle.lmcp.proofs.Tables.{under}
 use Rattle.lmcp.proofs.RowWays.{Here, arg-same, plain-row}
 
