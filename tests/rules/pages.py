@@ -34,6 +34,15 @@ def rows(faults, project, contracts):
         faults.rule((crate, name) in rowed, f"docs/CONTRACTS.md has no row of {crate} {name}")
 
 
+def in_order(faults, project, contracts):
+    """CONTRACTS has each crate under one heading, in the order of crates.txt."""
+    headed = [c for crates, _ in sections(contracts) for c in crates]
+    for crate, wanted in zip(headed + ["no heading"] * len(project.crates), project.crates):
+        if crate != wanted:
+            return faults.rule(False, f"docs/CONTRACTS.md has {crate} where {wanted} belongs: its headings go as crates.txt does, each crate once")
+    faults.rule(len(headed) == len(project.crates), f"docs/CONTRACTS.md has {' '.join(headed[len(project.crates):])} behind the last crate")
+
+
 def edits(faults, contracts):
     """Every must-fail edit says in its first line which wrong answer it is, and stands in docs/CONTRACTS.md."""
     for path in sorted(glob.glob("crates/*/must-fail/*.edit")):
@@ -92,6 +101,7 @@ def refusals(faults):
 def check(faults, project):
     contracts, paper = read("docs/CONTRACTS.md"), read("docs/PAPER.md")
     rows(faults, project, contracts)
+    in_order(faults, project, contracts)
     edits(faults, contracts)
     cited(faults, contracts, paper)
     believed(faults, project)
