@@ -61,6 +61,8 @@ class Edited:
             where = path.replace("/specs/", "/").removesuffix(".antt")
             got.add((where, None))
             text = "\n".join(file.lines)
+            if old not in text:
+                raise SystemExit(f"{case}: not in {path}: {old!r}")
             first = text[: text.index(old)].count("\n") + 1
             last = first + old.count("\n")
             ends = [i.line for i in file.items[1:]] + [len(file.lines) + 1]
