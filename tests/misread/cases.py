@@ -40,6 +40,11 @@ class Case:
     def sources(self):
         return [e for e in self.edits if "/src/" in e[0]]
 
+    @property
+    def untried(self):
+        """Nobody looked yet what refuses its definition."""
+        return bool(self.specs) and not self.passes and not any(h[0] in ("case", "theorem") for h in self.held)
+
     @staticmethod
     def crates(edits):
         return sorted({e[0].split("/")[0] for e in edits})
