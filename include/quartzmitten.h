@@ -248,7 +248,7 @@ qm_u32 qm_index_file_write(const qm_u64 *index, qm_size index_length, qm_size ro
 
 /* The places of the numbers that qm_index_file_head writes. */
 enum {
-    QM_COVERED,       /* how many bytes of the log the index covers */
+    QM_FILE_COVERED,  /* how many bytes of the log the index covers */
     QM_FILE_ROWS,     /* how many rows it has */
     QM_FILE_NUMBERS   /* two */
 };
@@ -266,7 +266,7 @@ qm_u32 qm_index_file_head(const qm_byte *file, qm_size length, qm_u64 *head, qm_
 qm_u32 qm_index_file_rows(const qm_byte *file, qm_size length, qm_u64 *index, qm_size index_length);
 
 /* Looks up a key in an index file by halving, and then at the log: some twenty rows and at most three entries are read, however long both are. It answers for the
-   bytes that the file covers; where the log has grown, the rest is asked of qm_index_on from QM_COVERED on with 0 rows, and qm_find.
+   bytes that the file covers; where the log has grown, the rest is asked of qm_index_on from QM_FILE_COVERED on with 0 rows, and qm_find.
 
    Answers 0 and writes the two numbers of qm_find to the start of `place`; what stands after them stays. Otherwise 13 where `place` has room for fewer; then 46 as
    qm_index_file_head; then 47 where the file is not of this log: it covers more bytes than the log has, or the entry at the place of its first row, its last row or the
@@ -723,6 +723,7 @@ static inline qm_u32 qm_map_lines(const struct qm_map *m, qm_u64 *tile, qm_u64 *
 #define QM_NEXT_PLACE QM_ENTRY_NEXT_PLACE
 #define QM_KNOWN QM_FIND_KNOWN
 #define QM_PLACE QM_FIND_PLACE
+#define QM_COVERED QM_FILE_COVERED
 #define QM_ANSWER QM_TOLD_ANSWER
 #define QM_WHERE QM_TOLD_WHERE
 #define QM_PAYLOAD_PLACE QM_TOLD_PAYLOAD_PLACE

@@ -7,12 +7,6 @@
 /* No entry has fewer bytes: sender, tick and length. */
 enum { SHORTEST = 3 };
 
-/* A walk that tells nobody how far it is. */
-static void quiet_walk(struct walk *w, const char *path, struct mapped log) {
-    walk_over(w, "sums", path, log);
-    w->shown = -1;
-}
-
 static int is_busier(const struct senders *s, qm_size a, qm_size b) {
     return s->rows[a].times > s->rows[b].times || (s->rows[a].times == s->rows[b].times && a < b);
 }
@@ -40,7 +34,7 @@ int arrived_begin(struct arrived *a, const char *path, struct mapped log) {
     int good = 1;
     *a = (struct arrived) {0};
     if (!clock_begin(&a->clock, log.length / SHORTEST)) return 0;
-    quiet_walk(&w, path, log);
+    walk_over(&w, "sums", path, log);
     while (good && walk_on(&w)) {
         clock_learn(&a->clock, w.entry[QM_TICK], (log.length - w.next) / SHORTEST);
         good = senders_add(&a->senders, w.entry[QM_SENDER]) != 0;

@@ -2,12 +2,14 @@
 
 #include "clock.h"
 
-/* Of a thousand steps on, one is not taken for the usual; and a step that is drawn short is a twentieth of the usual ones together. */
-enum { UNUSUAL = 1000, SHORT = 20, FEW = 3 };
+/* The longest steps on are not taken for the usual: one, one more in a thousand entries, and in a short flight one in eight, up to seven. A step that is drawn short is a
+   twentieth of the usual ones together. */
+enum { UNUSUAL = 1000, OF_A_SHORT_FLIGHT = 8, MOST_OF_THESE = 7, SHORT = 20, FEW = 3 };
 
 /* How many steps are the longest, of so many entries. */
 static qm_size unusual(qm_u64 entries) {
-    return 1 + entries / UNUSUAL;
+    qm_u64 more = entries / OF_A_SHORT_FLIGHT;
+    return 1 + entries / UNUSUAL + (more < MOST_OF_THESE ? more : MOST_OF_THESE);
 }
 
 int clock_begin(struct clock *c, qm_u64 most) {

@@ -23,6 +23,7 @@ static int list_gaps(const char *path) {
     qm_u32 fields[QM_FIELDS];
     struct walk w;
     if (walk_begin(&w, "gaps", path) != DONE) return FAILED;
+    walk_prints(&w);
     while (walk_on(&w)) {
         qm_u64 answer = qm_read_datagram(walk_datagram(&w), w.entry[QM_ENTRY_LENGTH], fields, QM_FIELDS);
         if (answer == 0) answer = qm_watch_see(senders, QM_WATCH, lasts, QM_WATCH_SENDERS, w.entry[QM_SENDER], fields[QM_SEQUENCE]);

@@ -61,13 +61,13 @@ static int check_file(const char *path, const char *name) {
     int same = 0;
     if (map_file("index", path, &log) != DONE || map_file("index", name, &file) != DONE) return FAILED;
     int form = qm_index_file_head(file.bytes, file.length, head, QM_FILE_NUMBERS) == 0;
-    int whole = are_whole(&w, path, log, head[QM_COVERED]);
-    if (form && whole && compare(file, log, path, head[QM_COVERED], &same) != DONE) return FAILED;
+    int whole = are_whole(&w, path, log, head[QM_FILE_COVERED]);
+    if (form && whole && compare(file, log, path, head[QM_FILE_COVERED], &same) != DONE) return FAILED;
     if (same) printf("same %llu\n", head[QM_FILE_ROWS]);
     else printf("other\n");
     if (printed("index") != DONE) return FAILED;
     if (!same) fprintf(stderr, "qm index: %s: not the index of %s: where it is taken away, `qm index %s` writes it anew\n", name, path, path);
-    else if (head[QM_COVERED] < w.next) fprintf(stderr, "qm index: %s: it covers %llu of %llu bytes: `qm index %s` extends it\n", name, head[QM_COVERED], w.next, path);
+    else if (head[QM_FILE_COVERED] < w.next) fprintf(stderr, "qm index: %s: it covers %llu of %llu bytes: `qm index %s` extends it\n", name, head[QM_FILE_COVERED], w.next, path);
     int status = index_ended(&w, "looked through");
     return same ? status : REFUSED;
 }
@@ -105,7 +105,7 @@ static qm_size find_in_file(const char *name, struct mapped log, qm_u64 sender, 
     qm_u32 refusal = qm_index_file_find(log.bytes, log.length, file.bytes, file.length, sender, sequence, place, QM_FIND);
     munmap((void *) file.bytes, file.length);
     if (log.length > 0) madvise((void *) log.bytes, log.length, IN_ORDER);
-    if (refusal == 0) return head[QM_COVERED];
+    if (refusal == 0) return head[QM_FILE_COVERED];
     index_doubted("find", name, refusal);
     return 0;
 }

@@ -95,7 +95,7 @@ static int load(struct index *ix, const char *command, const char *name, struct 
         return 0;
     }
     ix->many = head[QM_FILE_ROWS];
-    ix->covered = head[QM_COVERED];
+    ix->covered = head[QM_FILE_COVERED];
     return 1;
 }
 

@@ -35,8 +35,9 @@ static void end_soon(int number) {
     ending = number;
 }
 
-/* They come only while input is waited for: a record in hand is kept first. */
+/* They come only between one reading and the next, and while nobody takes the lines: what was read is kept first. */
 static struct signals while_waiting;
+static const struct timespec at_once;
 
 static void hold_signals(void) {
     struct signals held;
@@ -57,6 +58,17 @@ static int waits(const struct timespec *most) {
     return ppoll(&in, 1, most, &while_waiting) > 0;
 }
 
+/* Whether what is printed can go out; it is waited for, and a listener that does not read holds up the keeping. A signal is an answer too: no. */
+static int is_heard(void) {
+    struct waited out = {.file = 1, .for_what = OUTPUT};
+    return ppoll(&out, 1, ending ? &at_once : 0, &while_waiting) > 0;
+}
+
+/* Where input is there a wait ends at once, and no signal comes: so after what was read it is looked whether one did. */
+static void look_for_signals(void) {
+    ppoll(0, 0, &at_once, &while_waiting);
+}
+
 static long second(void) {
     struct timespec t;
     clock_gettime(STEADY_CLOCK, &t);
@@ -65,11 +77,20 @@ static long second(void) {
 
 /* ---- what is said */
 
+/* A pipe that has room at all has it for 4,096 bytes; and the longest line. */
+enum { SURE_ROOM = 4096, LONGEST_LINE = 40 };
+
 /* A line that nobody takes ends the lines, and not the keeping. */
 static void tell(struct keeper *k) {
-    if (k->output != DONE || (fflush(stdout) == 0 && !ferror(stdout))) return;
-    k->output = failed("keep", "standard output");
-    fprintf(stderr, "qm keep: %s: records are kept on, and no line says so\n", k->log.path);
+    if (k->output != DONE) return;
+    if (!is_heard()) {
+        k->output = FAILED;
+        fprintf(stderr, "qm keep: standard output: nobody reads the lines, and the last of them are dropped\n");
+        __fpurge(stdout);
+    } else if (fflush(stdout) != 0 || ferror(stdout)) {
+        k->output = failed("keep", "standard output");
+        fprintf(stderr, "qm keep: %s: records are kept on, and no line says so\n", k->log.path);
+    }
 }
 
 /* What was written is on its way: say so. */
@@ -77,9 +98,13 @@ static int acknowledge(struct keeper *k) {
     if (k->acknowledged == k->log.entries) return DONE;
     if (k->synced && kept_sync(&k->log) != DONE) return FAILED;
     k->unsynced = 0;
-    if (k->quiet || k->output != DONE) k->acknowledged = k->log.entries;
-    while (k->acknowledged < k->log.entries) printf("kept %llu%s\n", ++k->acknowledged, k->synced ? " synced" : "");
-    tell(k);
+    for (int bytes = 0; !k->quiet && k->output == DONE && k->acknowledged < k->log.entries;) {
+        bytes += printf("kept %llu%s\n", ++k->acknowledged, k->synced ? " synced" : "");
+        if (bytes + LONGEST_LINE <= SURE_ROOM && k->acknowledged < k->log.entries) continue;
+        tell(k);
+        bytes = 0;
+    }
+    k->acknowledged = k->log.entries;
     return DONE;
 }
 
@@ -233,7 +258,6 @@ static int ended(struct keeper *k, qm_size length, int status) {
 }
 
 static int keep_all(struct keeper *k) {
-    static const struct timespec at_once = {0};
     qm_size length = 0;
     for (int status;;) {
         qm_size taken = put_records(k, length, &status);
@@ -244,6 +268,7 @@ static int keep_all(struct keeper *k) {
         /* one sync is for all records that wait */
         if (!k->synced || k->unsynced >= MOST_UNSYNCED || !waits(&at_once)) status = acknowledge(k);
         if (status != DONE) return FAILED;
+        look_for_signals();
         if (!ending && !waits(0) && !ending) continue;
         if (ending) {
             length = last_record(length);

@@ -5,6 +5,7 @@
 static int list_entries(const char *path) {
     struct walk w;
     if (walk_begin(&w, "list", path) != DONE) return FAILED;
+    walk_prints(&w);
     while (walk_on(&w))
         printf("%llu sender %llu tick %llu length %llu\n", w.entries, w.entry[QM_SENDER], w.entry[QM_TICK], w.entry[QM_ENTRY_LENGTH]);
     return walk_end(&w);

@@ -66,6 +66,7 @@ static int take_flight(const struct asked *a, struct last *last, const struct lo
     struct listed l;
     int good = 1;
     walk_over(&w, "pits", logs->path[i], logs->mapped[i]);
+    if (a->marks) walk_prints(&w);
     marks_begin();
     while (good && walk_on(&w))
         if (from_has(&a->how.from, w.entry[QM_SENDER]) && marks_take(&w, &l)) good = take_list(a, last, &w, &l, i);

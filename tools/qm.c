@@ -2,18 +2,6 @@
 
 #include "logs.h"
 
-int is_number(const char *text, qm_u64 most, qm_u64 *number) {
-    qm_u64 n = 0;
-    if (!*text) return 0;
-    for (; *text; text++) {
-        qm_u64 digit = (qm_u64) (*text - '0');
-        if (digit > 9 || n > (most - digit) / 10) return 0;
-        n = 10 * n + digit;
-    }
-    *number = n;
-    return 1;
-}
-
 /* Says which word is wrong, and how the command is called. */
 static int wrong(unsigned i, const char *word, const char *why) {
     called_wrong(commands[i].name, word, why);

@@ -32,6 +32,8 @@ int usage(FILE *to, int status);
 int command_usage(FILE *to, unsigned i, int status);
 /* Which qm this is. Answers the status. */
 int version(void);
+/* Whether a text is a decimal number of at most `most`, and which. */
+int is_number(const char *text, qm_u64 most, qm_u64 *number);
 
 /* ---- files */
 
@@ -84,6 +86,10 @@ struct walk {
 int walk_begin(struct walk *w, const char *command, const char *path);
 /* The same over a log that is mapped already. */
 void walk_over(struct walk *w, const char *command, const char *path, struct mapped log);
+/* A line an entry is printed meanwhile: where the lines go to a terminal they tell how far it is. */
+void walk_prints(struct walk *w);
+/* A line was printed, which seldom comes: where both go to one terminal, how far it is makes way for it. */
+void walk_printed(struct walk *w);
 /* Whether there is one more entry; it is then the one at hand. */
 int walk_on(struct walk *w);
 /* The datagram of the entry at hand. */
@@ -94,9 +100,6 @@ int walk_end(struct walk *w);
 /* Around one call that goes over a whole log: standard error is told each second how long it takes, where anybody waits. */
 int working(const char *command, const char *path, qm_size length);
 void worked(int shown);
-
-/* Whether a text is a decimal number of at most `most`, and which. */
-int is_number(const char *text, qm_u64 most, qm_u64 *number);
 
 /* ---- the commands: each prints what it has to say and answers the status */
 

@@ -24,6 +24,7 @@ static int replay(const char *path, qm_size room) {
     qm_byte name[QM_MAX_NAME];
     struct walk w;
     if (walk_begin(&w, "replay", path) != DONE) return FAILED;
+    walk_prints(&w);
     /* memory of the header's lengths: 9 does not come */
     qm_open(state, QM_STATE, names, QM_NAMES, room);
     while (walk_on(&w)) {

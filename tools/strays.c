@@ -15,8 +15,8 @@ void strays_tell(struct strays *s, const struct walk *w) {
     for (qm_size i = 0; i < s->of.used && i < STRAYS_TOLD; i++) {
         const struct tally_row *row = &s->of.rows[i];
         fprintf(stderr, "qm %s: %s: repeats that are no copies: %llu of sender %llu, from entry %llu on; what they bring is not counted. `qm strays %s` lists them; where "
-                "the sender began anew, `qm count --forget-at %llu:%llu %s` counts them\n", w->command, w->path, row->times, row->sender, row->first, w->path, row->sender,
-                row->first, w->path);
+                "the sender began anew, `qm count --forget-at %llu:%llu %s` counts them; where it is a stranger, `qm count --from SENDER %s` counts only the senders that it "
+                "names\n", w->command, w->path, row->times, row->sender, row->first, w->path, row->sender, row->first, w->path, w->path);
     }
     if (s->of.used > STRAYS_TOLD) fprintf(stderr, "qm %s: %s: repeats that are no copies: of %llu senders more\n", w->command, w->path, s->of.used - STRAYS_TOLD);
 }
@@ -55,6 +55,7 @@ static int list_strays(const char *path, struct mapped log, qm_u64 *found) {
         stray = strays_note(&strays, &w, is_repeat(&w, told));
         if (stray != STRAY) continue;
         printf("log %s sender %llu entry %llu tick %llu sequence %llu\n", w.path, w.entry[QM_SENDER], w.entries, w.entry[QM_TICK], told[QM_TOLD_SEQUENCE]);
+        walk_printed(&w);
         ++*found;
     }
     strays_close(&strays);

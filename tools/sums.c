@@ -87,6 +87,8 @@ static int sum_flight(struct summed *s, struct flight *f, const struct logs *log
     }
     if (good && logs_ended(&w, "shown") != DONE) s->counted.status = REFUSED;
     if (good) print_flight(f, &w);
+    /* how far the next one is read may go to the same terminal */
+    fflush(stdout);
     arrived_close(&f->arrived);
     strays_close(&f->strays);
     return good;

@@ -19,6 +19,8 @@ int fprintf(FILE *file, const char *format, ...);
 int sprintf(char *to, const char *format, ...);
 int fflush(FILE *file);
 int ferror(FILE *file);
+/* What was printed and has not gone out is dropped. */
+void __fpurge(FILE *file);
 int setvbuf(FILE *file, char *buffer, int how, unsigned long length);
 enum { WHOLE_BUFFERS = 0 };
 
@@ -129,6 +131,6 @@ struct waited {
 };
 /* Waits for input at most that long (null: without end), with these signals held back meanwhile (null: those that are). */
 int ppoll(struct waited *files, unsigned long many, const struct timespec *most, const struct signals *held_back);
-enum { INPUT = 1 };
+enum { INPUT = 1, OUTPUT = 4 };
 
 #endif

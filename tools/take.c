@@ -80,6 +80,7 @@ static void note(struct partial *p, const struct received *r, const qm_u32 *fiel
    the walk goes on to the log's end. */
 static int replay(const struct asked *a, struct walk *w, struct mapped log, struct partial *alone) {
     struct received r;
+    struct walk at;
     qm_u32 fields[QM_FIELDS];
     int found = 0;
     walk_over(w, "take", a->log, log);
@@ -89,8 +90,9 @@ static int replay(const struct asked *a, struct walk *w, struct mapped log, stru
         receiver_take(w, &r);
         if (alone) note(alone, &r, fields);
         found = is_answer(a, w, &r);
-        if (found) print_delivered(a, w, &r);
+        if (found) at = *w;
     }
+    if (found) print_delivered(a, &at, &r);
     return found;
 }
 
@@ -179,6 +181,7 @@ static int take_all(const struct asked *a, struct mapped log) {
     int status = DONE;
     if (mkdir(a->folder, FOR_ALL_TO_ENTER) != 0 && *__errno_location() != IS_THERE) return failed("take", a->folder);
     walk_over(&w, "take", a->log, log);
+    walk_prints(&w);
     receiver_open();
     while (status == DONE && walk_on(&w)) status = take_entry(a, &w, &keys, &taken);
     keys_close(&keys);

@@ -38,6 +38,7 @@ static void print_told(const struct walk *w) {
 int told_command(const char *path) {
     struct walk w;
     if (walk_begin(&w, "list", path) != DONE) return FAILED;
+    walk_prints(&w);
     receiver_open();
     while (walk_on(&w)) print_told(&w);
     return walk_end(&w);

@@ -1,4 +1,4 @@
-/* How qm is called: its commands, and what --help says. */
+/* How qm is called: its commands, what --help says, and the numbers among its words. */
 
 #include "qm.h"
 
@@ -135,4 +135,16 @@ int command_usage(FILE *to, unsigned i, int status) {
     fprintf(to, "usage: qm %s %s\n", commands[i].name, commands[i].takes);
     if (status == DONE) fprintf(to, "%s%s", commands[i].says, statuses);
     return status;
+}
+
+int is_number(const char *text, qm_u64 most, qm_u64 *number) {
+    qm_u64 n = 0;
+    if (!*text) return 0;
+    for (; *text; text++) {
+        qm_u64 digit = (qm_u64) (*text - '0');
+        if (digit > 9 || n > (most - digit) / 10) return 0;
+        n = 10 * n + digit;
+    }
+    *number = n;
+    return 1;
 }

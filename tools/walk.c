@@ -5,17 +5,9 @@
 /* A log of fewer bytes is read before anybody waits. */
 enum { LONG = 1 << 24 };
 
-/* Whether a command prints its lines while it reads. */
-static int prints_on_the_way(const char *command) {
-    static const char *const such[] = {"list", "replay", "gaps", "take", "strays", "pits", "sums"};
-    for (unsigned i = 0; i < sizeof such / sizeof *such; i++)
-        if (strcmp(command, such[i]) == 0) return 1;
-    return 0;
-}
-
-/* Told where standard error is a terminal, and no lines go there meanwhile. */
-static int is_told(const char *command, qm_size length) {
-    return length >= LONG && isatty(2) && !(isatty(1) && prints_on_the_way(command));
+/* Told where standard error is a terminal. */
+static int is_told(qm_size length) {
+    return length >= LONG && isatty(2);
 }
 
 static void wipe(void) {
@@ -42,7 +34,7 @@ static void show(struct walk *w) {
 
 void walk_over(struct walk *w, const char *command, const char *path, struct mapped log) {
     *w = (struct walk) {.command = command, .path = path, .log = log, .shown = -1};
-    if (is_told(command, log.length)) w->shown = 0;
+    if (is_told(log.length)) w->shown = 0;
     w->refusal = qm_log_first(log.bytes, log.length, w->head, QM_HEAD);
     if (w->refusal == 0) w->next = w->head[QM_FIRST_PLACE];
 }
@@ -52,6 +44,17 @@ int walk_begin(struct walk *w, const char *command, const char *path) {
     if (map_file(command, path, &log) != DONE) return FAILED;
     walk_over(w, command, path, log);
     return DONE;
+}
+
+void walk_prints(struct walk *w) {
+    if (isatty(1)) w->shown = -1;
+}
+
+void walk_printed(struct walk *w) {
+    if (w->shown < 0 || !isatty(1)) return;
+    if (w->shown > 0) wipe();
+    fflush(stdout);
+    w->shown = 0;
 }
 
 int walk_on(struct walk *w) {
@@ -93,7 +96,7 @@ static void tell_seconds(int number) {
 }
 
 int working(const char *command, const char *path, qm_size length) {
-    if (!is_told(command, length)) return 0;
+    if (!is_told(length)) return 0;
     doing = command;
     whose = path;
     bytes = length;

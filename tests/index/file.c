@@ -34,7 +34,7 @@ static u64 grown(const u8 *log, u64 places) {
             count = head[QM_FILE_ROWS];
             if (qm_index_file_rows(file, length, rows, count * QM_ROW) != 0) return 0;
         }
-        u64 answer = qm_index_on(log, covers, head[QM_COVERED], rows, sizeof rows / 8, count, MOST);
+        u64 answer = qm_index_on(log, covers, head[QM_FILE_COVERED], rows, sizeof rows / 8, count, MOST);
         if (answer >> 32 == 0) {
             printf("refused %llu\n", answer);
             return 0;
@@ -61,7 +61,9 @@ static void one_case(void) {
     rows[0] = 7;
     answer = qm_index_file_rows(given, file_length, rows, sizeof rows / 8);
     printf("rows %u %llu\n", answer, rows[0]);
-    if (answer == 0 && head[QM_FILE_ROWS] > 0) printf("short %u\n", qm_index_file_rows(given, file_length, rows, head[QM_FILE_ROWS] * QM_ROW - 1));
+    /* with too few words: one less than the rows take, and of what is no index file none at all */
+    u64 few = answer == 0 && head[QM_FILE_ROWS] > 0 ? head[QM_FILE_ROWS] * QM_ROW - 1 : 0;
+    printf("short %u\n", qm_index_file_rows(given, file_length, rows, few));
     for (u64 keys = next(); keys > 0; keys--) {
         u64 sender = next(), sequence = next();
         place[0] = place[1] = 7;

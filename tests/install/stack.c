@@ -57,6 +57,21 @@ static void *receive(void *given) {
     return given;
 }
 
+/* The call itself, with the parts of its memory. */
+static void *receive_plain(void *given) {
+    struct qm_receiver *r = &host.receiver;
+    qm_u64 head[QM_HEAD], entry[QM_ENTRY], delivered = 0;
+    qm_byte name[QM_MAX_NAME];
+    if (qm_open(r->state, QM_STATE, r->names, QM_NAMES, QM_STORE) != 0 || qm_log_first(log_bytes, log_length, head, QM_HEAD) != 0) return 0;
+    for (qm_size at = head[QM_HEAD_FIRST_PLACE]; at < log_length; at = entry[QM_ENTRY_NEXT_PLACE]) {
+        if (qm_log_next(log_bytes, log_length, at, entry, QM_ENTRY) != 0) return 0;
+        if (qm_receive(r->state, QM_STATE, r->names, QM_NAMES, r->store, QM_STORE, r->ledger, QM_LEDGER, entry[QM_ENTRY_SENDER], log_bytes + entry[QM_ENTRY_PLACE],
+                       entry[QM_ENTRY_LENGTH], told, QM_TOLD, name, QM_MAX_NAME) == 0)
+            delivered += told[QM_TOLD_ANSWER] == QM_ANSWER_DELIVERED;
+    }
+    return delivered > 0 ? given : 0;
+}
+
 static void *cut(void *given) {
     qm_u32 sum = qm_checksum(log_bytes, log_length);
     if (qm_log_begin(out, sizeof out, QM_MAX_PAYLOAD) >> 32 == 0 || qm_log_append(out, sizeof out, 0, sum, 1, log_bytes, 1000) >> 32 == 0) return 0;
@@ -116,7 +131,7 @@ int main(void) {
     static const struct {
         const char *name;
         void *(*run)(void *);
-    } calls[] = {{"nothing", nothing}, {"qm_count", count}, {"qm_acks_write", acks_write}, {"qm_acks_ask", acks_ask}, {"qm_count_on", count_on}, {"qm_receive", receive}, {"qm_cut", cut},
+    } calls[] = {{"nothing", nothing}, {"qm_count", count}, {"qm_acks_write", acks_write}, {"qm_acks_ask", acks_ask}, {"qm_count_on", count_on}, {"qm_host_take", receive}, {"qm_receive", receive_plain}, {"qm_cut", cut},
                  {"qm_index", index_log}, {"qm_index_on", index_on}, {"qm_index_file_find", index_file}, {"qm_write_message", messages}, {"qm_moss_write", packets}};
     log_length = fread(log_bytes, 1, MOST_LOG, stdin);
     printf("QM_COUNT_STACK %d\nQM_ACKS_STACK %d\nQM_STACK %d\n", QM_COUNT_STACK, QM_ACKS_STACK, QM_STACK);

@@ -1,7 +1,6 @@
 // The writer of a log with little room and with long datagrams: a line for each call's answer. compiled.py has what the papers say of each.
 #include "../../include/quartzmitten.h"
-
-int printf(const char *form, ...);
+#include "../../tools/system.h"
 
 static qm_byte out[80000], datagram[66000];
 
@@ -16,4 +15,5 @@ int main(void) {
             qm_size entry = 2 + (lengths[i] < 128 ? 1 : 3) + lengths[i];
             printf("%lu\n", (unsigned long)qm_log_append(out, 7 + entry - (less < 0 ? 0 : (qm_size)less) + (less < 0), 7, 1, 2, datagram, lengths[i]));
         }
+    return 0;
 }

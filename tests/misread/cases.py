@@ -13,6 +13,7 @@
     held: theorem moss Looks `x`    the proof of this theorem, or of a lemma below it, is refused
     false: ..                       where a theorem alone holds it: why its statement is false, and not only its proof another
     passes: moss block_laws         nothing refuses the definition's edit up to these crates
+    rule: located                   definitions whose rule the edit misreads at another place, where they are used (rows.py)
 
 Edits of specs/ are the definition's, edits of src/ the code's; edits of proofs/ mend what is proved of a statement that was weakened, so that it stands, and a worked case is left to refuse it.
 Each holder is tried and must hold."""
@@ -26,7 +27,7 @@ class Case:
     def __init__(self, file, title):
         self.file, self.title = file, title
         self.paper, self.passes, self.false, self.note = "", "", "", ""
-        self.edits, self.held = [], []
+        self.edits, self.held, self.rules = [], [], []
 
     def __repr__(self):
         return f"{self.file}: {self.title}"
@@ -39,6 +40,11 @@ class Case:
     def sources(self):
         return [e for e in self.edits if "/src/" in e[0]]
 
+    @property
+    def untried(self):
+        """Nobody looked yet what refuses its definition."""
+        return bool(self.specs) and not self.passes and not any(h[0] in ("case", "theorem") for h in self.held)
+
     @staticmethod
     def crates(edits):
         return sorted({e[0].split("/")[0] for e in edits})
@@ -49,7 +55,7 @@ def read(path):
     got, name, file, last = [], os.path.basename(path)[:-4], None, None
     for number, line in enumerate(open(path, encoding="utf-8"), 1):
         line = line.rstrip("\n")
-        found = re.match(r"(misread|paper|file|old|new|held|passes|false|note):(?: (.*))?$", line)
+        found = re.match(r"(misread|paper|rule|file|old|new|held|passes|false|note):(?: (.*))?$", line)
         if not line.strip() or line.startswith("#"):
             last = None
             continue
@@ -69,6 +75,8 @@ def read(path):
             case.edits[-1][2] = rest
         elif word == "held":
             case.held.append(rest.split(" ", 1))
+        elif word == "rule":
+            case.rules += rest.split()
         else:
             setattr(case, word, rest)
         last = word

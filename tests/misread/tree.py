@@ -18,7 +18,6 @@ from specs import Project  # noqa: E402
 BRIDGES = set("memory held_bits fragment_fit slots receiver_state verdict receiver open_and_payload receiver_laws pit_marks pit_payloads count stretch host_count".split())
 # Crates of functions alone.
 CODE = set("checksum lmcp_check lmcp_reader lmcp_size lmcp_writer host host_append host_state host_receiver host_flight host_index host_index_file host_season host_pits host_marks host_acks host_gauge host_messages".split())
-CODE |= set("text stream output record_lines replay_run log_lines count_lines index_lines".split())
 # Modules of computed cases.
 CASES = set("Worked Works Answered Computed Marks Wide Needed StrangersWork Shown StepCases".split())
 # Theorems that the pages name by one word.

@@ -11,7 +11,8 @@ NONE, SLOT_SIZE, SIZE, COUNT, KEYS = range(5)  # what a word of a state holds
 LAST_KEYS, LAST_SIZE, LAST_COUNT = range(5, 8)  # the same of the last sender and the last slot
 LAST = {LAST_KEYS: KEYS, LAST_SIZE: SIZE, LAST_COUNT: COUNT}
 SEQUENCE_WORD, SIZE_WORD, COUNT_WORD, TURN_WORD = range(1, 5)  # the words of a slot
-MEMORY = 9  # in place of a slot: how many keys the memory's first sender has
+MEMORY = 9  # in place of a slot: the memory, 16 senders, how many keys each has, 16 turns, and 32 sequences each
+KEYS_WORD, SEQUENCES_WORD = 16, 48
 
 
 def cutter(letter, c, p, m, k, room):
@@ -73,19 +74,21 @@ def forget_line(words, names, a, x, b, y):
 
 
 def tied_line(*c):
-    """Eight messages are open, each of two fragments of a byte, the first one held. Of slots that are meant alike the lower counts, in any step. With a count of keys
-    the memory has sequence 0 of their sender, that many times: it is asked first. A small message (n is 0) of an open key is refused, of another delivered."""
+    """Eight messages are open, each of two fragments of a byte, the first one held. Of slots that are meant alike the lower counts, in any step, and so of the memory's
+    places, which are all of their sender: it is asked first. A small message (n is 0) of an open key is refused, of another delivered."""
     slots = [{SEQUENCE_WORD: i, SIZE_WORD: 2, COUNT_WORD: 2, TURN_WORD: i} for i in range(8)]
-    keys = 0
+    memory = {}
     for slot, word, value in (c[0:3], c[3:6], c[6:9], c[9:12]):
         if slot < 8:
             slots[slot][word] = value
         elif slot == MEMORY:
-            keys = value
+            memory[word] = value
     sequence, k, n = c[12:]
-    if keys > 32 or any(s[COUNT_WORD] > 0 and s[SIZE_WORD] > STORE // 8 for s in slots):
+    keys = [memory.get(KEYS_WORD + i, 0) for i in range(16)]
+    own = next((i for i in range(16) if keys[i] > 0), 0)
+    if max(keys) > 32 or any(s[COUNT_WORD] > 0 and s[SIZE_WORD] > STORE // 8 for s in slots):
         return "refused 9"
-    if keys > 0 and sequence == 0:
+    if sequence in [memory.get(SEQUENCES_WORD + 32 * own + j, 0) for j in range(keys[own])]:
         return "repeat"
     same = [i for i, s in enumerate(slots) if s[COUNT_WORD] > 0 and s[SEQUENCE_WORD] == sequence]
     if n == 0:
@@ -116,6 +119,8 @@ def cases():
     d += [(CUT, t, 64, 0, 95, 0, 65507), (CUT, t, 0, 1048577, 96, 0, 65507), (CUT, t, 4, 1048577, 96, 0, 65507), (CUT, t, 4, 77820, 96, 1100, 65507), (CUT, t, 4, 9, 96, 1, 0)]
     # the parts of small ones and of fragments, whole and with the end cut off, down to no datagram
     d += [(PARTS, t, 4, 3, 96, 0, f) for f in (65507, 15, 14, 13, 12, 8, 7, 0)] + [(PARTS, t, 1, 90, 96, k, 65507) for k in (0, 1)] + [(PARTS, t, 1, 90, 96, 1, f) for f in (36, 35, 19)]
+    # of messages over edition 1's limits: 257 fragments, and P 262,145
+    d += [(PARTS, t, 4, 19452, 96, k, 65507) for k in (0, 256)] + [(PARTS, t, 4, 262145, 65507, 4, 65507)]
     # the watch: 15, 16 and 17 claimed, senders in and out of it, the turn of the signed difference, late by 1,024 and 1,025
     d += [(WATCH, w, 5, s, 6) for w in (0, 1, 15, 16, 17, 2**32, 2**64 - 1) for s in (1, 15, 16, 17)]
     d += [(WATCH, 16, last, 16, n) for last, n in [(5, 5), (5, 4), (5, 3), (5, 2**31 + 4), (5, 2**31 + 5), (5, 2**31 + 6), (2**32 - 1, 1), (0, 2**31), (0, 2**32 - 1), (2**31, 0), (2000, 976), (2000, 975)]]
@@ -143,8 +148,12 @@ def unmade_cases():
         d += [(TIED,) + sum(words, ()) + last for last in [(2, 1, 2), (5, 1, 2), (6, 1, 2), (3, 1, 2), (50, 0, 1), (50, 0, 2), (50, 1, 2), (5, 0, 2), (2, 1, 3)]]
     last = [(LAST_KEYS, 32, NONE, 0), (LAST_KEYS, 33, NONE, 0), (LAST_SIZE, 8, LAST_COUNT, 1), (LAST_SIZE, 9, LAST_COUNT, 1), (LAST_SIZE, 8, LAST_COUNT, 1024), (LAST_SIZE, 8, LAST_COUNT, 1025), (LAST_SIZE, 9, LAST_COUNT, 0)]
     # a key that is open and remembered, open alone, remembered alone and neither, by a small message and by fragments that fit the open one or do not
-    for words in [(none, none), ((MEMORY, 0, 1), none), ((MEMORY, 0, 32), none), ((MEMORY, 0, 33), none), ((MEMORY, 0, 1), (0, COUNT_WORD, 0)), ((MEMORY, 0, 1), (0, SEQUENCE_WORD, 50))]:
+    for words in [(none, none), ((MEMORY, KEYS_WORD, 1), none), ((MEMORY, KEYS_WORD, 32), none), ((MEMORY, KEYS_WORD, 33), none), ((MEMORY, KEYS_WORD, 1), (0, COUNT_WORD, 0)), ((MEMORY, KEYS_WORD, 1), (0, SEQUENCE_WORD, 50))]:
         d += [(TIED,) + sum(words, ()) + none + none + last for last in [(0, 0, 0), (1, 0, 0), (50, 0, 0), (0, 1, 2), (0, 0, 2), (0, 1, 3), (1, 1, 2), (50, 1, 2)]]
+    # two places of one sender, each with a key, and the second alone
+    second = ((MEMORY, KEYS_WORD + 1, 1), (MEMORY, SEQUENCES_WORD + 32, 50))
+    for words in [((MEMORY, KEYS_WORD, 1),) + second + (none,), second + (none, none)]:
+        d += [(TIED,) + sum(words, ()) + last for last in [(0, 0, 0), (50, 0, 0), (50, 0, 1), (51, 0, 0)]]
     # each sender is watched by its own last number
     d += [(WATCH, 16, 2**32 - 50, s, n, 100) for s in (1, 2, 15, 16, 17) for n in (2**32 - 49, 51, 50, 1351, 1450, 1451, 1200)]
     return d + [(RECEIVE, RIGHT, RIGHT, STORE, LEDGER) + w for w in last] + [(FORGET, RIGHT, RIGHT) + w for w in last]

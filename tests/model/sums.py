@@ -20,7 +20,7 @@ def clock(ticks):
     """Of each entry the bar that it is in, and the steps that are not drawn as long as they are: entry, how far, tick."""
     steps = [b - a for a, b in zip(ticks, ticks[1:])]
     on = [step for step in steps if step > 0]
-    usual = max(1, sum(on) - sum(nlargest(1 + len(ticks) // 1000, on)))
+    usual = max(1, sum(on) - sum(nlargest(1 + len(ticks) // 1000 + min(len(ticks) // 8, 7), on)))
     short, wide = max(1, usual // 20), usual if len(ticks) > 3 else 2**64
     drawn = [short if step > wide else max(step, 0) for step in steps]
     bars = [now * BARS // (sum(drawn) + 1) for now in accumulate(drawn, initial=0)]

@@ -29,8 +29,10 @@ static void hold_delivered(const struct ref_answer *a, const u64 *told, const u8
     held(told[QM_EMPTIED_SEQUENCE] == (a->emptied ? a->emptied_key.sequence : 0), "emptied sequence", call);
     if (a->kind == REF_DELIVERED) {
         const u8 *given = a->in_store ? store : d, *ref_given = a->in_store ? ref_store : d;
-        held(told[QM_WHERE] == (a->in_store ? QM_IN_STORE : QM_IN_DATAGRAM) && told[QM_PAYLOAD_PLACE] == a->place && told[QM_PAYLOAD_LENGTH] == a->length, "place", call);
-        held(memcmp(given + told[QM_PAYLOAD_PLACE], ref_given + a->place, a->length) == 0, "payload", call);
+        /* the payload is looked at where the place is the right one */
+        int there = told[QM_WHERE] == (a->in_store ? QM_IN_STORE : QM_IN_DATAGRAM) && told[QM_PAYLOAD_PLACE] == a->place && told[QM_PAYLOAD_LENGTH] == a->length;
+        held(there, "place", call);
+        held(there && memcmp(given + a->place, ref_given + a->place, a->length) == 0, "payload", call);
         memcpy(ref_name, a->name, a->name_length);
         names_seen++;
     } else {

@@ -1,4 +1,4 @@
-"""The pages are true of the crates: docs/CONTRACTS.md, docs/PAPER.md, docs/REFUSALS.md."""
+"""The pages are true of the crates: docs/CONTRACTS.md, docs/PAPER.md, docs/TRUST.md, docs/REFUSALS.md."""
 import glob
 import os
 import re
@@ -34,6 +34,15 @@ def rows(faults, project, contracts):
         faults.rule((crate, name) in rowed, f"docs/CONTRACTS.md has no row of {crate} {name}")
 
 
+def in_order(faults, project, contracts):
+    """CONTRACTS has each crate under one heading, in the order of crates.txt."""
+    headed = [c for crates, _ in sections(contracts) for c in crates]
+    for crate, wanted in zip(headed + ["no heading"] * len(project.crates), project.crates):
+        if crate != wanted:
+            return faults.rule(False, f"docs/CONTRACTS.md has {crate} where {wanted} belongs: its headings go as crates.txt does, each crate once")
+    faults.rule(len(headed) == len(project.crates), f"docs/CONTRACTS.md has {' '.join(headed[len(project.crates):])} behind the last crate")
+
+
 def edits(faults, contracts):
     """Every must-fail edit says in its first line which wrong answer it is, and stands in docs/CONTRACTS.md."""
     for path in sorted(glob.glob("crates/*/must-fail/*.edit")):
@@ -67,6 +76,16 @@ def cited(faults, contracts, paper):
         faults.rule(word in stands, f"docs/CONTRACTS.md or PAPER.md cites {word}, which stands nowhere in crates/")
 
 
+def believed(faults, project):
+    """Every file of specs/ that a contract or a promise rests on stands in one of the tables of docs/TRUST.md: behind its crate (`crate` File, File), or behind some crates that share it."""
+    tabled = set()
+    for row in re.findall(r"^\|.*$", read("docs/TRUST.md"), re.M):
+        for crates, text in re.findall(r"((?:`\w+`(?:, | and )?)+)([^`]*)", row):
+            tabled |= {f"crates/{c}/specs/{file}.antt" for c in re.findall(r"\w+", crates) for file in re.findall(r"\b[A-Z]\w+", text)}
+    for path in sorted({i.file.path for i in project.reached(project.contracts + project.promises).values() if "/specs/" in i.file.path}):
+        faults.rule(path in tabled, f"docs/TRUST.md has {path} in no table, and a contract or a promise rests on it")
+
+
 def refusal_numbers():
     return re.findall(r"^\| (\d+) \|", read("docs/REFUSALS.md"), re.M)
 
@@ -82,6 +101,8 @@ def refusals(faults):
 def check(faults, project):
     contracts, paper = read("docs/CONTRACTS.md"), read("docs/PAPER.md")
     rows(faults, project, contracts)
+    in_order(faults, project, contracts)
     edits(faults, contracts)
     cited(faults, contracts, paper)
+    believed(faults, project)
     refusals(faults)

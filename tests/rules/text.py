@@ -13,8 +13,8 @@ MOST = 8  # arguments, and .before in a row
 OVER = set()
 # files of specs/ with definitions that nothing public reaches
 NOT_INSIDE = set()
-# the most characters of a line in proofs/
-LONGEST = 300
+# the most characters of a line
+LONGEST = {"src": 200, "specs": 200, "proofs": 300}
 OPERATORS = set("→ × ≡ λ ≤ < + * : ⌝ ⌜ ∷ ++ = ⊎ - / % ^ && || when else if then in let".split())
 # a word that hands on the number of a refusal
 REFUSES = r"(?:\w+\.)?(?:\w*[rR]efus\w*|bad|broken|noReport|Unread|Unwritten)"
@@ -89,16 +89,26 @@ def over(faults, met, item, name, count):
 # ---- what need not be believed
 
 
+def crates_in(project, text):
+    """The crates that a text names: `crate`, or by a file of it (`crate/File`, crates/crate/..)."""
+    return {w for w in re.findall(r"(?:`|\bcrates/)(\w+)(?=[`/])|\b(\w+)/\w+", text) for w in w if w in project.crates}
+
+
+def named_on(project, page):
+    """The public theorems that a page names where it names their crate: in that row or paragraph, in the heading above it, or at the page's head."""
+    head, *parts = re.split(r"^## ", read(f"docs/{page}.md"), flags=re.M)
+    for part in parts:
+        heading, _, text = part.partition("\n")
+        above = crates_in(project, head) | {w for w in re.findall(r"\w+", heading) if w in project.crates}
+        for told in re.split(r"\n(?=\||\n)", text):
+            crates = above | crates_in(project, told)
+            for word in re.findall(r"`([^`\s]+)`", told):
+                yield from (i for i in project.theorems.get(word, []) if i.file.crate in crates)
+
+
 def told_of(project):
     """What the pages promise: the contracts, the theorems that they name, and of a program the definitions that its section of CONTRACTS names."""
-    theorems = {}
-    for path in project.paths("*/proofs/*.antt"):
-        for item in project.file(path).items:
-            theorems.setdefault(item.name, []).append(item)
-    words = set(re.findall(r"`([^`\s]+)`", "".join(read(f"docs/{p}.md") for p in PAGES)))
-    out = list(project.contracts)
-    for item in (i for w in sorted(words) for i in theorems.get(w, [])):
-        out.append(project.statement(item) if item.kind == "definition" else item)
+    out = project.contracts + [project.statement(i) for page in PAGES for i in named_on(project, page)]
     for crates, text in pages.sections(read("docs/CONTRACTS.md")):
         files = [project.file(p) for c in crates if os.path.exists(f"crates/{c}/src/main.rt") for p in project.paths(f"{c}/specs/*.antt")]
         out += [f.by_name[w] for f in files for w in set(re.findall(r"`([^`\s]+)`", text)) if w in f.by_name]
@@ -130,17 +140,24 @@ def inside(faults, project):
 # ---- how rules, words and refusals are written
 
 CODE = r"(?:10|3[2-9]|[4-9]\d|1[01]\d|12[0-6])"
-CODES = {"antt": rf"(?:\b{CODE} ∷ ){{4}}", "rt": rf"(?:\b{CODE}(?:u8)?, *){{3}}{CODE}\b"}
+HEX = r"0x[2-7][0-9a-f]"
+CODES = {"antt": rf"(?:\b(?:{CODE}|{HEX}) ∷ ){{4}}", "rt": rf"(?:\b(?:{CODE}|{HEX})(?:u8)?, *){{3}}(?:{CODE}|{HEX})\b"}
+# the paper's own bytes, and raw logs, as they stand there
+RAW = ("marked/specs/Table", "count_laws/specs/Worked")
+# in worked cases the paper's words at least
+SPELLED = {word: " ∷ ".join(f"0x{ord(c):x}" for c in word) for word in ("LMCP", "PITSURV", "TILE")}
 
 
 def written(faults, project):
-    """No line of specs/ begins with `(pick`: chains are `_when_else_`. No list of four or more codes of characters in specs/ and src/, but in worked cases."""
+    """No line of specs/ begins with `(pick`: chains are `_when_else_`. No list of four or more codes of characters in specs/ and src/; in worked cases, which have datagrams, none of the paper's words."""
     for path in project.paths("*/specs/*.antt") + project.paths("*/src/*.rt"):
         text = bare(path, read(path))
         if path.endswith(".antt"):
             faults.rule(not re.search(r"^\s*\(pick\b", text, re.M), f"{path}: a line begins with (pick: write the chain by _when_else_")
-        if "Worked" not in path:
+        if "Worked" not in path and not any(raw in path for raw in RAW):
             faults.rule(not re.search(CODES[path.rpartition(".")[2]], text), f"{path} has a list of codes of characters: write the word by ascii, or *b\"..\"")
+        for word, codes in SPELLED.items() if not any(raw in path for raw in RAW) else ():
+            faults.rule(codes not in text, f"{path} has {word} as a list of codes: write it by ascii")
 
 
 def bare_refusals(faults, project):
@@ -168,10 +185,11 @@ def long_chains(faults, project):
 
 
 def short_lines(faults, project):
-    """No line of a proof over 300 characters: a reader's window ends before that."""
-    for path in project.paths("*/proofs/**/*.antt"):
+    """No line over 200 characters, of a proof none over 300: a reader's window ends before that."""
+    for path in project.paths("*/src/*.rt") + project.paths("*/specs/*.antt") + project.paths("*/proofs/**/*.antt"):
+        most = LONGEST[path.split("/")[2]]
         longest = max(map(len, read(path).split("\n")))
-        faults.rule(longest <= LONGEST, f"{path}: a line has {longest} characters, more than {LONGEST}")
+        faults.rule(longest <= most, f"{path}: a line has {longest} characters, more than {most}")
 
 
 def check(faults, project):

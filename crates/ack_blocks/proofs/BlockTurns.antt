@@ -7,6 +7,7 @@ use native.Mathlib.Omega.{arith}
 use lib.ListN.{length, drop, length-drop, drop-of-length-le}
 use lib.Seq.{drop-drop}
 use borrow.Author.Tests.{eq-eqb, ne-eqb, lt-ltb, le-ltb}
+use Rattle.wire.proofs.Choices.{or-false}
 use Rattle.ack_blocks.specs.Limits.{maxBlocks}
 use Rattle.ack_blocks.specs.Blocks.{Block, has, acknowledges}
 use Rattle.ack_blocks.specs.Read.{Given, gives, refuses, sizeIn, blockIn, faultIn, before, firstThen, blocksWithin, blocksIn, told, asked}
@@ -75,10 +76,6 @@ module _ (s : List ℕ) (f : Bool) (n at : ℕ) (inside : at < length s) where
 
   pub walk-bad : (faultIn (drop at s) ≡ 0 → ⊥) → also f (told n (blocksIn (drop at s))) ≡ refuses (faultIn (drop at s))
   walk-bad e = ap (λ (g : Given (List Block)). also f (told n g)) (blocks-bad (drop at s) some-left e)
-
-or-false : (a : Bool) → (a || false) ≡ a
-or-false true = refl
-or-false false = refl
 
 pub walk-end : (s : List ℕ) (f : Bool) (n at : ℕ) → length s ≤ at → also f (told n (blocksIn (drop at s))) ≡ gives f
 walk-end s f n at h =

@@ -7,15 +7,11 @@ use lib.Dec.{eqb, ltb}
 use lib.ListN.{length, take, drop}
 use Rattle.wire.specs.Choice.{pick, _when_else_}
 use Rattle.wire.specs.Bytes.{be}
+pub use Rattle.wire.specs.Given.{Given, gives, refuses}
 use Rattle.ack_blocks.specs.Limits.{maxBlocks, largest, kindSingle, kindRun, kindMap, singleLength, runLength, mapHead}
 use Rattle.ack_blocks.specs.Blocks.{Block, single, run, map, acknowledges}
 use Rattle.ack_blocks.specs.declared.Answer.{Answer}
 use Rattle.ack_blocks.specs.declared.Answer.the-variants.{Yes, No, Refused}
-
--- what is answered: something, or a number of refusal
-pub data Given (X : Type 0) : Type 0 where
-  gives : X → Given X
-  refuses : ℕ → Given X
 
 -- ---- the block at the front of b, by its offsets
 

@@ -12,7 +12,8 @@ use Rattle.ack_writer.specs.declared.Written.{Written}
 use Rattle.ack_writer.specs.declared.Written.the-variants as written
 use Rattle.ack_writer.proofs.Trips.{write-bytes}
 use Rattle.text.specs.Text.{decimal, hex}
-use Rattle.ack_bytes.specs.Lines.{listLimit, recordList, recordAnswer, bytesText, answerText, writtenText, longerText, line}
+use Rattle.ack_bytes.specs.Lines.{listLimit, recordList, recordAnswer, bytesText, answerText, longerText, line}
+use Rattle.ack_bytes.specs.InsideLines.{writtenText}
 
 -- ---- the blocks as text
 

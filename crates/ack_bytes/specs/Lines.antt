@@ -1,28 +1,23 @@
 -- The lines of the program `ack_bytes`, in ASCII, and what they are about. Definitions only.
 use mathlib.Core.List.{List, [], _∷_, _++_}
-use Prim.Native.Nat.{ℕ, zero, suc, _/_, _%_}
+use Prim.Native.Nat.{ℕ, _/_, _%_}
 use lib.Dec.{eqb, ltb}
-use lib.ListN.{length, take, drop}
+use lib.ListN.{length}
 use Rattle.wire.specs.Text.{ascii}
 use Rattle.wire.specs.Choice.{pick}
-use Rattle.wire.specs.Bytes.{be}
 use Rattle.ack_blocks.specs.Limits.{maxBlocks}
 use Rattle.ack_blocks.specs.Read.{Given, gives, refuses}
 use Rattle.ack_writer.specs.Write.{bytesOf, writtenOf}
-use Rattle.ack_writer.specs.declared.Written.{Written}
-use Rattle.ack_writer.specs.declared.Written.the-variants.{Bytes, Refused}
 use Rattle.text.specs.Text.{decimal, hex}
-use Rattle.record_lines.specs.Streams.{Stream}
+use Rattle.record_lines.specs.Streams.{Stream, numbersIn}
 use Rattle.record_lines.specs.Lines.{linesOf}
 
 -- the numbers that the program holds
 abbrev pub listLimit : ℕ
 listLimit = 65_536
 
--- the first n numbers of a record, of 8 bytes each
 abbrev pub numbersOf : ℕ → List ℕ → List ℕ
-numbersOf zero b = []
-numbersOf (suc n) b = be 8 b ∷ numbersOf n (drop 8 b)
+numbersOf = numbersIn (λ x. x)
 
 abbrev pub recordList : List ℕ → List ℕ
 recordList b = numbersOf (length b / 8) b
@@ -40,11 +35,6 @@ bytesText (x ∷ b) = ascii " bytes " ++ hex (x ∷ b) ++ ascii "\n"
 abbrev pub answerText : Given ℕ → List ℕ → List ℕ
 answerText (refuses number) b = ascii " refused " ++ decimal number ++ ascii "\n"
 answerText (gives n) b = bytesText b
-
--- the same of the code's answer and of the output that it left
-abbrev pub writtenText : List ℕ → Written → List ℕ
-writtenText blocks (Bytes k) = bytesText (take k blocks)
-writtenText blocks (Refused number) = ascii " refused " ++ decimal number ++ ascii "\n"
 
 -- " longer than 65536 numbers"
 abbrev pub longerText : List ℕ

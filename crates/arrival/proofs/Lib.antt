@@ -9,11 +9,11 @@ pub mod Whole
 pub mod Demand3
 pub mod WithinCalls
 pub mod Runs
-pub mod Ours
+pub mod OurCutter
 pub mod Tests
 pub mod Newer
 pub mod Beside
 pub mod Watched
 pub mod Strangers
-pub mod Anew
+pub mod SendingAgain
 pub mod StrangersRuns

@@ -9,6 +9,7 @@ use Rattle.wire.specs.Choice.{pick}
 use Rattle.steps.specs.Receive.{After, opened, step}
 use Rattle.steps.specs.Answers.{reply}
 use Rattle.steps.specs.Runs.{World, keyIn, run, heard}
+use Rattle.receiver_state.proofs.Unique.{shaped-still}
 use Rattle.receiver.specs.declared.Outcome.{Outcome}
 use Rattle.receiver.specs.declared.Call.{Call}
 use Rattle.receiver_state.specs.View.{view, shaped}
@@ -29,9 +30,6 @@ record Shows (σ : Scene) (f : Feed) (l : Lent) : Type 0 where
   store : l .store ≡ after σ f .store
   ledger : l .ledger ≡ after σ f .ledger
 
-pub shaped-on : (w n w′ n′ : List ℕ) → length w′ ≡ length w → length n′ ≡ length n → shaped w n ≡ true → shaped w′ n′ ≡ true
-shaped-on w n w′ n′ a b e = rw (a, b) e
-
 -- an opening that is not refused was of a state and names of their lengths
 pub was-shaped : (b : Bool) → pick {X = Option ℕ} b none (some 9) ≡ none → b ≡ true
 was-shaped true e = refl
@@ -44,7 +42,7 @@ module _ (σ : Scene) where
   opening-shows w n r w′ n′ o q =
       let s : shaped w n ≡ true = was-shaped (shaped w n) (sym (o .gave) ∙ q) in
       record {
-        shape = shaped-on w n w′ n′ (o .words) (o .bytes) s;
+        shape = shaped-still w n w′ n′ (o .words) (o .bytes) s;
         machine = o .machine ∙ ap (λ (b : Bool). pick b (opened (length (σ .store))) (view w n)) s;
         store = refl;
         ledger = refl;
@@ -60,7 +58,7 @@ module _ (σ : Scene) where
         (k : Receives l (senderOf σ e) (bytesOf σ e) r l′) where
       call-shows : Shows σ (f ▹ e) l′
       call-shows = record {
-        shape = shaped-on (l .state) (l .names) (l′ .state) (l′ .names) (k .words) (k .bytes) (h .shape);
+        shape = shaped-still (l .state) (l .names) (l′ .state) (l′ .names) (k .words) (k .bytes) (h .shape);
         machine = k .leaves .machine ∙ ap (λ (a : After). a .machine) received-is ∙ sym (ap (λ (w : World). w .machine) (after-more σ f e));
         store = k .leaves .store ∙ ap (λ (a : After). a .store) received-is ∙ sym (ap (λ (w : World). w .store) (after-more σ f e));
         ledger = k .leaves .ledger ∙ ap (λ (a : After). a .ledger) received-is ∙ sym (ap (λ (w : World). w .ledger) (after-more σ f e));

@@ -25,7 +25,7 @@ use Rattle.steps.specs.Slots.{Slot, busy, findOpen, opening, seat}
 use Rattle.steps.specs.Receive.{Machine, After, stay, step5, beginAt, receive, sound, sequenceOf}
 use Rattle.steps.specs.Runs.{World, worldOf, Arrival, keyIn, call}
 use Rattle.steps.specs.Reach.{found, isAccepted}
-use Rattle.steps.proofs.Quick.{step5-ledger}
+use Rattle.steps.proofs.RunComputed.{step5-ledger}
 use Rattle.steps.proofs.Tables.{not-true, not-false, and-no, all-at, all-of, all-none, all-cong}
 use Rattle.steps.proofs.Seats.{set-there, set-here}
 use Rattle.steps.proofs.Stores.{part-fits}

@@ -9,53 +9,54 @@ use Rattle.steps.proofs.Limited.{within-reached}
 use Rattle.steps.specs.Answers.{reply}
 use Rattle.steps.specs.Runs.{World, lending, worldOf, Arrival, keyIn, call}
 use Rattle.steps.specs.Reach.{Reached, opens, receives, forgets, isAccepted}
+use Rattle.receiver_state.proofs.Unique.{shaped-still}
 use Rattle.receiver.specs.declared.Outcome.{Outcome}
 use Rattle.receiver.specs.declared.Call.{Call}
 use Rattle.receiver_state.specs.View.{view, shaped}
-use Rattle.receiver.specs.Lent.{Lent, lent}
+use Rattle.receiver.specs.Lent.{Lent, lent, worldIn}
 use Rattle.receiver.specs.Calls.{Receives, received, Forgets, forgotten}
 use Rattle.arrival.specs.Demand.{Message, datagram, handedBy, nameIn}
 use Rattle.arrival.specs.Strangers.{Start, part, Begins, Feed, after}
 use Rattle.arrival.specs.Strangers as strange
-use Rattle.arrival.specs.StrangersRuns.{Led, by-open, by-receive, by-within, by-forget, shown, startOf, Calls, begins, takes, drops, turns-away, hands, CodeBegins, CodePromised, CodeStrangers}
+use Rattle.arrival.specs.StrangersRuns.{Led, by-open, by-receive, by-within, by-forget, startOf, Calls, begins, takes, drops, turns-away, hands, CodeBegins, CodePromised, CodeStrangers}
 use Rattle.arrival.specs.ArrivalCalls.{receivedWithin}
 use Rattle.arrival.proofs.WithinCalls.{takes-are, turned-same}
-use Rattle.arrival.proofs.Runs.{shaped-on, was-shaped}
+use Rattle.arrival.proofs.Runs.{was-shaped}
 use Rattle.arrival.proofs.Strangers.{strangers}
 
 -- ---- the states that calls lead to are states that the step list reaches
 
-record LedTo (n : ℕ) (w nm : List ℕ) : Type 0 where
-  shape : shaped w nm ≡ true
-  reached : Reached n (view w nm)
+pub record LedTo (n : ℕ) (w nm : List ℕ) : Type 0 where
+  pub shape : shaped w nm ≡ true
+  pub reached : Reached n (view w nm)
 
-led-to : {n : ℕ} {w nm : List ℕ} → Led n w nm → LedTo n w nm
+pub led-to : {n : ℕ} {w nm : List ℕ} → Led n w nm → LedTo n w nm
 unfolding received forgotten
 led-to {n} (by-open w nm r w′ nm′ o q) =
     let s : shaped w nm ≡ true = was-shaped (shaped w nm) (sym (o .gave) ∙ q) in
     record {
-      shape = shaped-on w nm w′ nm′ (o .words) (o .bytes) s;
+      shape = shaped-still w nm w′ nm′ (o .words) (o .bytes) s;
       reached = subst (Reached n) (sym (o .machine ∙ ap (λ (b : Bool). pick b (opened n) (view w nm)) s)) opens;
     }
 led-to {n} (by-receive {w = w} {nm = nm} l store ledger sender d r l′ k) =
     let t : LedTo n w nm = led-to l in
     let e : received (lent w nm store ledger) sender d .machine ≡ step (view w nm) store ledger sender d .machine = rw (t .shape) in
     record {
-      shape = shaped-on w nm (l′ .state) (l′ .names) (k .words) (k .bytes) (t .shape);
+      shape = shaped-still w nm (l′ .state) (l′ .names) (k .words) (k .bytes) (t .shape);
       reached = subst (Reached n) (sym (k .leaves .machine ∙ e)) (receives (t .reached) store ledger sender d);
     }
 led-to {n} (by-within {w = w} {nm = nm} l payload fragments store ledger x r l′ k) =
     let t : LedTo n w nm = led-to l in
     let e : receivedWithin payload fragments (lent w nm store ledger) x .machine ≡ stepWithin payload fragments (view w nm) store ledger (x .sender) (x .datagram) .machine = rw (t .shape) in
     record {
-      shape = shaped-on w nm (l′ .state) (l′ .names) (k .words) (k .bytes) (t .shape);
+      shape = shaped-still w nm (l′ .state) (l′ .names) (k .words) (k .bytes) (t .shape);
       reached = subst (Reached n) (sym (k .leaves .machine ∙ e)) (within-reached payload fragments (view w nm) store ledger (x .sender) (x .datagram) (t .reached));
     }
 led-to {n} (by-forget {w = w} {nm = nm} l sender r w′ nm′ k) =
     let t : LedTo n w nm = led-to l in
     let e : forgotten w nm sender .machine ≡ forget (view w nm) sender .machine = rw (t .shape) in
     record {
-      shape = shaped-on w nm w′ nm′ (k .words) (k .bytes) (t .shape);
+      shape = shaped-still w nm w′ nm′ (k .words) (k .bytes) (t .shape);
       reached = subst (Reached n) (sym (k .machine ∙ e)) (forgets (t .reached) sender);
     }
 
@@ -63,7 +64,7 @@ led-to {n} (by-forget {w = w} {nm = nm} l sender r w′ nm′ k) =
 
 record Shows (w : World) (l : Lent) : Type 0 where
   shape : shaped (l .state) (l .names) ≡ true
-  world : shown l ≡ w
+  world : worldIn l ≡ w
 
 module _ (w : World) (l : Lent) (h : Shows w l) (x : Arrival) (r : Outcome) (l′ : Lent) (k : Receives l (x .sender) (x .datagram) r l′) where
   received-is : received l (x .sender) (x .datagram) ≡ call w x
@@ -72,7 +73,7 @@ module _ (w : World) (l : Lent) (h : Shows w l) (x : Arrival) (r : Outcome) (l�
 
   takes-shows : Shows (worldOf (call w x)) l′
   takes-shows = record {
-    shape = shaped-on (l .state) (l .names) (l′ .state) (l′ .names) (k .words) (k .bytes) (h .shape);
+    shape = shaped-still (l .state) (l .names) (l′ .state) (l′ .names) (k .words) (k .bytes) (h .shape);
     world = λ i. worldOf (record {
       machine = (k .leaves .machine ∙ ap (λ (a : After). a .machine) received-is) i;
       store = (k .leaves .store ∙ ap (λ (a : After). a .store) received-is) i;
@@ -97,7 +98,7 @@ unfolding forgotten
 drops-shows w l h sender r v nm k =
     let e : forgotten (l .state) (l .names) sender .machine ≡ forget (view (l .state) (l .names)) sender .machine = rw (h .shape) in
     record {
-      shape = shaped-on (l .state) (l .names) v nm (k .words) (k .bytes) (h .shape);
+      shape = shaped-still (l .state) (l .names) v nm (k .words) (k .bytes) (h .shape);
       world = (λ i. lending ((k .machine ∙ e) i) (l .store) (l .ledger)) ∙ ap (λ (u : World). lending (forget (u .machine) sender .machine) (u .store) (u .ledger)) (h .world);
     }
 

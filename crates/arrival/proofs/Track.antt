@@ -16,9 +16,10 @@ use Rattle.wire.proofs.Choices.{either, never, or-of-right}
 use Rattle.steps.specs.declared.Key.{Key}
 use Rattle.steps.specs.Limits.{slotCount, ledgerLength}
 use Rattle.steps.specs.Search.{one, count}
-use Rattle.steps.specs.Memory.{sameKey, among, FewSenders, Recent}
+use Rattle.steps.specs.Memory.{sameKey, among, FewSenders}
 use Rattle.steps.proofs.Tables.{or-not, or-yes, all-at, all-of, all-not, all-cong}
 use Rattle.steps.proofs.Memories.{same-key, key-same}
+use Rattle.steps.proofs.Latest.{Recent}
 use Rattle.arrival.specs.Demand.{Message, Scene, nobody, Distinct, EachSent, SentCut, SentSmall, Sent, key, parts, size, message, slotBytes, Event, part, noise, Feed}
 use Rattle.arrival.specs.Demand.{start, _▹_, RefusedForForm, MayCome, Mixture, NeverOverEight, AtMost16Senders, StillKnown, NeverTooLate, got, begun, done, completes, completed, keysOf, unfinished, push}
 

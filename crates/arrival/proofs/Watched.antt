@@ -34,7 +34,7 @@ use Rattle.steps.proofs.Tables.{all-at, all-cong, or-not, or-yes}
 use Rattle.steps.proofs.Memories.{key-same, whole-ok, remember-other, forget-other}
 use Rattle.steps.proofs.Seats.{unturned, look, busyAt, keyAt, Found, open-found, open-none, same-its-key, set-there, set-here}
 use Rattle.steps.proofs.Stores.{part-fits}
-use Rattle.steps.proofs.Quick.{step5-ledger}
+use Rattle.steps.proofs.RunComputed.{step5-ledger}
 use Rattle.steps.proofs.Branches.{Course, unmoved, given, joined, begun, course, step-sound, fragment-open, step5-delivered, step5-kept, step5-stores}
 use Rattle.steps.proofs.Ranks.{Sat}
 use Rattle.steps.proofs.Reaches.{Good, Tidy, good-sound, good-form, seat-sat, begun-tidy, begun-busy, step-good, good-released, forget-good, other-key as differs}

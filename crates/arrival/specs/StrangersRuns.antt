@@ -5,12 +5,12 @@ use mathlib.Core.Bool.{true, false}
 use mathlib.Core.Option.{Option, none, some}
 use mathlib.Core.List.{List}
 use Prim.Native.Nat.{ℕ, _<_}
-use Rattle.steps.specs.Runs.{World, lending, Arrival}
+use Rattle.steps.specs.Runs.{Arrival}
 use Rattle.steps.specs.Reach.{isOpen, isAccepted}
 use Rattle.receiver.specs.declared.Outcome.{Outcome}
 use Rattle.receiver.specs.declared.Call.{Call}
 use Rattle.receiver_state.specs.View.{view}
-use Rattle.receiver.specs.Lent.{Lent, lent}
+use Rattle.receiver.specs.Lent.{Lent, lent, worldIn}
 use Rattle.receiver.specs.Calls.{refusalOf, Receives, Forgets}
 use Rattle.open_and_payload.specs.Ends.{Opens}
 use Rattle.arrival.specs.Demand.{Message, InFragments, key, parts, Delivery}
@@ -28,13 +28,9 @@ pub data Led (n : ℕ) : List ℕ → List ℕ → Type 0 where
       → TakesWithin payload fragments (lent w nm store ledger) x r l′ → Led n (l′ .state) (l′ .names)
   by-forget : {w nm : List ℕ} → Led n w nm → (sender : ℕ) (r : Call) (w′ nm′ : List ℕ) → Forgets w nm sender r w′ nm′ → Led n w′ nm′
 
--- what is lent shows this world
-abbrev pub shown : Lent → World
-shown l = lending (view (l .state) (l .names)) (l .store) (l .ledger)
-
 -- the message, what is lent when its first fragment comes, and that fragment's number
 abbrev pub startOf : Message → Lent → ℕ → Start
-startOf m l k = record { message = m; world = shown l; first = k }
+startOf m l k = record { message = m; world = worldIn l; first = k }
 
 -- Since its first fragment left l₁, each event of the feed was a call with what the call before left: this is lent now. Calls of `receive_within` that refuse may
 -- stand among them.

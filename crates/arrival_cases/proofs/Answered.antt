@@ -17,7 +17,7 @@ use Rattle.steps.specs.Slots.{oldest, openCount, lower, release, seat, opening,
 use Rattle.steps.specs.Receive.{opened, stay, sameFragment, agrees, step3, decide, step5, act, receive, sound, step}
 use Rattle.steps.specs.Runs.{Arrival, from, run}
 use Rattle.steps.specs.Worked.{inFours, A-of, B-of}
-use Rattle.steps.proofs.Quick.{runAt, run-at}
+use Rattle.steps.proofs.RunComputed.{runAt, run-at}
 use Rattle.arrival_cases.specs.Shown.{Shown, shown, withSlotsOf, Scene, shows, scenes, storedTwo, ledgerTwo, orderKept, firstPlaces}
 
 abbrev showsQuickly : Scene → List Shown

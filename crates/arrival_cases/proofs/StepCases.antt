@@ -13,7 +13,7 @@ use Rattle.steps.specs.Memory.{among, emptyMemory, isRemembered, remember, reme
 use Rattle.steps.specs.Slots.{oldest, openCount, lower, release, releaseOf, seat, opening, filled}
 use Rattle.steps.specs.Receive.{opened, stay, sameFragment, agrees, step3, decide, step5, act, receive, sound, step, forget}
 use Rattle.steps.specs.Worked.{inFours, A-of, B-of, Case, hears, ofMany, slotSizes, pastMemory, besideMast, seventeenth, forgottenKeys, placeFreed, openAfter, memoryTold}
-use Rattle.steps.proofs.Quick.{runAt}
+use Rattle.steps.proofs.RunComputed.{runAt}
 use Rattle.steps.proofs.Answered.{quickly, hears-so}
 
 computed : map quickly ofMany ≡ map (λ (c : Case). c .answered) ofMany

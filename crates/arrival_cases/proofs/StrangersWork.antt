@@ -20,7 +20,7 @@ use Rattle.steps.specs.Receive.{opened, stay, sameFragment, agrees, step3, deci
 use Rattle.steps.specs.Runs.{World, Arrival, from, call, run, leftBy}
 use Rattle.steps.specs.Limits.{ledgerLength, slotSizeOf}
 use Rattle.steps.specs.Answers.{emptiedKey}
-use Rattle.steps.specs.Reach.{Reached, opens, receives, isOpen, isAccepted, opensSlot}
+use Rattle.steps.specs.Reach.{Reached, opens, receives, forgets, isOpen, isAccepted, opensSlot}
 use Rattle.steps.specs.Worked.{inFours, A-of, B-of, begunBelow}
 use borrow.Author.Tests.{ltb-true}
 use Rattle.steps.proofs.Tables.{not-true}
@@ -28,10 +28,10 @@ use Rattle.steps.proofs.Reaches.{reached-in-order}
 use Rattle.arrival.specs.Demand.{InFragments, key, parts}
 use Rattle.arrival_cases.specs.Worked.{small-of, A-gap, B-gap, paperScene, paperFeed, singleScene, singleFeed}
 use Rattle.arrival.specs.Strangers.{Start, part, Begins, Feed, begun, after, noForeign, openings, complete, Supposed, its, handsOver, Empties}
-use Rattle.arrival_cases.specs.StrangersWorked.{ours, startAfter, freshStart, fullStart, A, begins, sevenFeed, floodFeed, singleStart, bareStart, sevenMore, eighthMore, againStart, oddStart, Asked, asked, allMet, AllAsked, EachNeeded}
+use Rattle.arrival_cases.specs.StrangersWorked.{ours, startIn, freshStart, fullStart, A, begins, sevenFeed, floodFeed, singleStart, bareStart, sevenMore, eighthMore, againStart, deliveredOnce, forgottenOnce, oddStart, Asked, asked, allMet, AllAsked, EachNeeded}
 use Rattle.arrival.proofs.Tests.{tested}
 use Rattle.arrival_cases.proofs.Works.{paper-meets, single-meets}
-use Rattle.arrival.proofs.Anew.{sent-again}
+use Rattle.arrival.proofs.SendingAgain.{sent-again}
 use Rattle.arrival.proofs.Strangers.{strangers}
 
 -- calls of `step` lead to states that calls can reach
@@ -60,8 +60,10 @@ unfolding asked noForeign openings complete opensSlot after run inFours step sou
 all-asked = record {
   seven = refl;
   flood = refl;
+  once-forgotten = refl;
   seven-handed = refl;
   flood-handed = refl;
+  forgotten-handed = refl;
   eight = refl;
   foreign = refl;
   forgotten = refl;
@@ -94,7 +96,7 @@ pub odd-unreached : (n : ℕ) → Reached n (oddStart .world .machine) → ⊥
 unfolding openCount noneHeld
 odd-unreached n r = let z : 100 < 7 = reached-in-order n (oddStart .world .machine) r .turns-below 0 (lit< tt) refl in omega arith
 
--- ---- what the theorem gives of the two feeds that meet its premises
+-- ---- what the theorem gives of the feeds that meet its premises
 
 supposed-by : (σ : Start) (f : Feed) (x : Arrival) → asked σ f x ≡ allMet → Supposed σ f
 unfolding asked
@@ -105,15 +107,15 @@ supposed-by σ f x e = record {
   missing = not-true _ (ap (λ (t : Asked). t .missing) e);
 }
 
-module _ (xs : List Arrival) (f : Feed) (x : Arrival) (e : asked (startAfter xs) f x ≡ allMet) where
+module _ (w : World) (r : Reached 32 (w .machine)) (f : Feed) (x : Arrival) (e : asked (startIn w) f x ≡ allMet) where
   abbrev σ : Start
-  σ = startAfter xs
+  σ = startIn w
 
   begins-so : Begins σ
   unfolding asked
   begins-so = record {
     opened-over = 32;
-    reached = run-reached inFours fresh-reached xs;
+    reached = r;
     lawful = ours-lawful;
     its-own = lit< tt;
     not-open = not-true _ (ap (λ (t : Asked). t .not-open) e);
@@ -126,10 +128,17 @@ module _ (xs : List Arrival) (f : Feed) (x : Arrival) (e : asked (startAfter xs)
 
 -- with seven openings by a stranger, from a state with all eight slots open; and in a flood
 pub seven-promised : handsOver (after fullStart sevenFeed) A ≡ some (its ours)
-seven-promised = promised (map (from 1) (begunBelow 8 [])) sevenFeed A (all-asked .seven)
+seven-promised = promised (fullStart .world) (run-reached inFours fresh-reached (map (from 1) (begunBelow 8 []))) sevenFeed A (all-asked .seven)
 
 pub flood-promised : handsOver (after freshStart floodFeed) A ≡ some (its ours)
-flood-promised = promised [] floodFeed A (all-asked .flood)
+flood-promised = promised (freshStart .world) (run-reached inFours fresh-reached []) floodFeed A (all-asked .flood)
+
+-- a state that calls reach with a forget among them: the key was delivered, and its sender forgotten
+delivered-reached : Reached 32 (deliveredOnce .machine)
+delivered-reached = run-reached inFours fresh-reached (from 0 (B-of 7) ∷ from 0 (A-of 7) ∷ [])
+
+pub forgotten-promised : handsOver (after (startIn forgottenOnce) begun) A ≡ some (its ours)
+forgotten-promised = promised forgottenOnce (forgets delivered-reached 0) begun A (all-asked .once-forgotten)
 
 -- ---- a message in one fragment
 

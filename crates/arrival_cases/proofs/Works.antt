@@ -1,6 +1,7 @@
 -- The premises of demand 3 can be met: worked scenes and feeds that meet them, by computation.
 use mathlib.Core.Path.{_≡_, refl}
 use mathlib.Core.Bool.{false}
+use mathlib.Core.Option.{none}
 use lib.Dec.{lit<}
 use Rattle.wire.specs.Bytes.{be}
 use Rattle.names.specs.Name.{goodName}
@@ -8,10 +9,11 @@ use Rattle.datagram.specs.Name.{untilZero, nameLength}
 use Rattle.datagram.specs.Read.{readSmall, goodForm, formed, readFragment, readDatagram}
 use Rattle.datagram.specs.Said.{said}
 use Rattle.cutter.specs.Trip.{joined}
-use Rattle.steps.specs.Memory.{since}
+use Rattle.steps.specs.Memory.{keyOf, since}
 use Rattle.steps.specs.Slots.{busy, slotAt}
+use Rattle.steps.specs.Answers.{emptiedKey}
 use Rattle.steps.specs.Worked.{A-of, B-of}
-use Rattle.arrival.specs.Demand.{done, unfinished, completes, completed, after, Promised, AllAnswered}
+use Rattle.arrival.specs.Demand.{part, start, _▹_, done, unfinished, completes, completed, call, after, deliveries, timesOf, fedWhole, oneAfterAnother, Promised, AllAnswered}
 use Rattle.arrival_cases.specs.Worked.{small-of, paperScene, paperFeed, nineScene, fromEach, nineFeed, mastScene, mastFeed, sixteenScene, sixteenFeed, edgeScene, edgeFeed, oneScene, strayFeed, singleScene, singleFeed, bareScene, bareFeed}
 use Rattle.arrival.proofs.Tests.{tests, allPass, tested}
 use Rattle.arrival.proofs.Demand3.{demand3, each-answered}
@@ -85,3 +87,19 @@ bare-promised = demand3 bareScene bareFeed (tested bareScene bareFeed bare-meets
 -- the last slot, which was open, is closed too
 pub last-slot-closed : busy (slotAt (after nineScene nineFeed .machine .slots) 7) ≡ false
 last-slot-closed = nine-promised .none-open 7 (lit< tt)
+
+-- ---- what else is promised of them
+
+-- the tile is delivered once, though its B came again
+pub paper-once : timesOf (keyOf 0 7) (deliveries paperScene paperFeed) ≡ 1
+paper-once = paper-promised .once 0 (lit< tt)
+
+-- the memory of keys is as if the small message and then the tile had been fed whole
+pub paper-memory : after paperScene paperFeed .machine .memory ≡ after paperScene (start ▹ part 1 0 ▹ part 0 0 ▹ part 0 1) .machine .memory
+unfolding oneAfterAnother fedWhole completed completes done
+paper-memory = paper-promised .same-memory
+
+-- the ninth message, which begins with seven open, empties no key
+pub nine-spares : emptiedKey (call nineScene (after nineScene (fromEach start 1 0 8 ▹ part 0 0)) (part 8 1) .emptied) ≡ none
+unfolding fromEach
+nine-spares = nine-promised .none-emptied .0 .0 .0 .0 .0 .0 .0 .0 .1

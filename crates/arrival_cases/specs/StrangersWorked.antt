@@ -1,4 +1,4 @@
--- Worked feeds for the promise with strangers about: two that meet its premises, and for each premise one without it. Definitions only.
+-- Worked feeds for the promise with strangers about: some that meet its premises, and for each premise one without it. Definitions only.
 use mathlib.Core.Path.{_≡_}
 use mathlib.Core.Bool.{Bool, true, false, not}
 use mathlib.Core.Option.{none, some}
@@ -10,6 +10,7 @@ use Rattle.steps.specs.Limits.{slotCount, ledgerLength}
 use Rattle.steps.specs.Held.{noneHeld}
 use Rattle.steps.specs.Memory.{keyOf, emptyMemory}
 use Rattle.steps.specs.Slots.{Slot, noSlot, noName}
+use Rattle.steps.specs.Receive.{forget}
 use Rattle.steps.specs.Runs.{World, lending, fresh, Arrival, from, call, run, leftBy}
 use Rattle.steps.specs.Reach.{isOpen, isAccepted}
 use Rattle.steps.specs.Worked.{inFours, headOf, A-of, B-of, begunBelow}
@@ -22,9 +23,12 @@ use Rattle.arrival.specs.Strangers.{Start, part, comes, forgets, Feed, begun, _
 abbrev pub ours : Message
 ours = inTwo 7
 
+abbrev pub startIn : World → Start
+startIn w = record { message = ours; world = w; first = 1 }
+
 -- after these arrivals at a fresh receiver
 abbrev pub startAfter : List Arrival → Start
-startAfter xs = record { message = ours; world = leftBy inFours (run inFours xs); first = 1 }
+startAfter xs = startIn (leftBy inFours (run inFours xs))
 
 abbrev pub freshStart : Start
 freshStart = startAfter []
@@ -77,6 +81,14 @@ eighthMore = from 1 (B-of 9)
 -- and then its B again
 abbrev pub againStart : Start
 againStart = nextAfter sevenMore eighthMore ours 1
+
+-- ---- a message that was delivered, and then its sender forgotten, is sent again: its B begins it
+
+abbrev pub deliveredOnce : World
+deliveredOnce = leftBy inFours (run inFours (from 0 (B-of 7) ∷ from 0 (A-of 7) ∷ []))
+
+abbrev pub forgottenOnce : World
+forgottenOnce = lending (forget (deliveredOnce .machine) 0 .machine) (deliveredOnce .store) (deliveredOnce .ledger)
 
 -- ---- feeds that break the promise, each for want of one premise
 
@@ -152,12 +164,14 @@ gives a b c d e f g = record { not-open = a; accepted = b; no-foreign = c; few-o
 abbrev pub allMet : Asked
 allMet = gives true true true true true true true
 
--- the two feeds meet the premises, and A is answered with the message; of each other feed all tests but one pass (what is lawful, and what is reached, is no test)
+-- the first three meet the premises, and A is answered with the message; of each other feed all tests but one pass (what is lawful, and what is reached, is no test)
 pub record AllAsked : Type 0 where
   pub seven : asked fullStart sevenFeed A ≡ allMet
   pub flood : asked freshStart floodFeed A ≡ allMet
+  pub once-forgotten : asked (startIn forgottenOnce) begun A ≡ allMet
   pub seven-handed : handsOver (after fullStart sevenFeed) A ≡ some (its ours)
   pub flood-handed : handsOver (after freshStart floodFeed) A ≡ some (its ours)
+  pub forgotten-handed : handsOver (after (startIn forgottenOnce) begun) A ≡ some (its ours)
   pub eight : asked freshStart eightFeed A ≡ gives true true true false true true true
   pub foreign : asked freshStart foreignFeed A ≡ gives true true false true true true true
   pub forgotten : asked freshStart forgottenFeed A ≡ gives true true true true false true true

@@ -20,14 +20,14 @@ use Rattle.log.specs.declared.reader.Limits.{Limits}
 use Rattle.log.specs.Editions.{limitsIn}
 use Rattle.log.specs.Entries.{Entry}
 use Rattle.log.specs.Listed.{Listed, whole, broken, entriesIn}
-use Rattle.log.specs.Told.{readOn, readAll}
-use Rattle.log.proofs.Onward.{read-all}
+use Rattle.log.specs.Said.{readOn, readAll}
+use Rattle.log.proofs.ReadingOn.{read-all}
 use Rattle.sorted_set.specs.Lists.{In}
 use Rattle.count_rules.specs.Marks.{PitList}
 use Rattle.count_rules.specs.Report.{report}
 use Rattle.count_rules.specs.Run.{payloads, listsRead}
 use Rattle.count_rules.specs.Count.{maxEntries, maxTiles, firstFault, reportOf, Outcome, reported, noReport, answersTo, unless, countEntries, countListed, countLog}
-use Rattle.count_rules.specs.Walk.{Held, seenAfter, atFirst, walk, walkEntries, leftAfter, heldBy}
+use Rattle.count_rules.specs.Walk.{seenAfter, atFirst, walk, walkEntries, leftAfter, heldBy, loanOf}
 use Rattle.count_rules.proofs.Seen.{seen-report}
 use Rattle.count_rules.proofs.EntryByEntry.{walk-agrees}
 use Rattle.pit_marks.specs.declared.Sizes.{Sizes}
@@ -36,7 +36,7 @@ use Rattle.pit_marks.proofs.Told.{has-none}
 use Rattle.stretch.specs.declared.Stop.the-variants as stop
 use Rattle.stretch.specs.declared.Stretch.{Stretch}
 use Rattle.stretch.specs.Stretch.{Desk, Kit, kitOf, inShape, Stretched, stretch, Clean, stopFault, entriesOf, totalsOf, stretchOf, CountsOn}
-use Rattle.stretch.proofs.Laws.{clean-zero, clean-answers, refused-some}
+use Rattle.stretch.proofs.StretchAnswers.{clean-zero, clean-answers, refused-some}
 use Rattle.count.specs.declared.Counted.{Counted}
 use Rattle.count.specs.declared.Surveyed.{Surveyed}
 use Rattle.count.specs.declared.Surveyed.the-variants as surveyed
@@ -57,9 +57,7 @@ module _ (log store ledger : List ℕ) (list : List ℤ) where
         outcome = noReport n;
         says = record {
           gave = sym (ap (countListed (limitsIn log) (length list) store ledger) e ∙ q);
-          store-left = ap (λ (x : Held). x .world .store) (sym k);
-          ledger-left = ap (λ (x : Held). x .world .ledger) (sym k);
-          list-left = ap (λ (x : Held). x .list) (sym k);
+          left = ap loanOf (sym k);
         };
         gave = g;
       }
@@ -177,9 +175,7 @@ module _ (log : List ℕ) (bytes : Bytes log) (n : ℕ) (W : Whole log n) (D : D
     outcome = o;
     says = record {
       gave = e ∙ sym count-is;
-      store-left = ap (λ (x : Kit). x .world .store) kit-is ∙ ap (λ (x : Held). x .world .store) (sym held-is);
-      ledger-left = ap (λ (x : Kit). x .world .ledger) kit-is ∙ ap (λ (x : Held). x .world .ledger) (sym held-is);
-      list-left = ap (λ (x : Kit). x .list) kit-is ∙ ap (λ (x : Held). x .list) (sym held-is);
+      left = ap (λ (x : Kit). loan (x .world .store) (x .world .ledger) (x .list)) kit-is ∙ ap loanOf (sym held-is);
     };
     gave = g;
   }

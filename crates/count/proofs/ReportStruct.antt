@@ -1,12 +1,13 @@
 -- The report in the struct is the report of the lists seen. Assumes nothing.
 use mathlib.Core.Path.{_≡_, refl, sym, ap, _∙_}
-use mathlib.Core.List.{List, [], _∷_, _++_, map}
+use mathlib.Core.List.{List, _++_, map, map-id}
 use Prim.Native.Nat.{ℕ, zero, suc, _+_, _-_, _≤_}
 use native.Mathlib.Nat.{sub-zero, suc-sub-suc, zero-sub}
 use native.Mathlib.Omega.{arith}
 use lib.ListN.{length, drop, length-map, length-replicate}
 use Rattle.wire.specs.Overlay.{overlay}
 use Rattle.wire.proofs.Overlays.{overlay-eq}
+use Rattle.wire.proofs.Parts.{map-both}
 use Rattle.sorted_set.proofs.Sets.{as-many}
 use Rattle.count_rules.specs.Marks.{PitList}
 use Rattle.count_rules.specs.Report.{tiles, pits, surePits, Line, line, report}
@@ -33,14 +34,6 @@ laid-padded n l h =
     let z : 0 + length l ≡ length l = omega arith in
     let o : 0 + length l ≤ length (zeros n) = rw (length-replicate {A = ℕ} n 0) (omega arith) in
     overlay-eq (zeros n) 0 l o ∙ (ap (λ (k : ℕ). l ++ drop k (zeros n)) z ∙ ap (λ (m : List ℕ). l ++ m) (drop-zeros (length l) n))
-
-map-both : {A B : Type 0} (f : A → B) (g : B → ℕ) (h : A → ℕ) → ((x : A) → g (f x) ≡ h x) → (l : List A) → map g (map f l) ≡ map h l
-map-both f g h e [] = refl
-map-both f g h e (x ∷ l) = λ i. e x i ∷ map-both f g h e l i
-
-map-same : (l : List ℕ) → map (λ x. x) l ≡ l
-map-same [] = refl
-map-same (x ∷ l) = ap (λ (m : List ℕ). x ∷ m) (map-same l)
 
 module _ (entries : ℕ) (totals : Totals) (sizes : Sizes) (sets : Sets) (seen : List PitList) (h : Has sets sizes seen) (room : sizes .tiles ≤ maxTiles) (a b c : List ℕ)
     (L : Lays sets sizes (zeros maxTiles ⇒ a) (zeros maxTiles ⇒ b) (zeros maxTiles ⇒ c)) where
@@ -77,7 +70,7 @@ module _ (entries : ℕ) (totals : Totals) (sizes : Sizes) (sets : Sets) (seen :
   unfolding report
   given-is =
       let x : a ≡ columnOf (λ (l : Line). l .tile) (report seen) =
-      column (λ n. n) (λ (l : Line). l .tile) (λ n. refl) a (L .numbers ∙ ap (overlay (zeros maxTiles) 0) (tiles-told sets sizes seen h ∙ sym (map-same (tiles seen)))) in
+      column (λ n. n) (λ (l : Line). l .tile) (λ n. refl) a (L .numbers ∙ ap (overlay (zeros maxTiles) 0) (tiles-told sets sizes seen h ∙ sym (map-id (tiles seen)))) in
       let y : b ≡ columnOf (λ (l : Line). l .pits) (report seen) =
       column (λ n. length (pits seen n)) (λ (l : Line). l .pits) (λ n. refl) b (L .pits-of ∙ ap (overlay (zeros maxTiles) 0) (pits-told sets sizes seen h)) in
       let z : c ≡ columnOf (λ (l : Line). l .sure) (report seen) =

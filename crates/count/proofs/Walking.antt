@@ -17,7 +17,7 @@ use Rattle.log.specs.declared.reader.Step.{Step}
 use Rattle.log.specs.declared.reader.Step.the-variants as step
 use Rattle.log.specs.Entries.{Entry}
 use Rattle.log.specs.Listed.{Listed, whole, broken, after}
-use Rattle.log.specs.Told.{entrySaid, readAt, onward, readOn}
+use Rattle.log.specs.Said.{entrySaid, readAt, onward, readOn}
 use Rattle.sorted_set.specs.Lists.{In}
 use Rattle.sorted_set.proofs.Members.{in-left, in-right}
 use Rattle.count_rules.specs.Marks.{PitList, listIn}
@@ -29,7 +29,7 @@ use Rattle.pit_payloads.specs.Inside.{Took}
 use Rattle.pit_payloads.proofs.PayloadTaken.{takes}
 use Rattle.stretch.specs.declared.Stop.the-variants as stop
 use Rattle.stretch.specs.Stretch.{Kit, calledOn, lookedAt, kitWith, enterOn, Stretched, here, byStep, stretch, Clean, stopFault, entriesOf}
-use Rattle.stretch.proofs.Laws.{list-long, seen-then, lists-both, clean-ok, entries-after}
+use Rattle.stretch.proofs.StretchAnswers.{list-long, seen-then, lists-both, clean-ok, entries-after}
 use Rattle.count.specs.Inside.{own}
 use Rattle.count.proofs.OwnSets.{fault-own}
 

@@ -11,6 +11,7 @@ use lib.ListN.{length, take, drop, length-append, length-replicate, length-map}
 use lib.Seq.{drop-at, take-at}
 use borrow.Author.Tests.{eqb-true, eq-eqb, ltb-false}
 use Rattle.wire.specs.Choice.{pick}
+use Rattle.wire.specs.Slices.{short}
 use Rattle.wire.specs.Overlay.{overlay}
 use Rattle.wire.proofs.Choices.{either, never}
 use Rattle.wire.proofs.Overlays.{overlay-eq}
@@ -33,7 +34,7 @@ use Rattle.count.specs.declared.Answer.the-variants.{Given, Refused}
 use Rattle.count.specs.declared.Counted.{Counted}
 use Rattle.count.specs.Counts.{counted, given, zeros, columnOf, Loan, Counts}
 use Rattle.host_count.specs.Numbers.{reportLength, numbersOf}
-use Rattle.host_count.specs.Told.{codeOf, reportLeft, short}
+use Rattle.host_count.specs.Told.{codeOf, reportLeft}
 use Rattle.count_laws.specs.Calls.{Kept, LentFor, columns, CodeCount, columnsOf, CodeLoss, GivenFrom, CodeEvery, toldIn, HostCount}
 use Rattle.count_laws.specs.Losses.{shownFrom}
 use Rattle.count_laws.proofs.Shown as shows
@@ -138,7 +139,7 @@ others-long s h =
 two-parts : (h r f a b c : List ℕ) → h ++ r ++ f ++ a ++ b ++ c ≡ (h ++ r) ++ (f ++ a ++ b ++ c)
 two-parts h r f a b c = simp append-assoc
 
-module _ (a : List ℕ) (room : short a ≡ false) (r : Report) (few : length (r .lines) ≤ maxTiles) (ten : length (r .refused) ≡ refusals) where
+module _ (a : List ℕ) (room : short reportLength a ≡ false) (r : Report) (few : length (r .lines) ≤ maxTiles) (ten : length (r .refused) ≡ refusals) where
   abbrev head : List ℕ
   head = (r .entries ∷ r .kept ∷ r .repeated ∷ r .delivered ∷ []) ++ r .refused
 
@@ -192,7 +193,7 @@ module _ (σ : Scene) (f : Feed) (log : List ℕ) (k : Kept σ f log) (room : �
   unfolding reportOf
   its-ten = ap (λ (x : Report). length (x .refused)) (its .is) ∙ ten-of (answersTo (limitsIn log) (σ .store) (σ .ledger) (k .log-of .entries))
 
-  tells : (a a₁ : List ℕ) → short a ≡ false → a₁ ≡ reportLeft (countLog room (σ .store) (σ .ledger) log) a → toldIn a₁ ≡ record { delivered = shownOf r .delivered; others = othersOf (shownOf r) }
+  tells : (a a₁ : List ℕ) → short reportLength a ≡ false → a₁ ≡ reportLeft (countLog room (σ .store) (σ .ledger) log) a → toldIn a₁ ≡ record { delivered = shownOf r .delivered; others = othersOf (shownOf r) }
   tells a a₁ h e = ap toldIn (e ∙ ap (λ (o : Outcome). reportLeft o a) q) ∙ told-in a h r its-few its-ten
 
 pub host-count : HostCount

@@ -9,7 +9,7 @@ use lib.Dec.{eqb, ltb}
 use lib.ListN.{length}
 use borrow.Author.Tests.{le-ltb, ltb-false, eqb-true, eq-eqb}
 use Rattle.wire.specs.Choice.{pick}
-use Rattle.wire.proofs.Choices.{never}
+use Rattle.wire.proofs.Choices.{never, zero-is-one}
 use Rattle.steps.specs.Answers.{Reply}
 use Rattle.log.specs.Editions.{limitsIn}
 use Rattle.log.specs.Entries.{Entry}
@@ -33,9 +33,6 @@ same-shown ps qs m s = λ i. record {
   lists = (length-gather listIn ps ∙ s (λ p. length (listIn p)) ∙ sym (length-gather listIn qs)) i;
   lines = same-report (listsRead ps) (listsRead qs) (gather-same listIn ps qs m) i;
 }
-
-no : {A : Type 0} → _≡_ {A = ℕ} 0 1 → A
-no z = absurd (let y : ⊥ = omega arith in y)
 
 module _ (store ledger log : List ℕ) (es : List Entry) (reads : entriesIn log ≡ whole es) (room : ℕ) where
   abbrev rs : List Reply
@@ -73,11 +70,11 @@ module _ (store ledger log : List ℕ) (es : List Entry) (reads : entriesIn log 
   given-by r e = go (ltb maxEntries (length es)) refl (eqb (firstFault room [] payloadsIn) 0) refl (sym count-is ∙ e)
     where
       go : (a : Bool) → ltb maxEntries (length es) ≡ a → (b : Bool) → eqb (firstFault room [] payloadsIn) 0 ≡ b → unlessOver a b ≡ reported r → Given r
-      go true p b t q = no cc
+      go true p b t q = zero-is-one cc
       go false p true t q =
           let z : reportOf es rs ≡ r = cc in
           record { few = ltb-false maxEntries (length es) p; passes = eqb-true (firstFault room [] payloadsIn) 0 t; is = sym z; shows = ap shownOf (sym z) ∙ of-replies }
-      go false p false t q = no cc
+      go false p false t q = zero-is-one cc
 
   -- 0 is told of a report only
   pub zero-given : codeOf (countLog room store ledger log) ≡ 0 → countLog room store ledger log ≡ reported (reportOf es rs)
@@ -99,4 +96,4 @@ read-whole room store ledger log r e = go (entriesIn log) refl e
   where
     go : (x : Listed) → entriesIn log ≡ x → countListed (limitsIn log) room store ledger x ≡ reported r → ReadWhole log
     go (whole es) p q = record { entries = es; reads = p }
-    go (broken es n) p q = no cc
+    go (broken es n) p q = zero-is-one cc

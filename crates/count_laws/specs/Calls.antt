@@ -8,6 +8,7 @@ use Prim.Native.Nat.{ℕ, _≤_}
 use lib.Dec.{eqb}
 use lib.ListN.{length, getD, take, drop}
 use Rattle.wire.specs.Choice.{pick}
+use Rattle.wire.specs.Slices.{short}
 use Rattle.arrival.specs.Demand.{Scene, Feed, Supposed}
 use Rattle.count_rules.specs.Count.{maxEntries, firstFault}
 use Rattle.count_rules.specs.Count as counting
@@ -18,7 +19,8 @@ use Rattle.count.specs.declared.Answer.the-variants.{Given, Refused}
 use Rattle.count.specs.declared.Report.{Report}
 use Rattle.count.specs.declared.Counted.{Counted}
 use Rattle.count.specs.Counts.{Loan, columnOf, given, Counts}
-use Rattle.host_count.specs.Told.{short, CountTold}
+use Rattle.host_count.specs.Numbers.{reportLength}
+use Rattle.host_count.specs.Told.{CountTold}
 use Rattle.count_laws.specs.Losses.{shownFrom}
 use Rattle.count_laws.specs.Every.{FromDelivered}
 
@@ -102,5 +104,5 @@ pub record SameTold (x y : ℕ) (report report′ : List ℕ) : Type 0 where
 -- where the one answers 0, so does the other, and both tell the same
 abbrev pub HostCount : Type 0
 HostCount = (σ : Scene) (f : Feed) (log : List ℕ) (τ : Scene) (g : Feed) (log′ : List ℕ) → Kept σ f log → Kept τ g log′ → payloadsOf σ ≡ payloadsOf τ
-    → (room : ℕ) (l l₁ m m₁ : Loan) (a a₁ b b₁ : List ℕ) (x y : ℕ) → LentFor σ room l → LentFor τ room m → short a ≡ false → short b ≡ false
+    → (room : ℕ) (l l₁ m m₁ : Loan) (a a₁ b b₁ : List ℕ) (x y : ℕ) → LentFor σ room l → LentFor τ room m → short reportLength a ≡ false → short reportLength b ≡ false
     → CountTold log l a x l₁ a₁ → CountTold log′ m b y m₁ b₁ → x ≡ 0 → SameTold x y a₁ b₁

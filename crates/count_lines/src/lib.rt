@@ -31,7 +31,7 @@ fn pour_refused(out: &mut [u8], at: usize, number: u64, n: u64) -> usize
     output::pour_counted_line(out, next, b" ", n)
 }
 
-// By each number, rising.
+// By each number, rising. It stops where the output is closed.
 pub fn pour_refusals(out: &mut [u8], at: usize, refused: &[u64]) -> usize
     ensures { λ r. ⌜ Pours (now (out .entry)) at (refusedLines (length (now (refused .entry))) (now (refused .entry))) (now (out .exit)) r ⌝ }
 {
@@ -40,6 +40,9 @@ pub fn pour_refusals(out: &mut [u8], at: usize, refused: &[u64]) -> usize
     while i < refused.len() {
         next = pour_refused(out, next, i as u64, words::word(refused, i));
         i += 1;
+        if next == output::CLOSED {
+            return next;
+        }
     }
     next
 }
@@ -59,7 +62,7 @@ fn pour_tile(out: &mut [u8], at: usize, tile: u64, pits: u64, sure: u64) -> usiz
     output::pour_counted_line(out, b, b" sure ", sure)
 }
 
-// The first n tiles.
+// The first n tiles. It stops where the output is closed.
 pub fn pour_tiles(
     out: &mut [u8],
     at: usize,
@@ -81,6 +84,9 @@ pub fn pour_tiles(
             words::word(sure, i),
         );
         i += 1;
+        if next == output::CLOSED {
+            return next;
+        }
     }
     next
 }

@@ -2,7 +2,7 @@
 use mathlib.Core.List.{List, _++_, map}
 use Prim.Native.Nat.{ℕ}
 use lib.ListN.{length}
-use Rattle.count_rules.specs.Count.{Outcome, reported, noReport}
+use Rattle.count_rules.specs.Count.{Outcome, reported, noReport, countLog}
 use Rattle.count_rules.specs.Count as counting
 use Rattle.count.specs.declared.Answer.{Answer}
 use Rattle.count.specs.declared.Answer.the-variants.{Given, Refused}
@@ -22,6 +22,10 @@ linesOf r =
 abbrev pub outcomeLines : Outcome → List ℕ
 outcomeLines (reported r) = linesOf r
 outcomeLines (noReport n) = refusalLine n
+
+-- of a log, by a list of so many numbers and a store and a ledger that are lent
+abbrev pub logLines : ℕ → List ℕ → List ℕ → List ℕ → List ℕ
+logLines numbers store ledger log = outcomeLines (countLog numbers store ledger log)
 
 -- ---- the same of the struct that the code has
 

@@ -1,10 +1,10 @@
 // What the map gets. Standard input is a log; it is counted over a fresh receiver, and the lines tell its entries by their answers, and of each
 // tile its pits and how many of them are sure.
 ghost use Prim.Native.Nat.{_≤_};
-ghost use Rattle.output.specs.Output.{Pours, lineLimit};
 ghost use lib.ListN.{length};
-ghost use Rattle.count_rules.specs.Count.{countLog};
-ghost use Rattle.count_pits.specs.Lines.{outcomeLines, reportLines, countLines};
+ghost use Rattle.output.specs.Output.{Pours, Finishes, lineLimit};
+ghost use Rattle.log_lines.specs.Lines.{Tells};
+ghost use Rattle.count_pits.specs.Lines.{reportLines, countLines, logLines};
 use count::Answer;
 use count::Counted;
 use count::Report;
@@ -59,36 +59,48 @@ fn pour_log(
     ledger: &mut [u32],
     numbers: &mut [i64],
 ) -> usize
-    ensures { λ r. ⌜ Pours (now (out .entry)) at (outcomeLines (countLog (length (now (numbers .entry))) (now (store .entry)) (now (ledger .entry)) (now (log .entry)))) (now (out .exit)) r ⌝ }
+    ensures { λ r. ⌜ Pours (now (out .entry)) at (logLines (length (now (numbers .entry))) (now (store .entry)) (now (ledger .entry)) (now (log .entry))) (now (out .exit)) r ⌝ }
 {
     pour_count(out, at, count::count_log(log, store, ledger, numbers))
 }
 
-// Counts a log, and writes all lines.
-fn counted(log: &[u8], out: &mut [u8]) {
-    let mut store = [0u8; STORE];
-    let mut ledger = [0u32; receiver::LEDGER];
-    let mut numbers = [0i64; NUMBERS];
-    let end = pour_log(out, 0, log, &mut store, &mut ledger, &mut numbers);
-    output::write_out(out, end);
+// Counts a log, and writes all lines out. Answers whether the system took them all.
+fn counted(
+    log: &[u8],
+    out: &mut [u8],
+    store: &mut [u8],
+    ledger: &mut [u32],
+    numbers: &mut [i64],
+) -> bool
+    ensures { λ r. ⌜ Finishes (now (out .entry)) 0 (logLines (length (now (numbers .entry))) (now (store .entry)) (now (ledger .entry)) (now (log .entry))) (now (out .exit)) r ⌝ }
+{
+    let end = pour_log(out, 0, log, store, ledger, numbers);
+    output::write_out(out, end)
 }
 
 // Counts the whole input, or says that it is longer than the buffer.
-fn run(buf: &mut [u8], out: &mut [u8])
+fn run(
+    buf: &mut [u8],
+    out: &mut [u8],
+    store: &mut [u8],
+    ledger: &mut [u32],
+    numbers: &mut [i64],
+) -> bool
     requires { ⌜ lineLimit ≤ length (now out) ⌝ }
+    ensures { λ r. ⌜ Tells (length (now (buf .entry))) (logLines (length (now (numbers .entry))) (now (store .entry)) (now (ledger .entry))) (now (out .entry)) (now (out .exit)) r ⌝ }
 {
     let all = stream::read_all(buf);
     match all {
-        All::Whole(n) => counted(wire::part(buf, 0, n), out),
-        All::Longer => {
-            let end = log_lines::pour_longer(out, 0, buf.len() as u64);
-            output::write_out(out, end);
-        }
+        All::Whole(n) => counted(wire::part(buf, 0, n), out, store, ledger, numbers),
+        All::Longer => log_lines::finish_longer(out, buf.len() as u64),
     }
 }
 
 fn main() {
     let mut buf = [0u8; HOLDS];
     let mut out = [0u8; output::HOLDS];
-    run(&mut buf, &mut out);
+    let mut store = [0u8; STORE];
+    let mut ledger = [0u32; receiver::LEDGER];
+    let mut numbers = [0i64; NUMBERS];
+    run(&mut buf, &mut out, &mut store, &mut ledger, &mut numbers);
 }

@@ -26,7 +26,7 @@ one-more l C [] x a b = (b, tt)
 one-more l C (y ∷ xs) x a b = (a .0, one-more l C xs x (a .1) b)
 
 -- datagram k of a message that is sent
-sent-admitted : (l : Limits) (C : ℕ) (m : Message) → Sent C m → (m .fragmented ≡ true → (length (m .payload) ≤ l .payload) × (parts m ≤ l .fragments))
+pub sent-admitted : (l : Limits) (C : ℕ) (m : Message) → Sent C m → (m .fragmented ≡ true → (length (m .payload) ≤ l .payload) × (parts m ≤ l .fragments))
     → (k : ℕ) → k < parts m → Admitted l C (datagram m k)
 sent-admitted l C m s w k b = go (m .fragmented) refl s
   where

@@ -16,7 +16,7 @@ use Rattle.log.specs.Entries.{Entry}
 use Rattle.count_rules.specs.Marks.{PitList}
 use Rattle.count_rules.specs.Run.{answerTo, leftBy, answers, payloadIn, payloads}
 use Rattle.count_rules.specs.Count.{firstFault, Outcome}
-use Rattle.count_rules.specs.Walk.{faultAt, seenAt, Held, heldAfter, heldAll, walk, atFirst, walkEntries, CountsTo, NoSecond, Agrees}
+use Rattle.count_rules.specs.Walk.{faultAt, seenAt, Held, heldAfter, heldAll, walk, atFirst, walkEntries, Loan, CountsTo, NoSecond, Agrees}
 
 module _ (l : Limits) (room : ℕ) where
   -- one answer, and then the payloads of others
@@ -62,11 +62,5 @@ walk-agrees l store ledger list es = record {
 }
 
 -- NO SECOND ANSWER
-pub no-second : {log store ledger : List ℕ} {list : List ℤ} {a b : Outcome} {s₁ s₂ l₁ l₂ : List ℕ} {z₁ z₂ : List ℤ}
-    → CountsTo log store ledger list a s₁ l₁ z₁ → CountsTo log store ledger list b s₂ l₂ z₂ → NoSecond a b s₁ s₂ l₁ l₂ z₁ z₂
-no-second p q = record {
-  answer = p .gave ∙ sym (q .gave);
-  store = p .store-left ∙ sym (q .store-left);
-  ledger = p .ledger-left ∙ sym (q .ledger-left);
-  list = p .list-left ∙ sym (q .list-left);
-}
+pub no-second : {log : List ℕ} {l l₁ l₂ : Loan} {a b : Outcome} → CountsTo log l a l₁ → CountsTo log l b l₂ → NoSecond a b l₁ l₂
+no-second p q = record { answer = p .gave ∙ sym (q .gave); left = p .left ∙ sym (q .left) }

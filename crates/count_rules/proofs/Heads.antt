@@ -7,7 +7,7 @@ use lib.ListN.{length}
 use Rattle.log.specs.Editions.{Edition, Lawful, editionIn, limitsOf, limitsOr}
 use Rattle.log.specs.Entries.{Entry, AllKeep, bodyOf, logOf}
 use Rattle.log.specs.Listed.{Listed, whole, listBy, entriesAfter, entriesIn}
-use Rattle.log.proofs.Backs.{head-back, entries-of-log}
+use Rattle.log.proofs.LogRoundTrip.{head-back, entries-of-log}
 use Rattle.count_rules.specs.Count.{countEntries, countListed, countLog}
 
 module _ (v : Edition) (lawful : Lawful v) (es : List Entry) where

@@ -1,6 +1,6 @@
 pub mod Heads
 pub mod Computed
-pub mod Wide
+pub mod LargePayload
 pub mod ListMembers
 pub mod Means
 pub mod Keys
@@ -16,6 +16,7 @@ pub mod Answered
 pub mod Admitting
 pub mod Logs
 pub mod Delivered
+pub mod Lendings
 pub mod Counted
 pub mod Limits
 pub mod Shows

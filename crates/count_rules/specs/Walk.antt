@@ -78,19 +78,28 @@ leftAfter l store ledger list (broken es n) = atFirst store ledger list
 unfoldable pub heldBy : List ℕ → List ℕ → List ℤ → List ℕ → Held
 heldBy store ledger list log = leftAfter (limitsIn log) store ledger list (entriesIn log)
 
--- ---- THE CONTRACT OF THE COUNT, for the lent log, store, ledger and number list, and what the last three hold afterwards
-pub record CountsTo (log store ledger : List ℕ) (list : List ℤ) (answer : Outcome) (store′ ledger′ : List ℕ) (list′ : List ℤ) : Type 0 where
-  pub gave : answer ≡ countLog (length list) store ledger log
-  pub store-left : store′ ≡ heldBy store ledger list log .world .store
-  pub ledger-left : ledger′ ≡ heldBy store ledger list log .world .ledger
-  pub list-left : list′ ≡ heldBy store ledger list log .list
+-- what is lent to the count: the receiver's store and ledger, and the number list
+pub record Loan : Type 0 where
+  pub store : List ℕ
+  pub ledger : List ℕ
+  pub list : List ℤ
+
+abbrev pub loan : List ℕ → List ℕ → List ℤ → Loan
+loan store ledger list = record { store = store; ledger = ledger; list = list }
+
+-- of what is held
+abbrev pub loanOf : Held → Loan
+loanOf h = loan (h .world .store) (h .world .ledger) (h .list)
+
+-- ---- THE CONTRACT OF THE COUNT, for a log and what is lent, and what that holds afterwards
+pub record CountsTo (log : List ℕ) (l : Loan) (answer : Outcome) (l′ : Loan) : Type 0 where
+  pub gave : answer ≡ countLog (length (l .list)) (l .store) (l .ledger) log
+  pub left : l′ ≡ loanOf (heldBy (l .store) (l .ledger) (l .list) log)
 
 -- two answers to one call, with what they leave, are one
-pub record NoSecond (a b : Outcome) (store₁ store₂ ledger₁ ledger₂ : List ℕ) (list₁ list₂ : List ℤ) : Type 0 where
+pub record NoSecond (a b : Outcome) (l₁ l₂ : Loan) : Type 0 where
   pub answer : a ≡ b
-  pub store : store₁ ≡ store₂
-  pub ledger : ledger₁ ≡ ledger₂
-  pub list : list₁ ≡ list₂
+  pub left : l₁ ≡ l₂
 
 -- ---- the walk finds what the count says, and with nothing found it goes through all entries
 

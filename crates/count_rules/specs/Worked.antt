@@ -3,6 +3,7 @@ use mathlib.Core.Bool.{true, false}
 use mathlib.Core.List.{List, [], _∷_, _++_, map}
 use Prim.Native.Nat.{ℕ, _+_}
 use lib.ListN.{length, replicate}
+use Rattle.wire.specs.Text.{ascii}
 use Rattle.words.specs.Builds.{build}
 use Rattle.steps.specs.Limits.{ledgerLength}
 use Rattle.steps.specs.Answers.{Reply, refusedBy, kept, repeat, delivered}
@@ -18,7 +19,7 @@ use Rattle.count_rules.specs.Count.{Report}
 -- ---- the bytes of objects of a version
 
 abbrev object : ℕ → ℕ → List ℕ → List ℕ
-object v t fields = 1 ∷ 0x50 ∷ 0x49 ∷ 0x54 ∷ 0x53 ∷ 0x55 ∷ 0x52 ∷ 0x56 ∷ 0 ∷ 0 ∷ 0 ∷ 0 ∷ t ∷ 0 ∷ v ∷ fields
+object v t fields = 1 ∷ ascii "PITSURV" ++ 0 ∷ 0 ∷ 0 ∷ 0 ∷ t ∷ 0 ∷ v ∷ fields
 
 abbrev null : List ℕ
 null = 0 ∷ []
@@ -38,7 +39,7 @@ list2 tile n marks = object 2 5 (0 ∷ 0 ∷ 0 ∷ tile ∷ 0 ∷ 0 ∷ 0 ∷ n 
 
 -- with a checksum that is not calculated
 abbrev message : List ℕ → List ℕ
-message root = 0x4c ∷ 0x4d ∷ 0x43 ∷ 0x50 ∷ 0 ∷ 0 ∷ 0 ∷ length root ∷ root ++ 0 ∷ 0 ∷ 0 ∷ 0 ∷ []
+message root = ascii "LMCP" ++ 0 ∷ 0 ∷ 0 ∷ length root ∷ root ++ 0 ∷ 0 ∷ 0 ∷ 0 ∷ []
 
 -- ---- payloads, and the lists that they are
 

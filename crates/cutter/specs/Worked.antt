@@ -1,11 +1,12 @@
 -- Worked cases of the cutter, both sides of a limit, in the paper's own numbers. Definitions only.
 use mathlib.Core.List.{List, [], _∷_}
 use Prim.Native.Nat.{ℕ}
+use Rattle.wire.specs.Text.{ascii}
 use Rattle.cutter.specs.Cut.{Answer, gives, refused, planOf, cutAnswer}
 
 -- the name TILE, and one that is no name
 abbrev pub tile : List ℕ
-tile = 0x54 ∷ 0x49 ∷ 0x4c ∷ 0x45 ∷ []
+tile = ascii "TILE"
 
 abbrev pub bad : List ℕ
 bad = 0x54 ∷ 127 ∷ []

@@ -2,15 +2,14 @@
 use mathlib.Core.Path.{_≡_, refl, ap, sym, _∙_}
 use mathlib.Core.Bool.{Bool, true, false, not, _&&_}
 use mathlib.Core.List.{List, [], _∷_, _++_}
-use Prim.Native.Nat.{ℕ, suc, _+_, _-_, _≤_, _<_, _*_, min}
+use Prim.Native.Nat.{ℕ, suc, _+_, _-_, _≤_, _<_, min}
 use native.Mathlib.Numerals.{add-one}
 use native.Mathlib.Omega.{arith}
 use native.Mathlib.Decide.{decLe}
 use lib.Dec.{eqb, ltb}
 use lib.ListN.{length, getD, take, drop, length-take, length-append, drop-of-length-le}
-use lib.Seq.{drop-cons, getD-drop, take-append-seam, length-take-le}
+use lib.Seq.{drop-cons, take-append-seam, length-take-le}
 use borrow.Author.Tests.{eq-eqb, ne-eqb, le-ltb, lt-ltb, ltb-true, not-true}
-use Rattle.wire.specs.Bytes.{be}
 use Rattle.wire.specs.Choice.{pick}
 use Rattle.wire.proofs.Choices.{never, and-false, and-l, and-r}
 use Rattle.wire.proofs.Parts.{part-rest}
@@ -87,25 +86,6 @@ unfolding nameLength
 name-read nm t e =
     let l : length nm < length (nm ++ 0 ∷ t) = rw length-append (omega arith) in
     rw (name-no-zero nm t e, lt-ltb (length nm) (length (nm ++ 0 ∷ t)) l, take-append-seam, e)
-
--- ---- numbers of two and of four bytes
-
--- byte i after a place, by any sum that names it
-at-place : (d : List ℕ) (at i k : ℕ) → at + i ≡ k → getD (drop at d) i 0 ≡ getD d k 0
-at-place d at i k e = rw getD-drop (ap (λ (j : ℕ). getD d j 0) e)
-
-pub be-two : (d : List ℕ) (at x y : ℕ) → x ≡ getD d at 0 → y ≡ getD d (at + 1) 0 → x * 256 + y ≡ be 2 (drop at d)
-unfolding be
-be-two d at x y e f = omega (arith, at-place d at 0 at (omega arith), at-place d at 1 (at + 1) refl)
-
-pub be-four : (d : List ℕ) (at : ℕ) → be 2 (drop at d) * 65536 + be 2 (drop (at + 2) d) ≡ be 4 (drop at d)
-unfolding be
-be-four d at =
-    let h = at-place d at 2 (at + 2) refl in
-    let l = at-place d at 3 (at + 3) refl in
-    let h2 = at-place d (at + 2) 0 (at + 2) (omega arith) in
-    let l2 = at-place d (at + 2) 1 (at + 3) (omega arith) in
-    omega (arith, h, l, h2, l2)
 
 -- ---- a name that was found
 

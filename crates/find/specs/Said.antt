@@ -4,5 +4,5 @@ use Prim.Native.Nat.{ℕ}
 use Rattle.log_index.specs.Index.{rowsIn, firstEntry, answerOf}
 use Rattle.index_lines.specs.Lines.{answerLine}
 
-abbrev pub keyLine : ℕ → List ℕ → ℕ → ℕ → List ℕ
-keyLine words log s q = answerLine (answerOf words 0 (rowsIn log)) (firstEntry log s q)
+abbrev pub keyLine : ℕ → ℕ → ℕ → List ℕ → List ℕ
+keyLine words s q log = answerLine (answerOf words 0 (rowsIn log)) (firstEntry log s q)

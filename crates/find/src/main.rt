@@ -3,7 +3,8 @@
 ghost use mathlib.Core.Path.{_≡_};
 ghost use Prim.Native.Nat.{_≤_};
 ghost use lib.ListN.{length};
-ghost use Rattle.output.specs.Output.{Pours, lineLimit};
+ghost use Rattle.output.specs.Output.{Pours, Finishes, lineLimit};
+ghost use Rattle.log_lines.specs.Lines.{Tells};
 ghost use Rattle.find.specs.Numbers.{withDigit, numberIn, says};
 ghost use Rattle.find.specs.Said.{keyLine};
 use index_builder::Indexed;
@@ -61,7 +62,7 @@ fn number_in(text: &[u8], most: u64) -> Number
 
 // What is said of a key.
 fn answer(log: &[u8], index: &mut [u64], out: &mut [u8], sender: u64, sequence: u64) -> usize
-    ensures { λ r. ⌜ Pours (now (out .entry)) 0 (keyLine (length (now (index .entry))) (now (log .entry)) sender sequence) (now (out .exit)) r ⌝ }
+    ensures { λ r. ⌜ Pours (now (out .entry)) 0 (keyLine (length (now (index .entry))) sender sequence (now (log .entry))) (now (out .exit)) r ⌝ }
 {
     let indexed = index_builder::index_log(log, &mut *index);
     match indexed {
@@ -74,20 +75,23 @@ fn answer(log: &[u8], index: &mut [u64], out: &mut [u8], sender: u64, sequence: 
     }
 }
 
+// It is written out. Answers whether the system took it.
+fn answered(log: &[u8], index: &mut [u64], out: &mut [u8], sender: u64, sequence: u64) -> bool
+    ensures { λ r. ⌜ Finishes (now (out .entry)) 0 (keyLine (length (now (index .entry))) sender sequence (now (log .entry))) (now (out .exit)) r ⌝ }
+{
+    let end = answer(log, index, out, sender, sequence);
+    output::write_out(out, end)
+}
+
 // Looks the key up in the whole input, or says that it is longer than the buffer.
-fn run(buf: &mut [u8], index: &mut [u64], out: &mut [u8], sender: u64, sequence: u64)
+fn run(buf: &mut [u8], index: &mut [u64], out: &mut [u8], sender: u64, sequence: u64) -> bool
     requires { ⌜ lineLimit ≤ length (now out) ⌝ }
+    ensures { λ r. ⌜ Tells (length (now (buf .entry))) (keyLine (length (now (index .entry))) sender sequence) (now (out .entry)) (now (out .exit)) r ⌝ }
 {
     let all = stream::read_all(buf);
     match all {
-        All::Whole(n) => {
-            let end = answer(wire::part(buf, 0, n), index, out, sender, sequence);
-            output::write_out(out, end);
-        }
-        All::Longer => {
-            let end = log_lines::pour_longer(out, 0, buf.len() as u64);
-            output::write_out(out, end);
-        }
+        All::Whole(n) => answered(wire::part(buf, 0, n), index, out, sender, sequence),
+        All::Longer => log_lines::finish_longer(out, buf.len() as u64),
     }
 }
 

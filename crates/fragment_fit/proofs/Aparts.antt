@@ -19,8 +19,7 @@ use Rattle.steps.proofs.Tables.{and-none, all-of, all-not, all-none, all-cong}
 use Rattle.held_bits.proofs.Runs.{all-split}
 use Rattle.held_bits.proofs.Bits.{held-bit}
 use Rattle.fragment_fit.specs.Fits.{fitsIn}
-use Rattle.fragment_fit.specs.Apart.{apartAt, nearFit}
-use Rattle.fragment_fit.specs.Inside.{apartIn}
+use Rattle.fragment_fit.specs.Inside.{apartAt, nearFit, apartIn}
 
 -- ---- tests that a number passes
 

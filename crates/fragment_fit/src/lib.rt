@@ -6,8 +6,7 @@ ghost use lib.Dec.{ltb};
 ghost use lib.ListN.{length};
 ghost use Rattle.steps.specs.Search.{allBelow};
 ghost use Rattle.fragment_fit.specs.Fits.{agreesAt, fitsIn};
-ghost use Rattle.fragment_fit.specs.Apart.{crosses, apartAt, nearFit};
-ghost use Rattle.fragment_fit.specs.Inside.{apartIn};
+ghost use Rattle.fragment_fit.specs.Inside.{crosses, apartAt, nearFit, apartIn};
 
 // ---- one by one, over any slices
 

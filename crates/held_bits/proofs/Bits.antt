@@ -15,7 +15,7 @@ use Rattle.wire.proofs.Choices.{either}
 use Rattle.steps.specs.Search.{allBelow}
 use Rattle.steps.specs.Held.{isHeld}
 use Rattle.steps.proofs.Tables.{all-cong}
-use Rattle.held_bits.specs.Bits.{bitIn}
+use Rattle.held_bits.specs.InsideBits.{bitIn}
 use Rattle.held_bits.proofs.Runs.{all-split}
 
 -- ---- a word whose lowest bits are set

@@ -3,7 +3,7 @@ ghost use mathlib.Core.Path.{_≡_};
 ghost use Prim.Native.Nat.{_<_};
 ghost use Rattle.steps.specs.Search.{allBelow};
 ghost use Rattle.steps.specs.Held.{isHeld, hold};
-ghost use Rattle.held_bits.specs.Bits.{bitIn};
+ghost use Rattle.held_bits.specs.InsideBits.{bitIn};
 
 pub const WORD_BITS: usize = 64;
 // The words with a bit for each fragment of a message.

@@ -11,7 +11,8 @@ use Rattle.ack_blocks.specs.Read.{Given, asked, answers}
 use Rattle.ack_blocks.specs.declared.Answer.{Answer}
 use Rattle.ack_writer.specs.Write.{writtenOf, writes, WritesBlocks}
 use Rattle.ack_writer.specs.declared.Written.{Written}
-use Rattle.host_acks.specs.Told.{code, askLeft, AskTold, writeLeft, WriteTold}
+use Rattle.wire.specs.Given.{code}
+use Rattle.host_acks.specs.Told.{askLeft, AskTold, writeLeft, WriteTold}
 
 -- ---- a question
 

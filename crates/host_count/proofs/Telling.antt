@@ -10,7 +10,7 @@ use Rattle.count.specs.declared.Answer.{Answer}
 use Rattle.count.specs.declared.Answer.the-variants.{Given, Refused}
 use Rattle.count.specs.declared.Counted.{Counted}
 use Rattle.count.specs.declared.Report.{Report}
-use Rattle.count.specs.Counts.{counted, Loan, loan, Counts}
+use Rattle.count.specs.Counts.{counted, Loan, Counts}
 use Rattle.host_count.specs.Numbers.{reportLength, numbersOf}
 use Rattle.host_count.specs.Told.{codeOf, reportLeft, CountTold}
 
@@ -49,7 +49,7 @@ module _ (log : List ℕ) (l : Loan) (report : List ℕ) where
       record {
         gave = rw t (x ∙ ap (λ (z : Counted). codeBy (z .answer)) (k .gave) ∙ same-code o ∙ ap codeOf (k .says .gave));
         report-left = rw t (y ∙ ap (λ (z : Counted). leftBy (z .answer) (z .report) report) (k .gave) ∙ same-left o report ∙ ap (λ (z : Outcome). reportLeft z report) (k .says .gave));
-        left = rw t (λ i. loan (k .says .store-left i) (k .says .ledger-left i) (k .says .list-left i));
+        left = rw t (k .says .left);
       }
 
   pub count-told-once : {x y : ℕ} {l₁ l₂ : Loan} {r₁ r₂ : List ℕ} → CountTold log l report x l₁ r₁ → CountTold log l report y l₂ r₂ → NoSecond x y l₁ l₂ r₁ r₂

@@ -1,15 +1,14 @@
 -- WHAT THE C HOST IS TOLD OF A COUNT, for all that it may lend. Definitions only.
 use mathlib.Core.Path.{_≡_}
-use mathlib.Core.Bool.{Bool}
 use mathlib.Core.List.{List}
 use Prim.Native.Nat.{ℕ}
-use lib.Dec.{ltb}
 use lib.ListN.{length}
+use Rattle.wire.specs.Slices.{short}
 use Rattle.wire.specs.Choice.{pick}
 use Rattle.wire.specs.Overlay.{overlay}
 use Rattle.count_rules.specs.Count.{Outcome, reported, noReport, countLog}
-use Rattle.count_rules.specs.Walk.{Held, heldBy}
-use Rattle.count.specs.Counts.{Loan, loan, given}
+use Rattle.count_rules.specs.Walk.{heldBy, loanOf}
+use Rattle.count.specs.Counts.{Loan, given}
 use Rattle.host_count.specs.Numbers.{reportLength, numbersOf}
 
 -- 0, or the refusal's number
@@ -22,16 +21,8 @@ abbrev pub reportLeft : Outcome → List ℕ → List ℕ
 reportLeft (reported r) list = overlay list 0 (numbersOf (given r))
 reportLeft (noReport n) list = list
 
--- what is lent, of what is held
-abbrev pub loanOf : Held → Loan
-loanOf h = loan (h .world .store) (h .world .ledger) (h .list)
-
--- no room for a report's numbers
-abbrev pub short : List ℕ → Bool
-short report = ltb (length report) reportLength
-
 -- 13 first, where the list for the report is too short: then nothing is done
 pub record CountTold (log : List ℕ) (l : Loan) (report : List ℕ) (answer : ℕ) (l′ : Loan) (report′ : List ℕ) : Type 0 where
-  pub gave : answer ≡ pick (short report) 13 (codeOf (countLog (length (l .list)) (l .store) (l .ledger) log))
-  pub report-left : report′ ≡ pick (short report) report (reportLeft (countLog (length (l .list)) (l .store) (l .ledger) log) report)
-  pub left : l′ ≡ pick (short report) l (loanOf (heldBy (l .store) (l .ledger) (l .list) log))
+  pub gave : answer ≡ pick (short reportLength report) 13 (codeOf (countLog (length (l .list)) (l .store) (l .ledger) log))
+  pub report-left : report′ ≡ pick (short reportLength report) report (reportLeft (countLog (length (l .list)) (l .store) (l .ledger) log) report)
+  pub left : l′ ≡ pick (short reportLength report) l (loanOf (heldBy (l .store) (l .ledger) (l .list) log))

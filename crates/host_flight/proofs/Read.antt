@@ -8,7 +8,7 @@ use lib.ListN.{length}
 use Rattle.wire.proofs.Once.{one-answer}
 use Rattle.log.specs.declared.reader.First.{First}
 use Rattle.log.specs.declared.reader.Step.{Step}
-use Rattle.log.specs.Told.{firstIn, nextAt}
+use Rattle.log.specs.Said.{firstIn, nextAt}
 use Rattle.host_flight.specs.Reading.{headCount, firstCode, firstLeft, FirstTold, entryCount, stepCode, stepLeft, NextTold}
 
 pub first-short : (log list : List ℕ) → ltb (length list) headCount ≡ true → FirstTold log list 13 list

@@ -12,7 +12,7 @@ use Rattle.log.specs.declared.reader.First.the-variants as first
 use Rattle.log.specs.declared.reader.Limits.{Limits}
 use Rattle.log.specs.declared.reader.Step.{Step}
 use Rattle.log.specs.declared.reader.Step.the-variants.{Found, End, Refused}
-use Rattle.log.specs.Told.{firstIn, nextAt}
+use Rattle.log.specs.Said.{firstIn, nextAt}
 
 -- ---- the head: where the first entry begins, the largest payload of the log, and the most fragments of a message
 

@@ -19,7 +19,8 @@ use Rattle.moss.specs.declared.Read.{Read}
 use Rattle.moss.specs.declared.Located.{Located}
 use Rattle.moss_writer.specs.Write.{writtenOf, writes, WritesPacket}
 use Rattle.moss_writer.specs.declared.Written.{Written}
-use Rattle.host_gauge.specs.Packets.{code, packetLeft, PacketTold, placeLeft, PlaceTold, lengthLeft, lacking, WriteTold}
+use Rattle.wire.specs.Given.{code}
+use Rattle.host_gauge.specs.Packets.{packetLeft, PacketTold, placeLeft, PlaceTold, lengthLeft, lacking, WriteTold}
 
 -- ---- a packet
 

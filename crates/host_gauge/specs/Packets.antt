@@ -7,22 +7,14 @@ use lib.Dec.{ltb}
 use lib.ListN.{length, set, take}
 use Rattle.wire.specs.Choice.{pick}
 use Rattle.wire.specs.Overlay.{overlay}
-use Rattle.wire.specs.Slices.{Buffer}
+use Rattle.wire.specs.Given.{code}
+use Rattle.wire.specs.Slices.{Buffer, short}
 use Rattle.moss.specs.Limits.{sessionLength}
 use Rattle.moss.specs.Packet.{Given, gives, refuses, packetOf}
 use Rattle.moss.specs.Message.{Part, placeIn}
 use Rattle.moss.specs.Answers.{headersOf}
 use Rattle.moss.specs.declared.Header.{Header}
 use Rattle.moss_writer.specs.Write.{packetBytes, writtenOf, outputOf}
-
--- no room for n numbers
-abbrev pub short : ℕ → List ℕ → Bool
-short n told = ltb (length told) n
-
--- 0, or the number of the refusal
-abbrev pub code : {X : Type 0} → Given X → ℕ
-code (gives x) = 0
-code (refuses number) = number
 
 -- ---- a packet: where its session stands, its sequence, its type, its count of messages
 

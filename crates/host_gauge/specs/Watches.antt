@@ -7,13 +7,12 @@ use lib.ListN.{getD, drop}
 use Rattle.wire.specs.Choice.{pick, _when_else_}
 use Rattle.wire.specs.Bytes.{be, bytes}
 use Rattle.wire.specs.Overlay.{overlay}
-use Rattle.wire.specs.Slices.{Buffer}
+use Rattle.wire.specs.Slices.{Buffer, short}
 use Rattle.watch.specs.Noted.{Noted, notedCode}
 use Rattle.watch.specs.Watching.{moves}
 use Rattle.moss.specs.Packet.{packetOf}
 use Rattle.gauge_watch.specs.declared.Gauge.{Gauge}
 use Rattle.gauge_watch.specs.Heard.{asked, after}
-use Rattle.host_gauge.specs.Packets.{short}
 
 -- the gauge that words show: 1 where a session was heard, the number of its last message, eight bytes of the session and two
 abbrev pub gaugeIn : List ℕ → Gauge

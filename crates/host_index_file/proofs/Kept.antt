@@ -37,7 +37,7 @@ written-file log w n i f f′ room e =
     let l : length b ≡ 17 + 20 * n = file-length (length log) (sorted (i .rows)) ∙ (let c = i .count in let d = sorted-length (i .rows) in omega (arith, c, d)) in
     let r : 0 + length b ≤ length f = omega (arith, l, room) in
     let g : f′ ≡ overlay f 0 b = e ∙ ap (λ (rs : List Row). overlay f 0 (fileOf (length log) rs)) (rows-there log w n i) in
-    record { rows = i .rows; told = i .told; file = (λ j. take (sym l j) (g j)) ∙ overlay-at f 0 b r }
+    record { rows = i .rows; from-log = i .from-log; file = (λ j. take (sym l j) (g j)) ∙ overlay-at f 0 b r }
 
 -- ---- the file of a log, read, is the index of the log
 
@@ -50,7 +50,7 @@ read-index log f h small k w w′ room e =
     let g : w′ ≡ overlay w 0 (wordsOf (sorted rs)) = e ∙ ap (λ (l : List Row). overlay w 0 (wordsOf l)) (file-rows log f h small k) in
     record {
       rows = rs;
-      told = k .told;
+      from-log = k .from-log;
       count = c ∙ sorted-length rs;
       words = (λ j. take (sym l j) (g j)) ∙ overlay-at w 0 (wordsOf (sorted rs)) r;
     }

@@ -1,13 +1,11 @@
 -- WHAT THE C HOST IS TOLD OF A MESSAGE AND OF A LIST'S MARKS, for all that it may lend. Definitions only.
 use mathlib.Core.Path.{_≡_}
-use mathlib.Core.Bool.{Bool, true, false}
+use mathlib.Core.Bool.{true, false}
 use mathlib.Core.List.{List, [], _∷_}
 use Prim.Native.Nat.{ℕ}
-use lib.Dec.{ltb}
 use lib.IntN.{ℤ}
-use lib.ListN.{length}
 use Rattle.wire.specs.Overlay.{overlay}
-use Rattle.wire.specs.Slices.{Buffer}
+use Rattle.wire.specs.Slices.{Buffer, short}
 use Rattle.lmcp.specs.declared.Found.{Found}
 use Rattle.lmcp.specs.declared.Found.the-variants as found
 use Rattle.lmcp.specs.Message.{ReadTo}
@@ -15,10 +13,6 @@ use Rattle.lmcp.specs.Lists.{readList}
 use Rattle.mark_rows.specs.declared.Rows.{Rows}
 use Rattle.mark_rows.specs.declared.Rows.the-variants as rows
 use Rattle.mark_rows.specs.Rows.{GivesRows}
-
--- no room for n numbers
-abbrev pub short : ℕ → List ℕ → Bool
-short n told = ltb (length told) n
 
 -- 13, and what was lent beside the numbers that tell stays
 pub record Unread (list list′ : List ℤ) (told : Buffer) (answer : ℕ) : Type 0 where

@@ -1,19 +1,13 @@
 -- WHAT THE C HOST IS TOLD OF A TILE'S PITS, for all that it may lend. Definitions only.
 use mathlib.Core.Path.{_≡_}
-use mathlib.Core.Bool.{Bool, true, false}
+use mathlib.Core.Bool.{true, false}
 use mathlib.Core.List.{List, [], _∷_}
 use Prim.Native.Nat.{ℕ}
-use lib.Dec.{ltb}
-use lib.ListN.{length}
 use Rattle.wire.specs.Overlay.{overlay}
-use Rattle.wire.specs.Slices.{Buffer}
+use Rattle.wire.specs.Slices.{Buffer, short}
 use Rattle.tile_pits.specs.declared.Pits.{Pits}
 use Rattle.tile_pits.specs.declared.Pits.the-variants as given
 use Rattle.tile_pits.specs.Pits.{Map, GivesPits}
-
--- no room for the number that tells
-abbrev pub short : List ℕ → Bool
-short told = ltb (length told) 1
 
 abbrev pub pitsCode : Pits → ℕ
 pitsCode (given.Many n) = 0
@@ -36,5 +30,5 @@ pub record Written (x : Map) (t : ℕ) (number certain told : Buffer) (answer : 
   pub list : told .after ≡ overlay (told .before) 0 (pitsNumbers given)
 
 pub record PitsTold (x : Map) (t : ℕ) (number certain told : Buffer) (answer : ℕ) : Type 0 where
-  pub unwritten : short (told .before) ≡ true → Unwritten number certain told answer
-  pub written : short (told .before) ≡ false → Written x t number certain told answer
+  pub unwritten : short 1 (told .before) ≡ true → Unwritten number certain told answer
+  pub written : short 1 (told .before) ≡ false → Written x t number certain told answer

@@ -1,20 +1,14 @@
 -- WHAT THE C HOST IS TOLD OF A STRETCH, for all that it may lend. Definitions only.
 use mathlib.Core.Path.{_≡_}
-use mathlib.Core.Bool.{Bool, true, false}
+use mathlib.Core.Bool.{true, false}
 use mathlib.Core.List.{List}
 use Prim.Native.Nat.{ℕ}
-use lib.Dec.{ltb}
-use lib.ListN.{length}
 use Rattle.wire.specs.Overlay.{overlay}
-use Rattle.wire.specs.Slices.{Buffer}
+use Rattle.wire.specs.Slices.{Buffer, short}
 use Rattle.pit_marks.specs.declared.Sizes.{Sizes}
 use Rattle.stretch.specs.declared.Stretch.{Stretch}
 use Rattle.stretch.specs.Stretch.{Desk, CountsOn}
 use Rattle.host_season.specs.Numbers.{stretchLength, stretchNumbers}
-
--- no room for its numbers
-abbrev pub short : List ℕ → Bool
-short told = ltb (length told) stretchLength
 
 -- 13, and all that was lent stays
 pub record Untouched (k : Desk) (told : Buffer) (answer : ℕ) (k′ : Desk) : Type 0 where
@@ -30,5 +24,5 @@ pub record Counted (log : List ℕ) (place most : ℕ) (k : Desk) (had : Sizes) 
   pub list : told .after ≡ overlay (told .before) 0 (stretchNumbers stretch)
 
 pub record StretchTold (log : List ℕ) (place most : ℕ) (k : Desk) (had : Sizes) (told : Buffer) (answer : ℕ) (k′ : Desk) : Type 0 where
-  pub untouched : short (told .before) ≡ true → Untouched k told answer k′
-  pub counted : short (told .before) ≡ false → Counted log place most k had told answer k′
+  pub untouched : short stretchLength (told .before) ≡ true → Untouched k told answer k′
+  pub counted : short stretchLength (told .before) ≡ false → Counted log place most k had told answer k′

@@ -10,7 +10,7 @@ use borrow.Author.Tests.{ltb-false}
 use Rattle.wire.specs.Taken.{Taken, taken, refused}
 use Rattle.wire.proofs.Choices.{or-l, or-r}
 use Rattle.log.specs.Editions.{Edition, headIn, limitsOf}
-use Rattle.log.specs.Told.{firstOf, firstIn}
+use Rattle.log.specs.Said.{firstOf, firstIn}
 use Rattle.log.specs.declared.reader.Limits.{Limits}
 use Rattle.log.specs.declared.reader.First.the-variants as first
 use Rattle.log_index.specs.Limits.{maxIndex, batchRows}

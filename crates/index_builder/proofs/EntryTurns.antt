@@ -25,8 +25,7 @@ use Rattle.log_index.proofs.Moves.{inserted-length}
 use Rattle.log_index.proofs.Gathers.{ahead}
 use Rattle.log_index.proofs.Added.{ahead-none, ahead-both}
 use Rattle.index_builder.specs.declared.Indexed.{Indexed}
-use Rattle.index_builder.specs.Walk.{totalOf, Settles, Takes}
-use Rattle.index_builder.specs.InsideWalk.{Walked, Finishes}
+use Rattle.index_builder.specs.InsideWalk.{totalOf, Settles, Takes, Walked, Finishes}
 
 -- ---- the words stay as many
 

@@ -14,7 +14,7 @@ use Rattle.wire.proofs.Choices.{either}
 use Rattle.wire.proofs.Overlays.{overlay-at}
 use Rattle.log.specs.Editions.{Edition, headBytes, headIn, limitsOf}
 use Rattle.log.specs.Entries.{bodyOf}
-use Rattle.log.proofs.Backs.{head-back}
+use Rattle.log.proofs.LogRoundTrip.{head-back}
 use Rattle.log_index.specs.Limits.{maxIndex, batchRows, largeBatch}
 use Rattle.log_index.specs.Rows.{Row, sorted}
 use Rattle.log_index.specs.Index.{Gathered, gathered, stopped, rowsFrom, rowsBehind, rowsIn, rowsAfter, rowsAdded, firstTo, firstEntry, Answer, holds, refuses, noRoomIn, answerIn}
@@ -69,7 +69,7 @@ module _ (most b : ℕ) (one : 1 ≤ b) where
   extended-in log rest w h k n i r w′ a =
       let xs = i .rows in
       let g = rowsAdded (log ++ rest) (length log) in
-      let e = rows-added log rest h k xs (i .told) in
+      let e = rows-added log rest h k xs (i .from-log) in
       let t : take (3 * length xs) w ≡ wordsOf (sorted xs) = ap (λ (m : ℕ). take (3 * m) w) (sym (i .count)) ∙ i .words in
       record {
         answer = a .answer ∙ ap (λ (m : ℕ). answerIn most (length w) m g) (i .count) ∙ answer-ahead most (length w) xs g ∙ ap (answerIn most (length w) 0) (sym e);
@@ -123,7 +123,7 @@ on-afresh log w most r w′ a = indexes-in most largeBatch (omega arith) log w (
 pub on-extended : (log rest w : List ℕ) → Bytes log → Bytes rest → (n : ℕ) → IndexOf log w n → (most : ℕ) (r : Indexed) (w′ : List ℕ)
     → IndexesOn (log ++ rest) (length log) w n most r w′ → IndexesIn most (log ++ rest) w r w′
 on-extended log rest w h k n i most r w′ a =
-    extended-in most largeBatch (omega arith) log rest w h k n i r w′ (adds-same _ _ w n r w′ (sym (on-added log rest h (i .rows) (i .told))) a)
+    extended-in most largeBatch (omega arith) log rest w h k n i r w′ (adds-same _ _ w n r w′ (sym (on-added log rest h (i .rows) (i .from-log))) a)
 
 -- ---- what is left is an index
 
@@ -145,7 +145,7 @@ index-words most log w n w′ (gathered rs) e a i = elim (either (noRoomIn most 
       let f : 0 + length s ≤ length w = omega (arith, l, room) in
       let m : 3 * n ≡ length s = omega (arith, l) in
       let v : w′ ≡ overlay w 0 s = i ∙ ap (λ (x : Answer). indexWords x (gathered rs) w) b in
-      record { rows = rs; told = e; count = omega arith; words = (λ j. take (m j) (v j)) ∙ overlay-at w 0 s f }
+      record { rows = rs; from-log = e; count = omega arith; words = (λ j. take (m j) (v j)) ∙ overlay-at w 0 s f }
 ]
 
 -- what `index_log` leaves is the index of the log
@@ -170,8 +170,8 @@ finds-first log h w n i s q =
     let xs = i .rows in
     let split : w ≡ wordsOf (sorted xs) ++ drop (3 * n) w = sym (take-append-drop (3 * n) w) ∙ ap (λ (u : List ℕ). u ++ drop (3 * n) w) (i .words) in
     (λ j. foundIn (split j) (i .count j) s q)
-    ∙ found-first s q xs (drop (3 * n) w) (rows-rising log h xs (i .told))
-    ∙ ap (firstTo s q) (sym (i .told))
+    ∙ found-first s q xs (drop (3 * n) w) (rows-rising log h xs (i .from-log))
+    ∙ ap (firstTo s q) (sym (i .from-log))
 
 -- ---- no second answer
 

@@ -36,7 +36,7 @@ Indexes log w r w′ = IndexesIn maxIndex log w r w′
 -- the first n rows of some words are the index of a log
 pub record IndexOf (log w : List ℕ) (n : ℕ) : Type 0 where
   pub rows : List Row
-  pub told : rowsIn log ≡ gathered rows
+  pub from-log : rowsIn log ≡ gathered rows
   pub count : n ≡ length rows
   pub words : take (3 * n) w ≡ wordsOf (sorted rows)
 

@@ -1,3 +1,2 @@
 pub mod Adds
-pub mod Walk
 pub mod InsideWalk

@@ -45,5 +45,5 @@ lines-index log w n x =
 pub lines-held : (log w : List ℕ) (words n : ℕ) → (x : IndexOf log w n) → holds n ≡ answerOf words 0 (rowsIn log) → linesBelow n w ++ endLine n ≡ logLines words log
 lines-held log w words n x e =
     ap (λ (l : List ℕ). l ++ endLine n) (lines-index log w n x)
-    ∙ sym (ap (indexLines (holds n)) (x .told))
+    ∙ sym (ap (indexLines (holds n)) (x .from-log))
     ∙ ap (λ (a : Answer). indexLines a (rowsIn log)) e

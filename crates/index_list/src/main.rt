@@ -28,7 +28,7 @@ fn finish(out: &mut [u8], at: usize, n: u64) -> bool
     output::write_out(out, end)
 }
 
-// One line a row, and the last line.
+// One line a row, and the last line. Answers whether the system took all of them; it stops where it did not.
 fn listed(index: &[u64], n: usize, out: &mut [u8]) -> bool
     requires { ⌜ 3 * n ≤ length (now index) ⌝ }
     ensures { λ r. ⌜ Finishes (now (out .entry)) 0 (linesBelow n (now (index .entry)) ++ endLine n) (now (out .exit)) r ⌝ }
@@ -38,6 +38,9 @@ fn listed(index: &[u64], n: usize, out: &mut [u8]) -> bool
     while i < n {
         at = pour_one(out, at, index, i);
         i += 1;
+        if at == output::CLOSED {
+            return false;
+        }
     }
     finish(out, at, n as u64)
 }

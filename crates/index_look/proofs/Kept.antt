@@ -14,9 +14,9 @@ use Rattle.wire.specs.Taken.{taken}
 use Rattle.wire.proofs.Choices.{either, and-l, and-r, and-of}
 use Rattle.log.specs.Editions.{headBytes, headIn, limitsOf}
 use Rattle.log.specs.Entries.{bodyOf}
-use Rattle.log.specs.Told.{firstOf}
+use Rattle.log.specs.Said.{firstOf}
 use Rattle.log.specs.declared.reader.Limits.{Limits}
-use Rattle.log.proofs.Backs.{head-back}
+use Rattle.log.proofs.LogRoundTrip.{head-back}
 use Rattle.log_index.specs.Rows as rows
 use Rattle.log_index.specs.Rows.{Row, sorted, isOf}
 use Rattle.log_index.specs.Index.{Gathered, gathered, rowsOf, firstTo, firstEntry}
@@ -67,7 +67,7 @@ module _ (log rest f : List ℕ) (h : Bytes (log ++ rest)) (front : Bytes log) (
   rs = k .rows
 
   abbrev i : Indexable log rs
-  i = indexable log front rs (k .told)
+  i = indexable log front rs (k .from-log)
 
   abbrev m : Limits
   m = limitsOf (i .edition)
@@ -139,16 +139,16 @@ module _ (log rest f : List ℕ) (h : Bytes (log ++ rest)) (front : Bytes log) (
       let is : isFile f ≡ true = ap isFile (k .file) ∙ is-file (length log) (sorted rs) log-small few fitting in
       let l : coveredIn f ≤ length big = let e = length-append log rest in let c = covers in omega (arith, c, e) in
       let found : foundInFile f (countIn f) s q ≡ rows.firstOf s q rs =
-      ap (λ (n : ℕ). foundInFile f n s q) count ∙ found-in-sorted f rs (rows-rising log front rs (k .told)) row-there s q in
+      ap (λ (n : ℕ). foundInFile f n s q) count ∙ found-in-sorted f rs (rows-rising log front rs (k .from-log)) row-there s q in
       looked-good big f s q is l ends
       ∙ ap (believed big s q) found
       ∙ first-believed big s q rs leading
-      ∙ ap (λ (g : Gathered). foundSaid (firstTo s q g)) (sym (k .told))
+      ∙ ap (λ (g : Gathered). foundSaid (firstTo s q g)) (sym (k .from-log))
 
 -- a log has one index file
 pub file-once : (log f g : List ℕ) → FileOf log f → FileOf log g → f ≡ g
 file-once log f g a b =
-    let e : gathered (a .rows) ≡ gathered (b .rows) = sym (a .told) ∙ b .told in
+    let e : gathered (a .rows) ≡ gathered (b .rows) = sym (a .from-log) ∙ b .from-log in
     let r : a .rows ≡ b .rows = cc in
     a .file ∙ ap (λ (l : List Row). fileOf (length log) (sorted l)) r ∙ sym (b .file)
 

@@ -25,11 +25,11 @@ use Rattle.datagram.specs.declared.Read.{Read}
 use Rattle.datagram.specs.declared.Read.the-variants.{Good, Refused}
 use Rattle.log.specs.Entries.{Entry, Keeps, AllKeep, entryBytes, bodyOf}
 use Rattle.log.specs.Listed.{entryIn}
-use Rattle.log.specs.Told.{entryAt, stepOf, stepIn, nextAt}
+use Rattle.log.specs.Said.{entryAt, stepOf, stepIn, nextAt}
 use Rattle.log.specs.declared.reader.Limits.{Limits}
 use Rattle.log.specs.declared.reader.Step.the-variants.{Found}
-use Rattle.log.proofs.Backs.{entry-back, entry-some}
-use Rattle.log.proofs.Onward.{found-at}
+use Rattle.log.proofs.LogRoundTrip.{entry-back, entry-some}
+use Rattle.log.proofs.ReadingOn.{found-at}
 use Rattle.log_index.specs.Rows.{Row}
 use Rattle.log_index.specs.Index.{rowFor, entryRow, rowsOf}
 use Rattle.log_index.proofs.Sorts.{All}
@@ -37,7 +37,7 @@ use Rattle.index_look.specs.Keys.{sequenceIs, entryHas}
 
 -- ---- what the reader accepts has the sequence of its bytes
 
-abbrev Says : List ℕ → Read → Type 0
+abbrev pub Says : List ℕ → Read → Type 0
 Says d (Good h) = h .sequence ≡ sequenceIn d
 Says d (Refused n) = Unit {0}
 
@@ -68,7 +68,7 @@ says-fragment m n d =
     says-pick d odd (Refused 5) sized (tt {0})
     (says-pick d (ltb m (sizeIn d)) (Refused 6) named (tt {0}) (says-pick d (eqb (numberIn d) 0) z f (says-zero d (nameLength (drop 20 d))) (says-formed d (place 20 0) 20)))
 
-says-all : (m n : ℕ) (d : List ℕ) → Says d (readDatagram m n d)
+pub says-all : (m n : ℕ) (d : List ℕ) → Says d (readDatagram m n d)
 unfolding readDatagram readSmall
 says-all m n d =
     let s = smallTo d (nameLength (drop 8 d)) in

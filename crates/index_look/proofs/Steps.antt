@@ -13,7 +13,7 @@ use Rattle.datagram.specs.Read.{readDatagram}
 use Rattle.datagram.specs.declared.Read.{Read}
 use Rattle.datagram.specs.declared.Read.the-variants as read
 use Rattle.datagram.specs.declared.Header.{Header}
-use Rattle.log.specs.Told.{firstIn, nextAt}
+use Rattle.log.specs.Said.{firstIn, nextAt}
 use Rattle.log.specs.declared.reader.EntryAt.{EntryAt}
 use Rattle.log.specs.declared.reader.First.the-variants as first
 use Rattle.log.specs.declared.reader.Limits.{Limits}

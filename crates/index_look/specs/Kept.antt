@@ -13,7 +13,7 @@ use Rattle.index_look.specs.declared.Looked.the-variants.{At, Nowhere}
 -- the file of a log: it covers the whole log, and its rows are the log's, sorted
 pub record FileOf (log f : List ℕ) : Type 0 where
   pub rows : List Row
-  pub told : rowsIn log ≡ gathered rows
+  pub from-log : rowsIn log ≡ gathered rows
   pub file : f ≡ fileOf (length log) (sorted rows)
 
 abbrev pub foundSaid : Option ℕ → Looked

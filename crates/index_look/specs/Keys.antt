@@ -7,7 +7,7 @@ use lib.ListN.{take, drop}
 use Rattle.datagram.specs.Read.{readDatagram}
 use Rattle.datagram.specs.declared.Read.{Read}
 use Rattle.datagram.specs.declared.Read.the-variants as read
-use Rattle.log.specs.Told.{firstIn, nextAt}
+use Rattle.log.specs.Said.{firstIn, nextAt}
 use Rattle.log.specs.declared.reader.First.{First}
 use Rattle.log.specs.declared.reader.First.the-variants as first
 use Rattle.log.specs.declared.reader.Limits.{Limits}

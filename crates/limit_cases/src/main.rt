@@ -56,7 +56,7 @@ fn one_more(
     output::pour(out, c, b"\n")
 }
 
-// One line a case, and the last line.
+// One line a case, and the last line. It stops where the output is closed.
 fn run(buf: &mut [u8], out: &mut [u8], payload: &[u8], d: &mut [u8])
     requires { ⌜ lineLimit ≤ length (now out) ⌝ }
 {
@@ -73,7 +73,11 @@ fn run(buf: &mut [u8], out: &mut [u8], payload: &[u8], d: &mut [u8])
         input = left;
         let call = wire::number(stream::head(buf, from, Kind::Numbers), 0, 1);
         at = one_more(out, at, n, call, wire::part(buf, from, len), payload, d);
+        if at == output::CLOSED {
+            return;
+        }
     }
+    output::finish(out, at, n, Next::Cut);
 }
 
 fn main() {

@@ -1,7 +1,7 @@
 // States in which two slots or more are meant alike, or an open key is remembered, which no calls make. Eight messages are open, each of two
-// fragments of a byte of which the first is held; a case is four words, each as the slot (8 for none; 9 for the memory, how many keys its first
-// sender has), which word of it, and a value; then the sequence, the number and the count of the fragment that comes, of as many bytes as
-// fragments: with a count of 0 a small message comes.
+// fragments of a byte of which the first is held; a case is four words, each as the slot (8 for none; 9 for the memory), which word of it, and a
+// value; then the sequence, the number and the count of the fragment that comes, of as many bytes as fragments: with a count of 0 a small
+// message comes.
 ghost use Prim.Native.Nat.{_≤_};
 use receiver::Outcome;
 use steps::Answer;
@@ -49,7 +49,7 @@ fn open_all(
     }
 }
 
-// The word of a state that a case names from a place on: of the memory the first sender's count, which stands after the senders.
+// The word of a state that a case names from a place on.
 fn spot(case: &[u8], place: usize) -> usize
     requires { ⌜ place ≤ 72 ⌝ }
 {
@@ -60,7 +60,7 @@ fn spot(case: &[u8], place: usize) -> usize
             + wire::least(crate::number(case, place + 8), slots::TURN);
     }
     if slot == 9 {
-        return receiver_state::MEMORY + memory::SENDERS_MOST;
+        return receiver_state::MEMORY + wire::least(crate::number(case, place + 8), memory::WORDS);
     }
     receiver::STATE_WORDS
 }

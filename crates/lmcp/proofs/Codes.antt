@@ -11,8 +11,8 @@ use Rattle.wire.specs.Choice.{pick}
 use Rattle.wire.proofs.Choices.{never, and-l, and-r}
 use Rattle.lmcp.specs.declared.Row.{Row}
 use Rattle.lmcp.specs.Table.{signedKind, objectKind, joined, beginnings, rowsOf, startsOf, nothing, second, typesOf, pitsurv}
-use Rattle.lmcp.specs.Packed.{packedBy, packedOf, cell}
-use Rattle.lmcp.specs.InsidePacked.{widthOf}
+use Rattle.lmcp.specs.Packed.{packedBy, packedOf}
+use Rattle.lmcp.specs.InsidePacked.{cell, widthOf}
 use Rattle.lmcp.proofs.Tables.{under}
 
 module _ (T : List (List ℕ)) (rows : List Row) (i : ℕ) where

@@ -7,13 +7,14 @@ use Prim.Native.Nat.{ℕ, _+_, _≤_}
 use native.Mathlib.Omega.{arith}
 use lib.Dec.{leb}
 use lib.IntN.{ℤ}
-use lib.ListN.{length, take, drop}
-use lib.Seq.{sets, sets-eq, take-at}
+use lib.ListN.{length, take}
+use lib.Seq.{sets}
 use borrow.Author.Tests.{le-leb, leb-true}
 use Rattle.wire.specs.Choice.{pick}
 use Rattle.wire.specs.Bytes.{Bytes}
 use Rattle.wire.specs.Overlay.{overlay}
 use Rattle.wire.proofs.Overlays.{overlay-at}
+use Rattle.wire.proofs.Parts.{front-of}
 use Rattle.lmcp.specs.declared.Found.{Found}
 use Rattle.lmcp.specs.declared.Found.the-variants.{Numbers, Refused as Unread}
 use Rattle.lmcp.specs.declared.Made.{Made}
@@ -55,11 +56,6 @@ pub record Listed (X : Read) (list : List ℤ) (n : ℕ) (after : List ℤ) : Ty
   pub size : n ≡ length numbers
   pub within : n ≤ length list
   pub front : take n after ≡ numbers
-
-front-of : (list zs : List ℤ) → length zs ≤ length list → take (length zs) (sets list 0 zs) ≡ zs
-front-of list zs h =
-    let k : 0 + length zs ≤ length list = omega arith in
-    ap (take (length zs)) (sets-eq zs list 0 k) ∙ take-at zs (drop (0 + length zs) list) (length zs) refl
 
 pub read : (X : Read) (list : List ℤ) (n : ℕ) (after : List ℤ) → ReadTo X list (Numbers n) after → Listed X list n after
 unfolding found listed

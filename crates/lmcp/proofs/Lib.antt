@@ -2,12 +2,12 @@ pub mod Aheads
 pub mod Answers
 pub mod Codes
 pub mod Editions
-pub mod Few
+pub mod FewElements
 pub mod WalkPlaces
 pub mod Heads
 pub mod Lent
 pub mod Makes
-pub mod Never
+pub mod SumNeverZero
 pub mod Once
 pub mod Pitsurv
 pub mod Rows

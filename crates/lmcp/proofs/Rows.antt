@@ -13,7 +13,8 @@ use Rattle.wire.proofs.Choices.{and-l, and-r, and-of}
 use Rattle.lmcp.specs.declared.Row.{Row}
 use Rattle.lmcp.specs.Table.{charKind, objectKind, joined, beginnings, rowsOf, startsOf, fieldsOf, nothing, second, typesOf, pitsurv}
 use Rattle.lmcp.proofs.Tables.{upto, under, rows-of}
-use Rattle.lmcp.specs.Packed.{plain, single, runBytes, runBool, packedBy, packedOf, cell}
+use Rattle.lmcp.specs.Packed.{plain, single, runBytes, runBool, packedBy, packedOf}
+use Rattle.lmcp.specs.InsidePacked.{cell}
 
 -- ---- rows that are one run
 

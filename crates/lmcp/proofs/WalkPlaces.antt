@@ -18,7 +18,7 @@ use Rattle.lmcp.specs.declared.Mark.the-variants.{Of, Bad}
 use Rattle.lmcp.specs.Run.{Run, got, refused, Tag, tag, bad, prepend, andThen, after, repeat, whole}
 use Rattle.lmcp.specs.Table.{objectKind, Table, fieldsOf, nothing}
 use Rattle.lmcp.specs.Walk.{Way, item, field, fields, isNull, object, root}
-use Rattle.lmcp.specs.Ends.{begun, Sofar, EndsBy, Marked, MarksBy}
+use Rattle.lmcp.specs.InsideEnds.{begun, Sofar, EndsBy, Marked, MarksBy}
 
 pub sets-append : {B : Type 0} (l : List B) (i : ℕ) (a b : List B) → sets l i (a ++ b) ≡ sets (sets l i a) (i + length a) b
 sets-append l i [] b = rw add-zero

@@ -1,4 +1,4 @@
--- Big-endian numbers of 2, 4 and 8 bytes by halves. Assumes nothing.
+-- Big-endian numbers of 1 and 8 bytes; those of 2 and 4 stand in wire. Assumes nothing.
 use mathlib.Core.Path.{_≡_, ap, sym, _∙_}
 use mathlib.Core.List.{List}
 use Prim.Native.Nat.{ℕ, suc, _+_, _-_, _*_, _<_}
@@ -11,18 +11,6 @@ use Rattle.wire.specs.Bytes.{be}
 pub be-one : (s : List ℕ) (at x : ℕ) → x ≡ getD s at 0 → x ≡ be 1 (drop at s)
 unfolding be
 be-one s at x e = rw (getD-drop, add-zero) (omega (arith, e))
-
-pub be-two : (s : List ℕ) (at x y : ℕ) → x ≡ getD s at 0 → y ≡ getD s (at + 1) 0 → x * 256 + y ≡ be 2 (drop at s)
-unfolding be
-be-two s at x y e f = simp (getD-drop, add-zero) (omega (arith, e, f))
-
-pub be-four : (s : List ℕ) (at x y : ℕ) → x ≡ be 2 (drop at s) → y ≡ be 2 (drop (at + 2) s) → x * 65536 + y ≡ be 4 (drop at s)
-unfolding be
-be-four s at x y e f =
-    let p : at + 2 + 1 ≡ at + 3 = omega arith in
-    let g : y ≡ (0 * 256 + getD s (at + 2) 0) * 256 + getD s (at + 3) 0 = f ∙ simp (getD-drop, add-zero) (ap (λ (i : ℕ). (0 * 256 + getD s (at + 2) 0) * 256 + getD s i 0) p) in
-    let h : x ≡ (0 * 256 + getD s at 0) * 256 + getD s (at + 1) 0 = e ∙ simp (getD-drop, add-zero) in
-    simp (getD-drop, add-zero) (omega (arith, g, h))
 
 pub be-eight : (s : List ℕ) (at x y : ℕ) → x ≡ be 4 (drop at s) → y ≡ be 4 (drop (at + 4) s) → x * 4294967296 + y ≡ be 8 (drop at s)
 unfolding be

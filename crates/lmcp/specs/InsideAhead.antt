@@ -4,7 +4,7 @@ use mathlib.Core.List.{List, []}
 use Prim.Native.Nat.{ℕ, _+_, _≤_, _<_}
 use lib.ListN.{length}
 use Rattle.lmcp.specs.Run.{Run, got}
-use Rattle.lmcp.specs.Ends.{begun, Sofar}
+use Rattle.lmcp.specs.InsideEnds.{begun, Sofar}
 
 abbrev pub Few0 : ℕ → ℕ → Type 0
 Few0 to at = Unit

@@ -9,7 +9,7 @@ pub mod Read
 pub mod Write
 pub mod Message
 pub mod Lists
-pub mod Ends
+pub mod InsideEnds
 pub mod InsideAhead
 pub mod Spelled
 pub mod Worked

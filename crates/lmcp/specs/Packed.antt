@@ -5,7 +5,7 @@ use mathlib.Core.Bool.{Bool, _&&_, _||_}
 use mathlib.Core.List.{List, [], _∷_, _++_}
 use Prim.Native.Nat.{ℕ, zero, suc, _+_, _*_}
 use lib.Dec.{eqb}
-use lib.ListN.{getD, take, drop}
+use lib.ListN.{take, drop}
 use Rattle.wire.specs.Choice.{pick, _when_else_}
 use Rattle.lmcp.specs.declared.Row.{Row}
 use Rattle.lmcp.specs.Table.{unsignedKind, signedKind, boolKind, objectKind, typesOf, beginnings, second}
@@ -62,7 +62,3 @@ packedBy two = filled 20 (packedAll (typesOf two)) ++ (take 8 (beginnings 0 (typ
 
 abbrev pub packedOf : ℕ → List (List ℕ)
 packedOf v = packedBy (second v)
-
--- byte k of row i
-abbrev pub cell : List (List ℕ) → ℕ → ℕ → ℕ
-cell t i k = getD (getD t i []) k 0

@@ -26,6 +26,13 @@ abbrev pub noted : ℕ → List ℤ
 noted zero = pos 0 ∷ []
 noted (suc n) = pos 6 ∷ pos 0 ∷ noted n
 
+-- a PitList of version 2: its count in 4 bytes, a depth of -5 at the mark's end; and its numbers
+abbrev pub deep : List ℕ
+deep = head2 5 ++ (0 ∷ 0 ∷ 0 ∷ 9 ∷ 0 ∷ 0 ∷ 0 ∷ 2 ∷ head2 4) ++ (0 ∷ 0 ∷ 0 ∷ 7 ∷ 1 ∷ 0 ∷ 255 ∷ 251 ∷ 0 ∷ [])
+
+abbrev pub deepNumbers : List ℤ
+deepNumbers = pos 5 ∷ pos 9 ∷ pos 2 ∷ pos 4 ∷ pos 7 ∷ pos 1 ∷ pos 0 ∷ negsuc 4 ∷ pos 0 ∷ []
+
 -- a root, and what is read of it
 pub record Case : Type 0 where
   pub bytes : List ℕ
@@ -47,8 +54,7 @@ cases =
     -- 16 Notes deep, and 17
     ∷ record { bytes = notes 16; gives = got (noted 16) [] }
     ∷ record { bytes = notes 17; gives = refused 26 }
-    -- PitList of version 2: its count in 4 bytes, a depth of -5 at the mark's end
-    ∷ record { bytes = head2 5 ++ (0 ∷ 0 ∷ 0 ∷ 9 ∷ 0 ∷ 0 ∷ 0 ∷ 2 ∷ head2 4) ++ (0 ∷ 0 ∷ 0 ∷ 7 ∷ 1 ∷ 0 ∷ 255 ∷ 251 ∷ 0 ∷ []); gives = got (pos 5 ∷ pos 9 ∷ pos 2 ∷ pos 4 ∷ pos 7 ∷ pos 1 ∷ pos 0 ∷ negsuc 4 ∷ pos 0 ∷ []) [] }
+    ∷ record { bytes = deep; gives = got deepNumbers [] }
     -- mixed, either way
     ∷ record { bytes = head2 5 ++ (0 ∷ 0 ∷ 0 ∷ 9 ∷ 0 ∷ 0 ∷ 0 ∷ 1 ∷ head 4) ++ (0 ∷ 0 ∷ 0 ∷ 7 ∷ 1 ∷ 0 ∷ []); gives = refused 24 }
     ∷ record { bytes = head 5 ++ (0 ∷ 0 ∷ 0 ∷ 9 ∷ 0 ∷ 1 ∷ head2 4) ++ (0 ∷ 0 ∷ 0 ∷ 7 ∷ 1 ∷ 0 ∷ 255 ∷ 251 ∷ []); gives = refused 24 }

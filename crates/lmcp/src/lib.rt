@@ -4,7 +4,8 @@ ghost use Prim.Native.Nat.{_-_, _*_, _^_, _<_, min};
 ghost use lib.ListN.{getD};
 ghost use lib.Signed.{mag};
 ghost use Rattle.lmcp.specs.Table.{pitsurv, rowsOf, startsOf, nothing};
-ghost use Rattle.lmcp.specs.Packed.{packedOf, cell};
+ghost use Rattle.lmcp.specs.Packed.{packedOf};
+ghost use Rattle.lmcp.specs.InsidePacked.{cell};
 ghost use Rattle.lmcp.specs.Read.{typed};
 
 // The longest whole message, in bytes.
@@ -298,7 +299,8 @@ pub fn table(version: u64) -> [[u8; 8]; 22]
     FIRST
 }
 
-// A byte of a table.
+// A byte of a table. It stands in the four crates that walk the table too: a public function asks nothing of its caller, so one for all of them would
+// test the row at each look-up, and every walk knows already that there is such a row.
 fn entry(rows: &[[u8; 8]; 22], i: usize, k: usize) -> usize
     requires { ⌜ (i < 22) × (k < 8) ⌝ }
     ensures { λ r. ⌜ r ≡ cell (now (rows .entry)) i k ⌝ }

@@ -5,12 +5,11 @@ use mathlib.Core.List.{List}
 use Prim.Native.Nat.{ℕ, _+_, _≤_, _<_, _/_}
 use native.Mathlib.Omega.{arith}
 use lib.Dec.{leb}
-use lib.ListN.{length, take, drop}
-use lib.Seq.{take-at}
+use lib.ListN.{length}
 use borrow.Author.Tests.{leb-true, lt-ltb, le-ltb}
 use Rattle.wire.specs.Choice.{pick}
 use Rattle.wire.specs.Overlay.{overlay}
-use Rattle.wire.proofs.Overlays.{overlay-eq}
+use Rattle.wire.proofs.Overlays.{overlay-at}
 use Rattle.lmcp.specs.declared.Made.{Made}
 use Rattle.lmcp.specs.declared.Made.the-variants.{Bytes, Refused}
 use Rattle.lmcp.specs.Run.{got, refused}
@@ -21,18 +20,13 @@ use Rattle.lmcp_bytes.specs.Lines.{numbersOf, longerText, bytesText, ref
 use Rattle.lmcp_bytes.specs.Inside.{madeText}
 
 -- the front of the output is the message
-front-of : (out m : List ℕ) → length m ≤ length out → take (length m) (overlay out 0 m) ≡ m
-front-of out m h =
-    let k : 0 + length m ≤ length out = omega arith in
-    ap (take (length m)) (overlay-eq out 0 m k) ∙ take-at m (drop (0 + length m) out) (length m) refl
-
 text-made : (x : Write) (out : List ℕ) → madeText (written x out) (made x (length out)) ≡ writeText (length out) x
 unfolding made written
 text-made (got m rest) out = by (leb (length m) (length out)) refl
   where
     by : (t : Bool) → leb (length m) (length out) ≡ t
         → madeText (pick t (overlay out 0 m) out) (pick t (Bytes (length m)) (Refused 13)) ≡ pick t (bytesText m) (refusedText 13)
-    by true h = ap bytesText (front-of out m (leb-true (length m) (length out) h))
+    by true h = ap bytesText (overlay-at out 0 m (let z : 0 + length m ≤ length out = omega (arith, leb-true (length m) (length out) h) in z))
     by false h = refl
 text-made (refused number) out = refl
 

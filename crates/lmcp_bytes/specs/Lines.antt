@@ -1,10 +1,10 @@
 -- The lines of the program `lmcp_bytes`, in ASCII, and what they are about. Definitions only.
 use mathlib.Core.Path.{_≡_}
 use mathlib.Core.Bool.{Bool, true, false, not}
-use mathlib.Core.List.{List, [], _∷_, _++_}
-use Prim.Native.Nat.{ℕ, zero, suc, _/_}
+use mathlib.Core.List.{List, _++_}
+use Prim.Native.Nat.{ℕ, _/_}
 use lib.IntN.{ℤ}
-use lib.ListN.{length, drop}
+use lib.ListN.{length}
 use lib.Seq.{sets}
 use lib.Dec.{ltb, leb, eqb}
 use Rattle.wire.specs.Choice.{pick, _when_else_}
@@ -18,13 +18,12 @@ use Rattle.lmcp.specs.Message.{WrittenTo}
 use Rattle.lmcp.specs.Lists.{writeList}
 use Rattle.text.specs.Text.{decimal, hex}
 use Rattle.output.specs.Output.{Pours}
-use Rattle.record_lines.specs.Streams.{Rec, Stream}
+use Rattle.record_lines.specs.Streams.{Rec, Stream, numbersIn}
 use Rattle.record_lines.specs.Lines.{linesOf}
 
--- the first n numbers of a record's body, of 8 bytes each, in two's complement
+-- in two's complement
 abbrev pub numbersOf : ℕ → List ℕ → List ℤ
-numbersOf zero b = []
-numbersOf (suc n) b = signed 64 (be 8 b) ∷ numbersOf n (drop 8 b)
+numbersOf = numbersIn (signed 64)
 
 -- the head's first byte: 0 leaves the checksum zero
 abbrev pub calculated : List ℕ → Bool

@@ -16,7 +16,8 @@ use Rattle.lmcp.proofs.RunParts.{then-nil, repeat-same}
 use Rattle.lmcp.proofs.Heads.{read-some}
 use Rattle.lmcp_check.specs.InsideSteps.{readObject, readItem, readField, readFields}
 use Rattle.lmcp_check.proofs.ReadCases.{number-is, count-short, count-good}
-use Rattle.lmcp.specs.Packed.{packedOf, cell}
+use Rattle.lmcp.specs.Packed.{packedOf}
+use Rattle.lmcp.specs.InsidePacked.{cell}
 use Rattle.lmcp_check.specs.InsideChecks.{fault0, Upto, Checks, Heads, Ran, stepRows}
 use Rattle.lmcp_check.proofs.CheckTurns.{made, stopped, next, next-stops, ends, same-run, marked-then, fields-append, fields-one}
 use Rattle.lmcp_check.proofs.Runs.{ran-checks}

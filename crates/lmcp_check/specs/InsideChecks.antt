@@ -9,7 +9,8 @@ use Rattle.lmcp.specs.Read.{Read}
 use Rattle.lmcp.specs.declared.Row.{Row}
 use Rattle.lmcp.specs.Table.{rowsOf, pitsurv}
 use lib.Seq.{slice}
-use Rattle.lmcp.specs.Packed.{packedOf, cell}
+use Rattle.lmcp.specs.Packed.{packedOf}
+use Rattle.lmcp.specs.InsidePacked.{cell}
 
 abbrev pub fault0 : ℕ
 fault0 = 4294967296

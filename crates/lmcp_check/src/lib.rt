@@ -7,7 +7,7 @@ ghost use lib.ListN.{length, drop, getD};
 ghost use Rattle.wire.specs.Bytes.{be};
 ghost use Rattle.lmcp.specs.Run.{repeat, whole};
 ghost use Rattle.lmcp.specs.Table.{fieldsOf, rowsOf, pitsurv, charKind};
-ghost use Rattle.lmcp.specs.Packed.{cell};
+ghost use Rattle.lmcp.specs.InsidePacked.{cell};
 ghost use Rattle.lmcp.specs.Read.{readValue, known, readHead};
 ghost use Rattle.lmcp.specs.Message.{frame};
 ghost use Rattle.lmcp.specs.Lists.{versionOf, readList};

@@ -2,15 +2,15 @@
 use mathlib.Core.Path.{_≡_, refl, ap, _∙_}
 use mathlib.Core.Bool.{Bool, true, false}
 use mathlib.Core.List.{List, _++_}
-use Prim.Native.Nat.{ℕ, _+_, _≤_}
-use native.Mathlib.Omega.{arith}
+use Prim.Native.Nat.{ℕ}
 use lib.Dec.{leb}
 use lib.IntN.{ℤ}
-use lib.ListN.{length, take, drop}
-use lib.Seq.{sets, sets-eq, take-at}
+use lib.ListN.{length}
+use lib.Seq.{sets}
 use borrow.Author.Tests.{leb-true}
 use Rattle.wire.specs.Choice.{pick}
 use Rattle.wire.specs.Text.{ascii}
+use Rattle.wire.proofs.Parts.{front-of}
 use Rattle.lmcp.specs.declared.Found.{Found}
 use Rattle.lmcp.specs.declared.Found.the-variants.{Numbers, Refused}
 use Rattle.lmcp.specs.Run.{got, refused}
@@ -21,11 +21,6 @@ use Rattle.lmcp_list.specs.Lines.{spaced, refusedText, readText}
 use Rattle.lmcp_list.specs.Inside.{foundText, foundLine}
 
 -- the front of the list is what was stored
-front-of : (list zs : List ℤ) → length zs ≤ length list → take (length zs) (sets list 0 zs) ≡ zs
-front-of list zs h =
-    let k : 0 + length zs ≤ length list = omega arith in
-    ap (take (length zs)) (sets-eq zs list 0 k) ∙ take-at zs (drop (0 + length zs) list) (length zs) refl
-
 text-found : (x : Read) (list : List ℤ) → foundText (listed x list) (found x (length list)) ≡ readText (length list) x
 unfolding found listed
 text-found (got zs rest) list = by (leb (length zs) (length list)) refl

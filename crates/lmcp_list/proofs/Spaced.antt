@@ -8,7 +8,7 @@ use lib.ListN.{length, take, getD}
 use lib.Seq.{take-suc}
 use Rattle.text.specs.Text.{signedDecimal}
 use Rattle.lmcp_list.specs.Lines.{spaced}
-use Rattle.text.proofs.BodyNumbers.{take-least}
+use Rattle.wire.proofs.Parts.{take-least}
 
 spaced-append : (a b : List ℤ) → spaced (a ++ b) ≡ spaced a ++ spaced b
 spaced-append [] b = refl

@@ -1,4 +1,5 @@
 pub mod NumberBits
 pub mod Counts
+pub mod Arrays
 pub mod Puts
 pub mod Roots

@@ -4,7 +4,6 @@ use mathlib.Core.Bool.{Bool, true, false}
 use mathlib.Core.List.{List, [], _∷_}
 use Prim.Native.Nat.{ℕ, zero, suc, _+_, _-_, _*_, _≤_, _<_}
 use native.Mathlib.Omega.{arith}
-use native.Mathlib.Nat.{suc-mul}
 use lib.Dec.{ltb, leb, eqb}
 use lib.IntN.{ℤ, pos}
 use lib.ListN.{length, drop, getD, set, length-drop}
@@ -24,13 +23,14 @@ use Rattle.lmcp.specs.InsideAhead.{Few0, Lays}
 use Rattle.lmcp.proofs.WalkPlaces.{made}
 use Rattle.lmcp.proofs.RunParts.{then-got}
 use Rattle.lmcp.proofs.Aheads.{ahead-as, laid-as, ahead-tag, after-ahead, after-laid, ObjectAt, its-head, null-fits, lays-null, some-fits, lays-some}
-use Rattle.lmcp.proofs.RowWays.{Here, arg-same, few-bytes, plain-row, one-object, many-values, many-objects, chars}
+use Rattle.lmcp.proofs.RowWays.{Here, few-bytes, plain-row, one-object, one-value, many-values, many-objects, chars}
 use Rattle.lmcp_check.specs.InsideSteps.{readObject, readRow, readFields}
 use Rattle.lmcp.proofs.Heads.{read-headed, read-some}
 use Rattle.lmcp_check.proofs.ReadCases.{number-is, count-short, count-good, value-short, value-bad, value-good, head-short, head-null, head-known, root-some}
-use Rattle.lmcp.specs.Packed.{packedOf, cell}
-use Rattle.lmcp.specs.InsidePacked.{widthOf}
-use Rattle.lmcp_reader.specs.InsidePuts.{Ahead, coded, codedAll}
+use Rattle.lmcp.specs.Packed.{packedOf}
+use Rattle.lmcp.specs.InsidePacked.{cell, widthOf}
+use Rattle.lmcp_reader.specs.InsidePuts.{Ahead, coded, bytesAsNumbers}
+use Rattle.lmcp_reader.proofs.Arrays.{width-is, of-bytes}
 
 -- ---- heads
 
@@ -86,29 +86,29 @@ module _ (k w : ℕ) (l : List ℕ) (ys : List ℤ) (m : List ℕ) (e : readValu
       let h = value-long (ltb (length l) w) refl in
       (h, value-good k w l h (be w l) (fault k (be w l)) (numberOf k w (be w l)) refl refl (value-sound h (eqb (fault k (be w l)) 0) refl) refl)
 
-pub length-coded : (n c w : ℕ) (l : List ℕ) → length (codedAll n c w l) ≡ n
-length-coded zero c w l = refl
-length-coded (suc n) c w l = ap suc (length-coded n c w (drop w l))
+pub length-bytes : (n : ℕ) (l : List ℕ) → length (bytesAsNumbers n l) ≡ n
+length-bytes zero l = refl
+length-bytes (suc n) l = ap suc (length-bytes n (drop 1 l))
 
--- n values of a row
-module _ (k w c : ℕ) (codes : (l : List ℕ) → numberOf k w (be w l) ≡ coded c l) where
+-- n values of a byte each
+module _ (k : ℕ) (plain : (l : List ℕ) → numberOf k 1 (be 1 l) ≡ pos (be 1 l)) where
   abbrev g : List ℕ → Read
-  g = readValue k w
+  g = readValue k 1
 
-  values-fine : (n : ℕ) (l : List ℕ) (zs : List ℤ) (r : List ℕ) → repeat n g l ≡ got zs r → (n * w ≤ length l) × (repeat n g l ≡ got (codedAll n c w l) (drop (n * w) l))
+  bytes-fine : (n : ℕ) (l : List ℕ) (zs : List ℤ) (r : List ℕ) → repeat n g l ≡ got zs r → (n ≤ length l) × (repeat n g l ≡ got (bytesAsNumbers n l) (drop n l))
   unfolding repeat andThen prepend
-  values-fine zero l zs r e = let z : 0 * w ≡ 0 = omega arith in (omega arith, ap (λ (j : ℕ). got [] (drop j l)) (sym z))
-  values-fine (suc n) l zs r e =
+  bytes-fine zero l zs r e = (omega arith, refl)
+  bytes-fine (suc n) l zs r e =
       let t = then-got (g l) (repeat n g) zs r e in
-      let f = value-fine k w l (t .ys) (t .mid) (t .first) in
-      let x : got (t .ys) (t .mid) ≡ got (numberOf k w (be w l) ∷ []) (drop w l) = sym (t .first) ∙ f .1 in
-      let b : t .mid ≡ drop w l = cc in
-      let y = values-fine n (drop w l) (t .more) r (ap (repeat n g) (sym b) ∙ t .then) in
-      let m : suc n * w ≡ w + n * w = omega (arith, suc-mul n w) in (
-        omega (arith, f .0, y .0, length-drop w l, m),
-        ap (λ (X : Read). andThen X (repeat n g)) (f .1) ∙ ap (prepend (numberOf k w (be w l) ∷ [])) (y .1)
-            ∙ ap (λ (j : ℤ). got (j ∷ codedAll n c w (drop w l)) (drop (n * w) (drop w l))) (codes l)
-            ∙ ap (got (coded c l ∷ codedAll n c w (drop w l))) (drop-drop (n * w) w l ∙ ap (λ (j : ℕ). drop j l) (sym m)),
+      let f = value-fine k 1 l (t .ys) (t .mid) (t .first) in
+      let x : got (t .ys) (t .mid) ≡ got (numberOf k 1 (be 1 l) ∷ []) (drop 1 l) = sym (t .first) ∙ f .1 in
+      let b : t .mid ≡ drop 1 l = cc in
+      let y = bytes-fine n (drop 1 l) (t .more) r (ap (repeat n g) (sym b) ∙ t .then) in
+      let m : 1 + n ≡ suc n = omega arith in (
+        omega (arith, f .0, y .0, length-drop 1 l),
+        ap (λ (X : Read). andThen X (repeat n g)) (f .1) ∙ ap (prepend (numberOf k 1 (be 1 l) ∷ [])) (y .1)
+            ∙ ap (λ (j : ℤ). got (j ∷ bytesAsNumbers n (drop 1 l)) (drop n (drop 1 l))) (plain l)
+            ∙ ap (got (pos (be 1 l) ∷ bytesAsNumbers n (drop 1 l))) (drop-drop n 1 l ∙ ap (λ (j : ℕ). drop j l) m),
       )
 
 -- ---- the codes of the table
@@ -166,48 +166,59 @@ module _ {v d i : ℕ} {s : List ℕ} {at q : ℕ} (P : Placed v d i s at q) whe
 
   -- values
   module _ (k : c ≡ 6 → ⊥) where
-    pub width-is : arg ≡ widthOf c
-    width-is = arg-same H ∙ plain-row H k .width ∙ ap widthOf (sym (H .code-is))
+    code-value : (l : List ℕ) → numberOf (f .kind) arg (be arg l) ≡ coded c l
+    code-value l = codes-are (f .kind) arg c (omega (arith, plain-row H k .most, H .code-is)) (plain-row H k .signs ∙ ap (leb 3) (sym (H .code-is))) (width-is H k) l
 
     abbrev Values : ℕ → List ℕ → Read
     Values n = repeat n (readValue (f .kind) arg)
 
-    code-value : (l : List ℕ) → numberOf (f .kind) arg (be arg l) ≡ coded c l
-    code-value l = codes-are (f .kind) arg c (omega (arith, plain-row H k .most, H .code-is)) (plain-row H k .signs ∙ ap (leb 3) (sym (H .code-is))) width-is l
+    -- many of them are bytes
+    module _ (bytes : (c ≡ 0) × (arg ≡ 1)) where
+      byte-value : (l : List ℕ) → numberOf (f .kind) 1 (be 1 l) ≡ pos (be 1 l)
+      byte-value l = ap (λ (j : ℕ). numberOf (f .kind) j (be j l)) (sym (bytes .1)) ∙ code-value l ∙ ap (λ (j : ℕ). coded j l) (bytes .0)
 
-    many : (n : ℕ) (l : List ℕ) (q' : ℕ) → Ahead (Values n l) q' → (n * arg ≤ length l) × ((q' + n ≤ 4294967296) × (Values n l ≡ got (codedAll n c arg l) (drop (n * arg) l)))
-    many n l q' a =
-        let y = values-fine (f .kind) arg c code-value n l (a .ys) (a .rest) (a .is) in
-        let x : got (a .ys) (a .rest) ≡ got (codedAll n c arg l) (drop (n * arg) l) = sym (a .is) ∙ y .1 in
-        let b : a .ys ≡ codedAll n c arg l = cc in
-        (y .0, (omega (arith, a .fits, ap length b ∙ length-coded n c arg l), y .1))
+      all-bytes : (n : ℕ) (l : List ℕ) (q' : ℕ) → Ahead (Values n l) q' → (n ≤ length l) × ((q' + n ≤ 4294967296) × (Values n l ≡ got (bytesAsNumbers n l) (drop n l)))
+      all-bytes n l q' a =
+          let e : Values n l ≡ repeat n (readValue (f .kind) 1) l = ap (λ (j : ℕ). repeat n (readValue (f .kind) j) l) (bytes .1) in
+          let y = bytes-fine (f .kind) byte-value n l (a .ys) (a .rest) (sym e ∙ a .is) in
+          let x : got (a .ys) (a .rest) ≡ got (bytesAsNumbers n l) (drop n l) = sym (a .is) ∙ e ∙ y .1 in
+          let b : a .ys ≡ bytesAsNumbers n l = cc in
+          (y .0, (omega (arith, a .fits, ap length b ∙ length-bytes n l), e ∙ y .1))
 
     module _ (z : w ≡ 0) (n : ℕ) (ns : n ≡ cell (packedOf v) i 1) where
-      fixed-is : Reads ≡ Values n (drop at s)
-      fixed-is = many-values H reading d z k n ns (drop at s)
-
-      pub values-room : (at + n * arg ≤ length s) × (q + n ≤ 4294967296)
-      values-room =
-          let y = many n (drop at s) q (ahead-as fixed-is (P .ahead)) in
-          (omega (arith, y .0, length-drop at s, P .within), y .1 .0)
-
-      pub values-laid : {list : List ℤ} (list' : List ℤ) → list' ≡ sets list q (codedAll n c arg (drop at s)) → Lays s list q Reads (at + n * arg) (q + n) list'
-      values-laid list' o =
-          let y = many n (drop at s) q (ahead-as fixed-is (P .ahead)) in
-          made {Few = Few0} (codedAll n c arg (drop at s)) (at + n * arg) (q + n) (fixed-is ∙ y .1 .1 ∙ ap (got (codedAll n c arg (drop at s))) (drop-drop (n * arg) at s)) o (ap (λ (m : ℕ). q + m) (sym (length-coded n c arg (drop at s)))) tt (values-room .0)
-
       -- one value
       module _ (e : n ≡ 1) where
+        one-is : (arg ≤ length (drop at s)) × (Reads ≡ got (coded c (drop at s) ∷ []) (drop (at + arg) s))
+        one-is =
+            let r = one-value H reading d z k n ns e (drop at s) in
+            let a = ahead-as r (P .ahead) in
+            let y = value-fine (f .kind) arg (drop at s) (a .ys) (a .rest) (a .is) in
+            (y .0, r ∙ y .1 ∙ ap (λ (j : ℤ). got (j ∷ []) (drop arg (drop at s))) (code-value (drop at s)) ∙ ap (got (coded c (drop at s) ∷ [])) (drop-drop arg at s))
+
         pub single-room : (at + arg ≤ length s) × (q + 1 ≤ 4294967296)
         single-room =
-            let a : n * arg ≡ arg = ap (λ (m : ℕ). m * arg) e ∙ (let y : 1 * arg ≡ arg = omega arith in y) in
-            (omega (arith, values-room .0, a), omega (arith, values-room .1, e))
+            let a = P .ahead in
+            let x : got (a .ys) (a .rest) ≡ got (coded c (drop at s) ∷ []) (drop (at + arg) s) = sym (a .is) ∙ one-is .1 in
+            let b : a .ys ≡ coded c (drop at s) ∷ [] = cc in
+            (omega (arith, one-is .0, length-drop at s, P .within), omega (arith, a .fits, ap length b))
 
         pub single-laid : {list : List ℤ} (list' : List ℤ) → list' ≡ set list q (coded c (drop at s)) → Lays s list q Reads (at + arg) (q + 1) list'
-        single-laid {list} list' o =
-            let x = values-laid list' (o ∙ ap (λ (j : ℕ). sets list q (codedAll j c arg (drop at s))) (sym e)) in
-            let a : n * arg ≡ arg = ap (λ (m : ℕ). m * arg) e ∙ (let y : 1 * arg ≡ arg = omega arith in y) in
-            subst (λ (j : ℕ). Lays s list q Reads (at + arg) (q + j) list') e (subst (λ (j : ℕ). Lays s list q Reads (at + j) (q + n) list') a x)
+        single-laid list' o = made {Few = Few0} (coded c (drop at s) ∷ []) (at + arg) (q + 1) (one-is .1) o refl tt (single-room .0)
+
+      -- more than one, or none
+      module _ (e : n ≡ 1 → ⊥) where
+        fixed-bytes : (n ≤ length (drop at s)) × ((q + n ≤ 4294967296) × (Reads ≡ got (bytesAsNumbers n (drop at s)) (drop (at + n) s)))
+        fixed-bytes =
+            let r = many-values H reading d z k n ns (drop at s) in
+            let y = all-bytes (of-bytes H k (λ _ one. e (ns ∙ one))) n (drop at s) q (ahead-as r (P .ahead)) in
+            (y .0, (y .1 .0, r ∙ y .1 .1 ∙ ap (got (bytesAsNumbers n (drop at s))) (drop-drop n at s)))
+
+        pub values-room : (at + n ≤ length s) × (q + n ≤ 4294967296)
+        values-room = (omega (arith, fixed-bytes .0, length-drop at s, P .within), fixed-bytes .1 .0)
+
+        pub values-laid : {list : List ℤ} (list' : List ℤ) → list' ≡ sets list q (bytesAsNumbers n (drop at s)) → Lays s list q Reads (at + n) (q + n) list'
+        values-laid list' o =
+            made {Few = Few0} (bytesAsNumbers n (drop at s)) (at + n) (q + n) (fixed-bytes .1 .1) o (ap (λ (m : ℕ). q + m) (sym (length-bytes n (drop at s)))) tt (values-room .0)
 
   -- an array: its count, and then K
   module _ (K : ℕ → List ℕ → Read) (is : Reads ≡ after (readCount w (drop at s)) K) where
@@ -266,17 +277,17 @@ module _ {v d i : ℕ} {s : List ℕ} {at q : ℕ} (P : Placed v d i s at q) whe
         objects-laid o p' q' list' g = laid-by Objects (many-objects H reading d z k (drop at s)) n number o p' q' list' g
 
       module _ (k : c ≡ 6 → ⊥) where
-        pub chars-room : (at + w + n * arg ≤ length s) × (q + 1 + n ≤ 4294967296)
-        chars-room =
-            let y = many k n (drop (at + w) s) (q + 1) (ahead-by Chars (chars H reading d z k (drop at s)) n number .1) in
-            (omega (arith, y .0, length-drop (at + w) s, count-inside), y .1 .0)
+        text : (n ≤ length (drop (at + w) s)) × ((q + 1 + n ≤ 4294967296) × (Chars n (drop (at + w) s) ≡ got (bytesAsNumbers n (drop (at + w) s)) (drop n (drop (at + w) s))))
+        text = all-bytes k (of-bytes H k (λ none _. z none)) n (drop (at + w) s) (q + 1) (ahead-by Chars (chars H reading d z k (drop at s)) n number .1)
 
-        pub chars-laid : {list l1 : List ℤ} → l1 ≡ set list q (pos n) → (list' : List ℤ) → list' ≡ sets l1 (q + 1) (codedAll n c arg (drop (at + w) s)) → Lays s list q Reads (at + w + n * arg) (q + 1 + n) list'
+        pub chars-room : (at + w + n ≤ length s) × (q + 1 + n ≤ 4294967296)
+        chars-room = (omega (arith, text .0, length-drop (at + w) s, count-inside), text .1 .0)
+
+        pub chars-laid : {list l1 : List ℤ} → l1 ≡ set list q (pos n) → (list' : List ℤ) → list' ≡ sets l1 (q + 1) (bytesAsNumbers n (drop (at + w) s)) → Lays s list q Reads (at + w + n) (q + 1 + n) list'
         chars-laid o list' p =
-            let y = many k n (drop (at + w) s) (q + 1) (ahead-by Chars (chars H reading d z k (drop at s)) n number .1) in
-            let all = codedAll n c arg (drop (at + w) s) in
-            laid-by Chars (chars H reading d z k (drop at s)) n number o (at + w + n * arg) (q + 1 + n) list'
-            (made {Few = Few0} all (at + w + n * arg) (q + 1 + n) (y .1 .1 ∙ ap (got all) (drop-drop (n * arg) (at + w) s)) p (ap (λ (m : ℕ). q + 1 + m) (sym (length-coded n c arg (drop (at + w) s)))) tt (chars-room .0))
+            let all = bytesAsNumbers n (drop (at + w) s) in
+            laid-by Chars (chars H reading d z k (drop at s)) n number o (at + w + n) (q + 1 + n) list'
+            (made {Few = Few0} all (at + w + n) (q + 1 + n) (text .1 .1 ∙ ap (got all) (drop-drop n (at + w) s)) p (ap (λ (m : ℕ). q + 1 + m) (sym (length-bytes n (drop (at + w) s)))) tt (chars-room .0))
 
 -- ---- an object
 

@@ -27,9 +27,10 @@ coded c l =
     signed 32 (be 4 l) when eqb c 4 else
     signed 64 (be 8 l)
 
-abbrev pub codedAll : ℕ → ℕ → ℕ → List ℕ → List ℤ
-codedAll zero c w l = []
-codedAll (suc n) c w l = coded c l ∷ codedAll n c w (drop w l)
+-- the numbers of n bytes
+abbrev pub bytesAsNumbers : ℕ → List ℕ → List ℤ
+bytesAsNumbers zero l = []
+bytesAsNumbers (suc n) l = pos (be 1 l) ∷ bytesAsNumbers n (drop 1 l)
 
 -- whether there is room for the numbers of W behind the first
 abbrev pub Rooms : Read → ℕ → Bool → Type 0

@@ -11,14 +11,13 @@ ghost use Rattle.wire.specs.Signed.{signed};
 ghost use Rattle.wire.specs.Bytes.{be};
 ghost use Rattle.lmcp.specs.Run.{repeat, prepend, whole};
 ghost use Rattle.lmcp.specs.Table.{fieldsOf, rowsOf, pitsurv};
-ghost use Rattle.lmcp.specs.Packed.{cell};
-ghost use Rattle.lmcp.specs.InsidePacked.{widthOf};
+ghost use Rattle.lmcp.specs.InsidePacked.{cell, widthOf};
 ghost use Rattle.lmcp.specs.InsideAhead.{Lays};
 ghost use Rattle.lmcp.specs.Message.{ReadTo};
 ghost use Rattle.lmcp.specs.Lists.{readList};
 ghost use Rattle.lmcp_check.specs.InsideSteps.{readObject, readRow, readFields, readRoot};
 ghost use Rattle.lmcp_check.specs.InsideChecks.{Lent};
-ghost use Rattle.lmcp_reader.specs.InsidePuts.{Ahead, Rooms, coded, codedAll};
+ghost use Rattle.lmcp_reader.specs.InsidePuts.{Ahead, Rooms, coded, bytesAsNumbers};
 
 // Where the walk stands, in the bytes and in the list.
 struct Spot {
@@ -108,16 +107,14 @@ fn value_of(s: &[u8], p: usize, code: usize) -> i64
     signed_of(8, 9223372036854775808, eight(s, p))
 }
 
-// n numbers of a code, of w bytes each.
-fn put_values(s: &[u8], p: usize, q: usize, code: usize, w: usize, n: usize, list: &mut [i64])
-    requires { ⌜ ((p + n * w ≤ length (now s)) × (q + n ≤ 4294967296)) × ((w ≡ widthOf code) × (length (now s) < 4294967296)) ⌝ }
-    ensures { λ _. ⌜ now (list .exit) ≡ sets (now (list .entry)) q (codedAll n code w (drop p (now (s .entry)))) ⌝ }
+// n numbers of one byte each: every array of plain numbers in the table is of bytes. So `value_of` has one caller, and is inlined there.
+fn put_bytes_as_numbers(s: &[u8], p: usize, q: usize, n: usize, list: &mut [i64])
+    requires { ⌜ ((p + n ≤ length (now s)) × (q + n ≤ 4294967296)) × (length (now s) < 4294967296) ⌝ }
+    ensures { λ _. ⌜ now (list .exit) ≡ sets (now (list .entry)) q (bytesAsNumbers n (drop p (now (s .entry)))) ⌝ }
 {
     let mut k: usize = 0;
-    let mut at = p;
     while k < n {
-        put(list, q + k, value_of(s, at, code));
-        at += w;
+        put(list, q + k, plain_of(wire::wide(s[p + k])));
         k += 1;
     }
 }
@@ -151,11 +148,8 @@ fn put_row(
                 q: q + 1,
             };
         }
-        put_values(s, p, q, code, arg, n, list);
-        return Spot {
-            p: p + n * arg,
-            q: q + n,
-        };
+        put_bytes_as_numbers(s, p, q, n, list);
+        return Spot { p: p + n, q: q + n };
     }
     let count = wire::number(s, p, w);
     put(list, q, plain_of(count));
@@ -163,9 +157,9 @@ fn put_row(
     if code == 6 {
         return put_objects(s, p + w, q + 1, table, version, deep, arg, m, list);
     }
-    put_values(s, p + w, q + 1, code, arg, m, list);
+    put_bytes_as_numbers(s, p + w, q + 1, m, list);
     Spot {
-        p: p + w + m * arg,
+        p: p + w + m,
         q: q + 1 + m,
     }
 }

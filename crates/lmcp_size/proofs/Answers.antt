@@ -19,7 +19,7 @@ use Rattle.lmcp.specs.Limits.{maxMessage}
 use Rattle.lmcp.specs.Run.{got, refused, whole}
 use Rattle.lmcp.specs.Table.{pitsurv}
 use Rattle.lmcp.specs.Write.{Write}
-use Rattle.lmcp.specs.Ends.{begun, Sofar, Few15}
+use Rattle.lmcp.specs.InsideEnds.{begun, Sofar, Few15}
 use Rattle.lmcp.specs.Message.{checksumOf, headOn, messageOn, framed, writeMessage}
 use Rattle.lmcp.specs.Lists.{isVersion, writeList}
 use Rattle.lmcp.proofs.WalkPlaces.{run-left, run-done, empty}

@@ -9,7 +9,8 @@ use lib.ListN.{length, getD}
 use borrow.Author.Tests.{ne-eqb, eqb-true}
 use Rattle.lmcp.specs.declared.Row.{Row}
 use Rattle.lmcp.specs.Table.{joined, rowsOf, nothing, second, typesOf, pitsurv}
-use Rattle.lmcp.specs.Packed.{packedOf, cell}
+use Rattle.lmcp.specs.Packed.{packedOf}
+use Rattle.lmcp.specs.InsidePacked.{cell}
 use Rattle.lmcp.proofs.Pitsurv.{row-fit}
 use Rattle.lmcp.proofs.Tables.{under}
 use Rattle.lmcp.proofs.RowWays.{Here, count-same, arg-same, few-bytes, plain-row}

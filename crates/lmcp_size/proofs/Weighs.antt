@@ -9,7 +9,7 @@ use Rattle.lmcp.specs.declared.Went.the-variants.{To}
 use Rattle.lmcp.specs.declared.Mark.the-variants.{Of}
 use Rattle.lmcp.specs.Run.{got, Tag, tag}
 use Rattle.lmcp.specs.Write.{Write}
-use Rattle.lmcp.specs.Ends.{Few15}
+use Rattle.lmcp.specs.InsideEnds.{Few15}
 use Rattle.lmcp.proofs.WalkPlaces.{made, marked}
 use Rattle.lmcp_size.specs.InsideWeighs.{Weighs, Tells}
 

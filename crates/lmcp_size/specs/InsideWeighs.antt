@@ -10,7 +10,7 @@ use Rattle.lmcp.specs.Run.{Tag}
 use Rattle.lmcp.specs.Write.{Write}
 use Rattle.lmcp.specs.Table.{signedKind}
 use Rattle.lmcp.specs.Packed.{packedOf}
-use Rattle.lmcp.specs.Ends.{begun, EndsBy, MarksBy, Few15}
+use Rattle.lmcp.specs.InsideEnds.{begun, EndsBy, MarksBy, Few15}
 
 -- the bytes of a number or a count
 pub data Wide : ℕ → Type 0 where

@@ -7,7 +7,7 @@ ghost use Prim.Native.Nat.{_+_, _-_, _*_, _^_, _≤_, _<_};
 ghost use lib.ListN.{length, drop};
 ghost use Rattle.lmcp.specs.Run.{repeat};
 ghost use Rattle.lmcp.specs.Table.{fieldsOf, rowsOf, pitsurv};
-ghost use Rattle.lmcp.specs.Packed.{cell};
+ghost use Rattle.lmcp.specs.InsidePacked.{cell};
 ghost use Rattle.lmcp.specs.Value.{below, values, fits, denial};
 ghost use Rattle.lmcp.specs.Write.{writeValue, writeCount, typedBy, writeHead};
 ghost use Rattle.lmcp.specs.Message.{writeMessage};

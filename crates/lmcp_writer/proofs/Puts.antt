@@ -21,7 +21,8 @@ use Rattle.lmcp.specs.Run.{got, refused, Tag, tag, bad, prepend, andThen, after
 use Rattle.lmcp.specs.Walk.{Way}
 use Rattle.lmcp.specs.InsideAhead.{Few0, Ahead, Lays}
 use Rattle.lmcp.specs.Table.{rowsOf, fieldsOf, nothing, pitsurv}
-use Rattle.lmcp.specs.Packed.{packedOf, cell}
+use Rattle.lmcp.specs.Packed.{packedOf}
+use Rattle.lmcp.specs.InsidePacked.{cell}
 use Rattle.lmcp.specs.Value.{below, fits, denial}
 use Rattle.lmcp.specs.Write.{Write, writing, writeValue, writeCount, header, typedBy, writeHead}
 use Rattle.lmcp.proofs.WalkPlaces.{made}

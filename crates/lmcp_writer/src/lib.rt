@@ -11,7 +11,7 @@ ghost use Rattle.wire.specs.Overlay.{overlay};
 ghost use Rattle.wire.specs.Signed.{unsigned};
 ghost use Rattle.lmcp.specs.Run.{repeat};
 ghost use Rattle.lmcp.specs.Table.{rowsOf, fieldsOf, pitsurv};
-ghost use Rattle.lmcp.specs.Packed.{cell};
+ghost use Rattle.lmcp.specs.InsidePacked.{cell};
 ghost use Rattle.lmcp.specs.InsideAhead.{Ahead, Lays};
 ghost use Rattle.lmcp.specs.Write.{header};
 ghost use Rattle.lmcp.specs.Message.{checksumOf, WrittenTo};

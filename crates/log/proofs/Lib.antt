@@ -1,6 +1,6 @@
 pub mod AfterEntry
-pub mod Backs
+pub mod LogRoundTrip
 pub mod Reading
-pub mod Onward
+pub mod ReadingOn
 pub mod Once
 pub mod EntriesPassed

@@ -5,7 +5,7 @@ use mathlib.Core.Option.{some}
 use Rattle.log.specs.Editions.{Edition, Lawful, editionIn}
 use Rattle.log.specs.Entries.{Entry, AllKeep, logOf}
 use Rattle.log.specs.Listed.{whole, entriesIn}
-use Rattle.log.proofs.Backs.{entries-of-log}
+use Rattle.log.proofs.LogRoundTrip.{entries-of-log}
 
 -- no two editions, limits or lists of entries have one log
 pub log-once : (v w : Edition) → Lawful v → Lawful w → (es ds : List Entry) → AllKeep es → AllKeep ds → logOf v es ≡ logOf w ds → (v ≡ w) × (es ≡ ds)

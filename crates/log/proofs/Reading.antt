@@ -11,7 +11,7 @@ use Rattle.varint.specs.Seven.{sevenIn}
 use Rattle.datagram.specs.Limits.{maxDatagram, maxPayload, maxFragments}
 use Rattle.log.specs.Editions.{Edition, edition1, firstByte, secondByte, limited, limitIn, headIn, limitsTo, limitsOf, limitsIn}
 use Rattle.log.specs.Listed.{datagramIn, lengthIn, tickIn, entryIn}
-use Rattle.log.specs.Told.{firstOf, firstIn, stepOf, stepIn, nextAt, readAt}
+use Rattle.log.specs.Said.{firstOf, firstIn, stepOf, stepIn, nextAt, readAt}
 use Rattle.log.specs.declared.reader.Limits.{Limits}
 use Rattle.log.specs.declared.reader.First.the-variants as first
 use Rattle.log.specs.declared.reader.Step.the-variants.{Found, End, Refused}

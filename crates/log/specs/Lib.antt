@@ -1,4 +1,4 @@
 pub mod Editions
 pub mod Entries
 pub mod Listed
-pub mod Told
+pub mod Said

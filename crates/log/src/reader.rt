@@ -4,7 +4,7 @@ ghost use Prim.Native.Nat.{_≤_};
 ghost use lib.ListN.{length, drop};
 ghost use Rattle.log.specs.Editions.{limited, limitIn, limitsIn};
 ghost use Rattle.log.specs.Listed.{datagramIn, lengthIn, tickIn};
-ghost use Rattle.log.specs.Told.{firstOf, firstIn, stepOf, nextAt, readAt, placeAfter};
+ghost use Rattle.log.specs.Said.{firstOf, firstIn, stepOf, nextAt, readAt, placeAfter};
 use varint::Seven;
 
 // The limits of a log's fragments: the largest payload, and the most fragments of a message.

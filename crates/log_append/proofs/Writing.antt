@@ -14,7 +14,7 @@ use Rattle.log.specs.Editions.{edition2, secondByte, headBytes}
 use Rattle.log.specs.Entries.{Entry, entryOf, entryBytes}
 use Rattle.log_append.specs.Writes.{wrote, refused, fitted, beginAnswer, appendAnswer, Began, Appended}
 use Rattle.log_append.specs.declared.Written.the-variants.{Next, Refused}
-use Rattle.log.proofs.Backs.{entry-some}
+use Rattle.log.proofs.LogRoundTrip.{entry-some}
 
 -- ---- the bytes of an entry
 

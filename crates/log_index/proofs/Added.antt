@@ -14,7 +14,7 @@ use Rattle.log.specs.Editions.{Edition, Lawful, headBytes, headIn, limitsOf}
 use Rattle.log.specs.Entries.{Entry, AllKeep, entryBytes, bodyOf}
 use Rattle.log.specs.Listed.{Listed, whole, broken, after, more, oneMore, listBy}
 use Rattle.log.specs.declared.reader.Limits.{Limits}
-use Rattle.log.proofs.Backs.{entry-back, entry-some, HeadBack, back-body, back-head, head-back, one-more}
+use Rattle.log.proofs.LogRoundTrip.{entry-back, entry-some, HeadBack, back-body, back-head, head-back, one-more}
 use Rattle.log.proofs.AfterEntry.{rest-bytes}
 use Rattle.log_index.specs.Rows.{Row}
 use Rattle.log_index.specs.Index.{rowFor, entryRow, rowsOf, Gathered, gathered, stopped, rowsTo, rowsFrom, rowsBehind, rowsIn, rowsAfter, rowsAdded}

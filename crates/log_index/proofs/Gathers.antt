@@ -10,13 +10,13 @@ use Rattle.wire.proofs.Numbers.{drop-bytes}
 use Rattle.datagram.specs.Read.{readDatagram}
 use Rattle.log.specs.Entries.{Entry, entryBytes}
 use Rattle.log.specs.Listed.{Listed, whole, broken, after, more, listBy, entryIn}
-use Rattle.log.specs.Told.{stepOf, stepIn, nextAt, entryAt}
+use Rattle.log.specs.Said.{stepOf, stepIn, nextAt, entryAt}
 use Rattle.log.specs.declared.reader.EntryAt.{EntryAt}
 use Rattle.log.specs.declared.reader.Limits.{Limits}
 use Rattle.log.specs.declared.reader.Step.the-variants.{Found, End, Refused}
-use Rattle.log.proofs.Backs.{back-entry, entry-some}
+use Rattle.log.proofs.LogRoundTrip.{back-entry, entry-some}
 use Rattle.log.proofs.AfterEntry.{rest-bytes}
-use Rattle.log.proofs.Onward.{found-at}
+use Rattle.log.proofs.ReadingOn.{found-at}
 use Rattle.log.proofs.Reading.{next-end}
 use Rattle.log_index.specs.Rows.{Row}
 use Rattle.log_index.specs.Index.{rowFor, entryRow, rowsOf, Gathered, gathered, stopped, rowsTo, rowsFrom}

@@ -15,7 +15,7 @@ pub const MAX_INDEX: usize = 4096;
 // How many rows are sorted among themselves before they are merged.
 pub const BATCH: usize = 64;
 
-// And where there may be a million.
+// And where there may be a million: about the root of their number, where sorting and merging together cost least.
 pub const LARGE_BATCH: usize = 1024;
 
 // Where the first entry of a key begins in the log.

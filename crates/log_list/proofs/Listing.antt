@@ -10,7 +10,7 @@ use Rattle.log.specs.declared.reader.Step.{Step}
 use Rattle.log.specs.declared.reader.Step.the-variants.{Found, End, Refused}
 use Rattle.log.specs.Entries.{Entry}
 use Rattle.log.specs.Listed.{Listed, whole, broken, entriesIn}
-use Rattle.log.specs.Told.{entrySaid, readAt}
+use Rattle.log.specs.Said.{entrySaid, readAt}
 use Rattle.log.proofs.EntriesPassed.{afterAll, after-whole, after-broken, Passed, passed-none, passed-more, passed-all, passed-broken, ahead}
 use Rattle.output.specs.Output.{closed, Pours}
 use Rattle.output.proofs.Sending.{pours-none, pours-then, pours-is, pours-stop}

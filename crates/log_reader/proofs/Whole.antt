@@ -6,11 +6,11 @@ use lib.ListN.{length}
 use denote.Ref.{RefT, now}
 use Rattle.wire.specs.Bytes.{Bytes}
 use Rattle.log.specs.Listed.{after, entriesIn}
-use Rattle.log.specs.Told.{entrySaid, readAt, placeAfter, readOn, readAll}
-use Rattle.log.specs.Told as told
+use Rattle.log.specs.Said.{entrySaid, readAt, placeAfter, readOn, readAll}
+use Rattle.log.specs.Said as told
 use Rattle.log.specs.declared.reader.Step.{Step}
 use Rattle.log.specs.declared.reader.Step.the-variants.{Found, End, Refused}
-use Rattle.log.proofs.Onward.{read-all, refused-again}
+use Rattle.log.proofs.ReadingOn.{read-all, refused-again}
 use Rattle.log_reader.specs.Reader.{readerAt, stepNow, onward, listed, readsOn, readsAll}
 use Rattle.log_reader.specs.declared.LogReader.{LogReader}
 

@@ -4,7 +4,7 @@ use Prim.Native.Nat.{ℕ, zero, suc}
 use lib.ListN.{length}
 use denote.Ref.{RefT, now}
 use Rattle.log.specs.Listed.{Listed, whole, broken, after}
-use Rattle.log.specs.Told.{entrySaid, readAt, placeAfter}
+use Rattle.log.specs.Said.{entrySaid, readAt, placeAfter}
 use Rattle.log.specs.declared.reader.Step.{Step}
 use Rattle.log.specs.declared.reader.Step.the-variants.{Found, End, Refused}
 use Rattle.log_reader.specs.declared.LogReader.{LogReader}

@@ -13,7 +13,8 @@ use Rattle.log_append.specs.Writes.{Answer, wrote, refused, says, appendAnswer,
 use Rattle.log_append.specs.declared.Written.{Written}
 use Rattle.log_append.specs.declared.Written.the-variants.{Next, Refused}
 use Rattle.log_append.proofs.Writing.{entry-most}
-use Rattle.log_write.specs.Kept.{entryLimit, Keeps}
+use Rattle.log_write.specs.Kept.{Keeps}
+use Rattle.log_write.specs.Inside.{entryLimit}
 
 module _ (space : List ℕ) (e : Entry) (short : length (e .datagram) ≤ maxDatagram) (room : entryLimit ≤ length space) where
   fits : 0 + length (entryBytes e) ≤ length space

@@ -1,6 +1,6 @@
 -- The log of a stream's records, and how an entry goes out behind what is not written out yet. Definitions only.
 use mathlib.Core.List.{List, [], _∷_}
-use Prim.Native.Nat.{ℕ, _+_, _≤_}
+use Prim.Native.Nat.{ℕ, _≤_}
 use lib.ListN.{length, drop}
 use Rattle.wire.specs.Bytes.{be}
 use Rattle.datagram.specs.Limits.{maxPayload, maxDatagram}
@@ -9,11 +9,7 @@ use Rattle.record_lines.specs.Streams.{Rec, Stream, ended, cut, also}
 use Rattle.log.specs.Editions.{edition2}
 use Rattle.log.specs.Entries.{Entry, entryOf, entryBytes, logOf}
 
--- no entry is longer
-abbrev pub entryLimit : ℕ
-entryLimit = 30 + maxDatagram
-
--- so of any entry that a log takes
+-- of any entry that a log takes
 abbrev pub Keeps : List ℕ → ℕ → Entry → List ℕ → ℕ → Type 0
 Keeps before at e after r = length (e .datagram) ≤ maxDatagram → Pours before at (entryBytes e) after r
 

@@ -2,6 +2,7 @@
 use mathlib.Core.List.{List, [], _∷_, map}
 use Prim.Native.Nat.{ℕ, zero, suc}
 use lib.ListN.{length, replicate}
+use Rattle.wire.specs.Text.{ascii}
 use Rattle.datagram.specs.Limits.{maxPayload, maxFragments}
 use Rattle.datagram.specs.Said.{Said, refused, small, fragment, said}
 use Rattle.cutter.specs.Cut.{countOf, datagramOf}
@@ -43,7 +44,7 @@ pub data Given : Type 0 where
 -- ---- each definition, asked
 
 abbrev TILE : List ℕ
-TILE = 0x54 ∷ 0x49 ∷ 0x4c ∷ 0x45 ∷ []
+TILE = ascii "TILE"
 
 -- datagram k, and what our own reader says of it
 abbrev tileSays : ℕ → ℕ → Said

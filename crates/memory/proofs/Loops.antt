@@ -12,7 +12,7 @@ use lib.Bits.{bitOr, or-add-and, and-le-l, and-le-r}
 use lib.Dec.{eqb, leb}
 use lib.ListN.{length, getD, set, take, length-set}
 use lib.Seq.{take-suc, take-all}
-use Rattle.wire.proofs.Choices.{and-false, pick-all}
+use Rattle.wire.proofs.Choices.{and-false, or-false, pick-all}
 use Rattle.words.specs.Builds.{build}
 use Rattle.words.proofs.Builds.{length-build, getD-build}
 use Rattle.steps.specs.Limits.{sendersMost, keysEach}
@@ -54,10 +54,6 @@ of-by w i s e = rw (eq-eqb _ _ e) (go (not (eqb (getD w (usedAt i) 0) 0)))
     go false = refl
 
 -- ---- a sequence is looked for among the first of a list
-
-or-false : (b : Bool) → (b || false) ≡ b
-or-false true = refl
-or-false false = refl
 
 has-snoc : (l : List ℕ) (x q : ℕ) → has (l ++ (x ∷ [])) q ≡ (has l q || eqb x q)
 has-snoc [] x q = or-false (eqb x q)

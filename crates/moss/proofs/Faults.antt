@@ -6,8 +6,7 @@ use mathlib.Core.List.{List}
 use Prim.Native.Nat.{ℕ}
 use native.Mathlib.Omega.{arith}
 use Rattle.moss.specs.Packet.{knownKind, carried, fillFault, blockFault}
-use Rattle.moss.specs.Walk.{start}
-use Rattle.moss.specs.InsideWalk.{walked}
+use Rattle.moss.specs.InsideWalk.{start, walked}
 use Rattle.moss.specs.declared.Trail.{Trail}
 use Rattle.moss.specs.declared.Walked.the-variants.{Filled, Broken}
 

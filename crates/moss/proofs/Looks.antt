@@ -9,8 +9,7 @@ use Rattle.moss.specs.Limits.{headLength}
 use Rattle.moss.specs.Packet.{Given, gives, refuses, Packet, sessionPlace, sequenceIn, kindIn, held}
 use Rattle.moss.specs.Message.{placeIn}
 use Rattle.moss.specs.Answers.{headersOf}
-use Rattle.moss.specs.Walk.{start, pastAll, pointed}
-use Rattle.moss.specs.InsideWalk.{walked, looked}
+use Rattle.moss.specs.InsideWalk.{start, pastAll, pointed, walked, looked}
 use Rattle.moss.specs.declared.Header.{Header}
 use Rattle.moss.specs.declared.Trail.{Trail}
 use Rattle.moss.specs.declared.Walked.the-variants.{Filled, Broken}

@@ -12,8 +12,7 @@ use borrow.Author.Tests.{lt-ltb, le-ltb}
 use Rattle.wire.specs.Choice.{pick}
 use Rattle.wire.specs.Bytes.{be}
 use Rattle.moss.specs.Blocks.{isCut, firstMessage, behind, before, nothingIn, messagesWithin, messagesIn}
-use Rattle.moss.specs.Walk.{past}
-use Rattle.moss.specs.InsideWalk.{walked}
+use Rattle.moss.specs.InsideWalk.{past, walked}
 use Rattle.moss.specs.declared.Trail.{Trail}
 use Rattle.moss.specs.declared.Walked.the-variants.{Filled, Broken}
 

@@ -8,7 +8,7 @@ use lib.ListN.{length}
 use borrow.Author.Tests.{eq-eqb, ne-eqb, lt-ltb, le-ltb}
 use Rattle.moss.specs.Packet.{gives, refuses}
 use Rattle.moss.specs.Message.{Part, located}
-use Rattle.moss.specs.Walk.{start, past, pastAll, pointed}
+use Rattle.moss.specs.InsideWalk.{start, past, pastAll, pointed}
 use Rattle.moss.specs.declared.Trail.{Trail}
 use Rattle.moss.proofs.MessageTurn.{past-count}
 

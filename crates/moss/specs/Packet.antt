@@ -7,13 +7,9 @@ use lib.Dec.{eqb, ltb}
 use lib.ListN.{length, getD, take, drop}
 use Rattle.wire.specs.Choice.{pick, _when_else_}
 use Rattle.wire.specs.Bytes.{be}
+pub use Rattle.wire.specs.Given.{Given, gives, refuses}
 use Rattle.moss.specs.Limits.{sessionLength, headLength, maxPacket, letterU, letterH, letterE}
 use Rattle.moss.specs.Blocks.{nothingIn, messagesIn}
-
--- what is answered: something, or a number of refusal
-pub data Given (X : Type 0) : Type 0 where
-  gives : X → Given X
-  refuses : ℕ → Given X
 
 pub record Packet : Type 0 where
   pub session : List ℕ

@@ -10,8 +10,7 @@ ghost use Rattle.moss.specs.Packet.{packetOf, held, carried, knownKind, 
 ghost use Rattle.moss.specs.Message.{placeIn, messageIn};
 ghost use Rattle.moss.specs.Answers.{headersOf, reads, locates};
 ghost use Rattle.moss.specs.Limits.{headLength, sessionLength};
-ghost use Rattle.moss.specs.Walk.{start, past, pointed};
-ghost use Rattle.moss.specs.InsideWalk.{walked, looked};
+ghost use Rattle.moss.specs.InsideWalk.{start, past, pointed, walked, looked};
 
 // The bytes of a session, of a header, and of the longest packet.
 pub const SESSION: usize = 10;

@@ -15,7 +15,7 @@ use Rattle.steps.specs.Receive.{opened}
 use Rattle.receiver_state.specs.View.{storeWord, roomWord, stateWords, nameBytes, slotsOf, view}
 use Rattle.receiver_state.proofs.Remembers.{memory-fresh}
 use Rattle.receiver.specs.declared.Call.the-variants as call
-use Rattle.receiver.proofs.Others.{unshaped, nameless, whole, refuses, never-some}
+use Rattle.receiver.proofs.Forgetting.{unshaped, nameless, whole, refuses, never-some}
 use Rattle.open_and_payload.specs.Ends.{Opens}
 
 module _ (w n : List ℕ) where

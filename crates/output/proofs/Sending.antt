@@ -156,6 +156,25 @@ pours-stop {a} {b} {s} {at} {r} t e x = λ m.
       same-length = f .same-length;
     }
 
+-- lines one after another: where the output closed at one of them, those behind it, up to any n, take no more
+module _ (lines one : ℕ → List ℕ) (more : (k : ℕ) → lines (suc k) ≡ lines k ++ one k) where
+  between : ℕ → ℕ → List ℕ
+  between i zero = []
+  between i (suc k) = between i k ++ one (i + k)
+
+  lines-on : (i k : ℕ) → lines (i + k) ≡ lines i ++ between i k
+  unfolding between
+  lines-on i zero = ap lines (let z : i + 0 ≡ i = omega arith in z) ∙ sym (append-nil (lines i))
+  lines-on i (suc k) =
+      ap lines (let z : i + suc k ≡ suc (i + k) = omega arith in z)
+      ∙ more (i + k)
+      ∙ ap (λ (l : List ℕ). l ++ one (i + k)) (lines-on i k)
+      ∙ append-assoc (lines i) (between i k) (one (i + k))
+
+  pub pours-shut : {a b : List ℕ} {at r i n : ℕ} → r ≡ closed → i ≤ n → Pours a at (lines i) b r → Pours a at (lines n) b r
+  pours-shut {a} {b} {at} {r} {i} {n} e h x =
+      pours-is (pours-stop (between i (n - i)) e x) (sym (lines-on i (n - i)) ∙ ap lines (let z : i + (n - i) ≡ n = omega arith in z))
+
 -- the place by another name
 pub pours-at : {a b t : List ℕ} {at r q : ℕ} → Pours a at t b r → r ≡ q → Pours a at t b q
 pours-at {a} {b} {t} {at} {r} {q} x e = subst (λ (n : ℕ). Pours a at t b n) e x

@@ -1,5 +1,5 @@
 pub mod EnteringCases
-pub mod Lays
+pub mod TileLines
 pub mod Proper
 pub mod Seen
 pub mod Told

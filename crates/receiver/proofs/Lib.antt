@@ -1,4 +1,4 @@
 pub mod Clears
 pub mod Ends
 pub mod Settling
-pub mod Others
+pub mod Forgetting

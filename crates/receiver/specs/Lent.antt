@@ -2,6 +2,8 @@
 use mathlib.Core.List.{List}
 use Prim.Native.Nat.{ℕ}
 use Rattle.wire.specs.Slices.{Slice}
+use Rattle.steps.specs.Runs.{World, lending}
+use Rattle.receiver_state.specs.View.{view}
 
 pub record Lent : Type 0 where
   pub state : List ℕ
@@ -11,6 +13,10 @@ pub record Lent : Type 0 where
 
 abbrev pub lent : List ℕ → List ℕ → List ℕ → List ℕ → Lent
 lent state names store ledger = record { state = state; names = names; store = store; ledger = ledger }
+
+-- what the four show, as the step list has it
+abbrev pub worldIn : Lent → World
+worldIn l = lending (view (l .state) (l .names)) (l .store) (l .ledger)
 
 -- what the four held before a call, and what they hold after it
 abbrev pub lentBefore : Slice → Slice → Slice → Slice → Lent

@@ -1,10 +1,11 @@
 -- The bridge loses nothing: states and names of the right lengths that show the same machine are the same. So no second outcome satisfies a contract.
 use mathlib.Core.Path.{_≡_, sym, _∙_, ap}
+use mathlib.Core.Bool.{true}
 use mathlib.Core.List.{List}
 use Prim.Native.Nat.{ℕ, zero, suc, _+_, _-_, _*_, _≤_, _<_}
 use native.Mathlib.Decide.{decLe, ℕ-discrete}
 use native.Mathlib.Omega.{arith}
-use lib.ListN.{getD, take, drop, length-drop}
+use lib.ListN.{length, getD, take, drop, length-drop}
 use lib.Seq.{ext-getD, getD-drop}
 use Rattle.datagram.specs.Limits.{maxName}
 use Rattle.steps.specs.Limits.{slotCount}
@@ -12,11 +13,15 @@ use Rattle.steps.specs.Held.{heldWords}
 use Rattle.steps.specs.Slots.{Slot, slotAt}
 use Rattle.steps.specs.Receive.{Machine}
 use Rattle.slots.specs.Words.{headWords, blockWords, blockAt, heldWord}
-use Rattle.receiver_state.specs.View.{memoryAt, stateWords, block, slotOf, view}
+use Rattle.receiver_state.specs.View.{memoryAt, stateWords, block, slotOf, view, shaped}
 use Rattle.receiver_state.specs.Inside.{Shaped}
 use Rattle.receiver_state.proofs.Windows.{window-get, window-inner}
 use Rattle.receiver_state.proofs.Bridge.{slot-at, word}
 use Rattle.receiver_state.proofs.Remembers.{memory-once}
+
+-- words and names that are as long have their lengths as well
+pub shaped-still : (w n w′ n′ : List ℕ) → length w′ ≡ length w → length n′ ≡ length n → shaped w n ≡ true → shaped w′ n′ ≡ true
+shaped-still w n w′ n′ a b e = rw (a, b) e
 
 -- elements of equal windows
 range : (n d k : ℕ) (a b : List ℕ) → take n (drop d a) ≡ take n (drop d b) → d ≤ k → k < d + n → getD a k 0 ≡ getD b k 0

@@ -1,3 +1,4 @@
-pub mod Back
-pub mod Going
+pub mod RecordsBack
+pub mod BodyNumbers
+pub mod RecordLoop
 pub mod Streams

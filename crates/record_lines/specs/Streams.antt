@@ -6,6 +6,7 @@ use lib.Dec.{leb}
 use lib.ListN.{length, take, drop}
 use lib.Seq.{slice}
 use Rattle.wire.specs.Choice.{_when_else_}
+use Rattle.wire.specs.Bytes.{be}
 use Rattle.stream.specs.declared.Kind.{Kind}
 use Rattle.stream.specs.Records.{headOf, bodyLength, isWhole, holds}
 
@@ -13,6 +14,11 @@ use Rattle.stream.specs.Records.{headOf, bodyLength, isWhole, holds}
 pub record Rec : Type 0 where
   pub head : List ℕ
   pub body : List ℕ
+
+-- the first n numbers of a body, of 8 bytes each, each taken as f says
+abbrev pub numbersIn : {X : Type 0} → (ℕ → X) → ℕ → List ℕ → List X
+numbersIn f zero b = []
+numbersIn f (suc n) b = f (be 8 b) ∷ numbersIn f n (drop 8 b)
 
 -- the one at the front of b, in a buffer of n bytes
 abbrev pub firstOf : Kind → ℕ → List ℕ → Rec

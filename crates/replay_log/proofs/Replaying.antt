@@ -11,21 +11,20 @@ use Rattle.steps.specs.declared.Answer.the-variants.{Refused as Unheard}
 use Rattle.steps.specs.Receive.{After, stay}
 use Rattle.steps.specs.Runs.{World, worldOf}
 use Rattle.receiver_state.specs.View.{view, shaped}
-use Rattle.receiver.specs.Lent.{Lent}
+use Rattle.receiver.specs.Lent.{Lent, worldIn}
 use Rattle.log.specs.declared.reader.Limits.{Limits}
 use Rattle.log.specs.declared.reader.EntryAt.{EntryAt}
 use Rattle.log.specs.declared.reader.Step.{Step}
 use Rattle.log.specs.declared.reader.Step.the-variants.{Found, End, Refused}
 use Rattle.log.specs.Entries.{Entry}
 use Rattle.log.specs.Listed.{Listed, whole, broken, entriesIn}
-use Rattle.log.specs.Told.{entrySaid, readAt}
+use Rattle.log.specs.Said.{entrySaid, readAt}
 use Rattle.log.proofs.EntriesPassed.{afterAll, after-whole, after-broken, Passed, passed-none, passed-more, passed-all, passed-broken}
 use Rattle.within_limits.specs.Within.{receivedWithin}
 use Rattle.output.specs.Output.{closed, Pours, Finishes}
 use Rattle.output.proofs.Sending.{pours-none, pours-then, pours-is, pours-stop}
 use Rattle.log_lines.specs.Lines.{endLine, refusedLine, lastLine}
 use Rattle.replay_run.specs.Lines.{line}
-use Rattle.replay_run.specs.Inside.{worldIn}
 use Rattle.replay_log.specs.Lines.{heardBy, linesAfter, logLines, linesFrom, Replayed}
 
 -- ---- a call of the receiver is the step list's, and leaves what that leaves

@@ -8,7 +8,7 @@ ghost use lib.ListN.{length};
 ghost use Rattle.wire.specs.Slices.{buffer};
 ghost use Rattle.output.specs.Output.{lineLimit, Finishes};
 ghost use Rattle.receiver_state.specs.View.{shaped};
-ghost use Rattle.log.specs.Told.{entrySaid};
+ghost use Rattle.log.specs.Said.{entrySaid};
 ghost use Rattle.receiver.specs.Lent.{lentBefore, lentAfter};
 ghost use Rattle.log_lines.specs.Lines.{Tells};
 ghost use Rattle.replay_log.specs.Lines.{Replayed, replayLines};

@@ -1,11 +1,10 @@
 -- A call of the receiver over lent memory is the step list's, and leaves what that leaves. Assumes nothing.
 use mathlib.Core.Path.{_≡_, ap, sym, _∙_, subst}
-use mathlib.Core.Bool.{Bool, true, _&&_}
+use mathlib.Core.Bool.{Bool, true}
 use mathlib.Core.Option.{none, some}
 use mathlib.Core.List.{List}
 use Prim.Native.Nat.{ℕ}
 use native.Mathlib.Omega.{arith}
-use lib.Dec.{eqb}
 use lib.ListN.{length, replicate, length-replicate}
 use borrow.Author.Tests.{eq-eqb}
 use Rattle.wire.specs.Choice.{pick}
@@ -15,7 +14,8 @@ use Rattle.steps.specs.declared.Answer.the-variants.{Refused}
 use Rattle.steps.specs.Receive.{Machine, After, stay, opened}
 use Rattle.steps.specs.Runs.{World, lending, worldOf, from, call as callOf}
 use Rattle.receiver_state.specs.View.{view, shaped, stateWords, nameBytes}
-use Rattle.receiver.specs.Lent.{Lent, lent}
+use Rattle.receiver_state.proofs.Unique.{shaped-still}
+use Rattle.receiver.specs.Lent.{Lent, lent, worldIn}
 use Rattle.receiver.specs.Calls.{refusalOf, received, Receives}
 use Rattle.receiver.specs.declared.Call.{Call}
 use Rattle.receiver.specs.declared.Call.the-variants as call
@@ -27,12 +27,8 @@ use Rattle.output.specs.Output.{Pours}
 use Rattle.output.proofs.Sending.{pours-is}
 use Rattle.record_lines.specs.Lines.{linesAfter, Tells}
 use Rattle.replay_run.specs.Lines.{onlySender, line, says, Replayed}
-use Rattle.replay_run.specs.Inside.{worldIn}
 
 -- lengths that stay keep the shape
-pub shaped-still : (w n w′ n′ : List ℕ) → length w′ ≡ length w → length n′ ≡ length n → shaped w n ≡ true → shaped w′ n′ ≡ true
-shaped-still w n w′ n′ p q e = (λ j. eqb (p j) stateWords && eqb (q j) nameBytes) ∙ e
-
 module _ (l : Lent) (d : List ℕ) (o : Outcome) (l′ : Lent) (e : shaped (l .state) (l .names) ≡ true) (h : Receives l onlySender d o l′) where
   abbrev told : After
   told = callOf (worldIn l) (from onlySender d)

@@ -1,17 +1,21 @@
 -- THE SEASON OF CALLS is the season of the definition, so its tile lines are those of all lists read in all flights. Assumes nothing.
 use mathlib.Core.Path.{_≡_, refl, sym, ap, _∙_, subst}
-use mathlib.Core.List.{List, [], _∷_}
+use mathlib.Core.Logic.{inl, inr}
+use mathlib.Core.List.{List, [], _∷_, _++_}
+use Rattle.sorted_set.specs.Lists.{In, SameMembers}
+use Rattle.sorted_set.proofs.Members.{in-left, in-right, in-either}
 use Rattle.count_rules.specs.Marks.{PitList}
 use Rattle.count_rules.specs.Run.{payloads}
 use Rattle.pit_marks.specs.Lines.{Lays}
 use Rattle.count_rules.specs.Walk.{seenAfter}
+use Rattle.count_rules.proofs.ReportByLists.{same-report}
 use Rattle.stretch.specs.declared.Stretch.{Stretch}
 use Rattle.stretch.specs.Stretch.{Clean}
-use Rattle.season.specs.Season.{Map, mapOf, Shows, Flight, flown, season, Handed, Unrefused}
-use Rattle.season.specs.Calls.{Flew, Flown, landed, flew, CodeSeason}
+use Rattle.season.specs.Season.{Map, mapOf, Shows, Flight, flown, season, listsOfAll, Handed, Unrefused}
+use Rattle.season.specs.Calls.{Flew, Flown, landed, flew, CodeSeason, CodeAnyOrder}
 use Rattle.season.proofs.Fits.{Fits}
 use Rattle.season.proofs.Flights.{flight-told, flight-left, flight-handed}
-use Rattle.season.proofs.Seasons.{flown-went, season-lines}
+use Rattle.season.proofs.Seasons.{flown-went, same-lines, season-lines, lists-same}
 
 -- what a map shows fits it
 shows-fits : (m : Map) (seen : List PitList) → Shows m seen → Fits (m .sets) (m .sizes)
@@ -57,3 +61,14 @@ pub code-season : CodeSeason
 code-season fs m m′ seen h w tile pit certain L =
     let s : Same fs m m′ = same-season fs m m′ seen h w in
     season-lines fs m seen h (s .unrefused) tile pit certain (subst (λ (x : Map). Lays (x .sets) (x .sizes) tile pit certain) (s .is) L)
+
+pub code-any-order : CodeAnyOrder
+code-any-order fs gs m m′ seen h w s tile pit certain L =
+    let e : SameMembers (listsOfAll fs) (listsOfAll gs) = lists-same fs gs s in
+    same-lines (listsOfAll fs ++ seen) (listsOfAll gs ++ seen) (same-report (listsOfAll fs ++ seen) (listsOfAll gs ++ seen) (record {
+      there = behind (listsOfAll fs) (listsOfAll gs) (e .there);
+      back = behind (listsOfAll gs) (listsOfAll fs) (e .back);
+    })) tile pit certain (code-season fs m m′ seen h w tile pit certain L)
+  where
+    behind : (ls ms : List PitList) → ((x : PitList) → In x ls → In x ms) → (x : PitList) → In x (ls ++ seen) → In x (ms ++ seen)
+    behind ls ms sub x i = elim (in-either x ls seen i) [ inl j ↦ in-left x ms seen (sub x j) | inr j ↦ in-right x ms seen j ]

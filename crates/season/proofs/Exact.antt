@@ -11,7 +11,7 @@ use Rattle.steps.specs.Answers.{Reply}
 use Rattle.log.specs.declared.reader.Limits.{Limits}
 use Rattle.log.specs.declared.reader.Step.{Step}
 use Rattle.log.specs.declared.reader.Step.the-variants as step
-use Rattle.log.specs.Told.{entrySaid, readAt, onward, readOn}
+use Rattle.log.specs.Said.{entrySaid, readAt, onward, readOn}
 use Rattle.sorted_set.proofs.Members.{gather-append}
 use Rattle.count_rules.specs.Marks.{PitList, listIn}
 use Rattle.count_rules.specs.Run.{answerTo, answers, payloadIn, payloads}
@@ -21,7 +21,7 @@ use Rattle.pit_payloads.specs.Took.{faultIn, faultOver}
 use Rattle.stretch.specs.declared.Stop.{Stop}
 use Rattle.stretch.specs.declared.Stop.the-variants as stop
 use Rattle.stretch.specs.Stretch.{Kit, calledOn, Entered, enterOn, Stretched, here, byStep, stretch, stopFault, entriesOf}
-use Rattle.stretch.proofs.Laws.{entries-after, clean-answers, refused-some}
+use Rattle.stretch.proofs.StretchAnswers.{entries-after, clean-answers, refused-some}
 use Rattle.season.specs.Season.{Handed, firstOver}
 use Rattle.season.proofs.Went.{stretch-went}
 

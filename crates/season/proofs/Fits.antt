@@ -18,7 +18,7 @@ use Rattle.lmcp.specs.Lists.{readList}
 use Rattle.log.specs.declared.reader.Limits.{Limits}
 use Rattle.log.specs.declared.reader.Step.{Step}
 use Rattle.log.specs.declared.reader.Step.the-variants as step
-use Rattle.log.specs.Told.{entrySaid, readAt}
+use Rattle.log.specs.Said.{entrySaid, readAt}
 use Rattle.sorted_set.specs.declared.Entered.{Entered}
 use Rattle.sorted_set.specs.declared.Entered.the-variants.{Now, Full}
 use Rattle.sorted_set.specs.Halving.{held, isThere, noRoom, entered, wordsWith}

@@ -23,8 +23,8 @@ use Rattle.log.specs.declared.reader.Limits.{Limits}
 use Rattle.log.specs.declared.reader.EntryAt.{EntryAt}
 use Rattle.log.specs.declared.reader.Step.{Step}
 use Rattle.log.specs.declared.reader.Step.the-variants.{Found, End, Refused}
-use Rattle.log.specs.Told.{firstOf, firstIn, entryAt, stepOf, stepIn, nextAt, entrySaid, fromFirst, readAt}
-use Rattle.log.proofs.Onward.{Found-at, found-at}
+use Rattle.log.specs.Said.{firstOf, firstIn, entryAt, stepOf, stepIn, nextAt, entrySaid, fromFirst, readAt}
+use Rattle.log.proofs.ReadingOn.{Found-at, found-at}
 use Rattle.sorted_set.specs.Lists.{In}
 use Rattle.count_rules.specs.Run.{payloads}
 use Rattle.pit_payloads.specs.Looks.{book}

@@ -6,6 +6,7 @@ use mathlib.Core.List.{List, [], _∷_, _++_, map}
 use Prim.Native.Nat.{ℕ, zero, suc, _<_}
 use native.Mathlib.Omega.{arith}
 use native.Mathlib.Decide.{ℕ-discrete}
+use lib.ListN.{length}
 use borrow.Author.Tests.{eq-eqb}
 use Rattle.wire.specs.Choice.{pick}
 use Rattle.steps.specs.Search.{one}
@@ -23,6 +24,7 @@ use Rattle.count_rules.specs.Marks.{listIn}
 use Rattle.count_rules.specs.Run.{payloads, listsRead}
 use Rattle.count_rules.specs.Count.{answersTo}
 use Rattle.count_rules.specs.Promise.{Keeps, Admits, LogOf, deliveredBy}
+use Rattle.count_rules.proofs.Lendings.{same-answers}
 use Rattle.count_rules.proofs.Logs.{backwards, back-members, bytesIn, by-log}
 use Rattle.stretch.specs.Stretch.{entriesOf}
 use Rattle.season.specs.Season.{Flight, listsOf}
@@ -100,10 +102,11 @@ module _ (σ : Scene) (f : Feed) (s : Arrives σ f) where
       by-log σ l a (s .sent) f fair es k ∙ ap (λ (ps : List (List ℕ)). backwards ps) (ap bytesIn (delivered-own σ law f fair) ∙ own-bytes σ (completed σ f)) in
       subst (λ (ps : List (List ℕ)). SameMembers ps (cameWhole σ f)) (sym e) (chained (back-members (map (payload σ) (completed σ f))) whole-members)
 
--- the flight's log keeps the feed, its limits admit the messages, and it is flown with the scene's store and ledger
-pub flight-lists-whole : (t : Flight) (σ : Scene) (f : Feed) → Arrives σ f → LogOf σ f (t .log) → t .store ≡ σ .store → t .ledger ≡ σ .ledger → SameMembers (listsOf t) (listsRead (cameWhole σ f))
+-- the flight's log keeps the feed, its limits admit the messages, and it is flown with a store and a ledger as long as the scene's
+pub flight-lists-whole : (t : Flight) (σ : Scene) (f : Feed) → Arrives σ f → LogOf σ f (t .log) → length (t .store) ≡ length (σ .store) → length (t .ledger) ≡ length (σ .ledger) → SameMembers (listsOf t) (listsRead (cameWhole σ f))
 flight-lists-whole t σ f s k es el =
     let ds : List Entry = k .entries in
     let e : deliveredBy (limitsIn (t .log)) σ ds ≡ payloads (answersTo (limitsIn (t .log)) (t .store) (t .ledger) (entriesOf (entriesIn (t .log)))) =
-    λ i. payloads (answersTo (limitsIn (t .log)) (sym es i) (sym el i) (entriesOf (sym (k .reads) i))) in
+    ap payloads (same-answers (σ .store) (σ .ledger) (t .store) (t .ledger) (sym es) (sym el) (limitsIn (t .log)) ds)
+    ∙ (λ i. payloads (answersTo (limitsIn (t .log)) (t .store) (t .ledger) (entriesOf (sym (k .reads) i)))) in
     gather-same listIn _ _ (subst (λ (ps : List (List ℕ)). SameMembers ps (cameWhole σ f)) e (whole-delivered σ f s (limitsIn (t .log)) (k .admits) ds (k .keeps)))

@@ -14,7 +14,7 @@ use Rattle.log.specs.declared.reader.Limits.{Limits}
 use Rattle.log.specs.declared.reader.Step.{Step}
 use Rattle.log.specs.declared.reader.Step.the-variants as step
 use Rattle.log.specs.Editions.{limitsIn}
-use Rattle.log.specs.Told.{entrySaid, readAt}
+use Rattle.log.specs.Said.{entrySaid, readAt}
 use Rattle.sorted_set.specs.Lists.{In}
 use Rattle.count_rules.specs.Run.{isKept, isRepeat, isDelivered, isRefused, howMany, refusals, payloads}
 use Rattle.count_rules.proofs.Steps.{howMany-append}
@@ -24,7 +24,7 @@ use Rattle.pit_payloads.specs.Took.{faultIn, listsIn}
 use Rattle.stretch.specs.declared.Stop.the-variants as stop
 use Rattle.stretch.specs.declared.Stretch.{Stretch}
 use Rattle.stretch.specs.Stretch.{Desk, Kit, kitOf, inShape, Entered, enterOn, Stretched, here, before, byStep, stretch, totalsOf, toldOn, stretchOf, CountsOn}
-use Rattle.stretch.proofs.Onward.{before-none, before-both, payloads-both, shape-same}
+use Rattle.stretch.proofs.MidStretch.{before-none, before-both, payloads-both, shape-same}
 use Rattle.season.specs.Season.{andOn, addedUp, bothTotals, both}
 use Rattle.season.proofs.Fits.{held-fits, fits-held, stretch-fits}
 

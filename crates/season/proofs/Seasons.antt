@@ -1,5 +1,5 @@
 -- A FLIGHT AND A SEASON against which nothing stood: what the map holds, and its tile lines. Assumes nothing.
-use mathlib.Core.Path.{_≡_, refl, sym, ap, _∙_, subst}
+use mathlib.Core.Path.{_≡_, refl, sym, ap, _∙_, subst, subst₂}
 use mathlib.Core.Logic.{_⊎_, inl, inr}
 use mathlib.Core.Bool.{true}
 use mathlib.Core.List.{List, [], _∷_, _++_, map}
@@ -10,25 +10,28 @@ use Rattle.wire.specs.Overlay.{overlay}
 use Rattle.wire.specs.Slices.{Buffer}
 use Rattle.steps.specs.Answers.{Reply}
 use Rattle.log.specs.Editions.{limitsIn}
+use Rattle.log.specs.Entries.{Entry}
 use Rattle.log.specs.Listed.{Listed, entriesIn}
-use Rattle.log.specs.Told.{readAll}
-use Rattle.log.proofs.Onward.{read-all}
+use Rattle.log.specs.Said.{readAll}
+use Rattle.log.proofs.ReadingOn.{read-all}
 use Rattle.sorted_set.specs.Lists.{In, SameMembers}
-use Rattle.sorted_set.proofs.Members.{in-left, in-right, in-either, gather-same}
+use Rattle.sorted_set.proofs.Members.{in-left, in-right, in-either, gather-in, Source, gather-from, map-in, Origin, map-from}
 use Rattle.count_rules.specs.Marks.{PitList}
 use Rattle.count_rules.specs.Report.{tiles, pits, surePits, Line, line, report}
 use Rattle.count_rules.specs.Meaning.{Marks, MarksSure}
 use Rattle.count_rules.specs.Run.{answers, payloads, listsRead}
+use Rattle.count_rules.specs.Count.{answersTo}
 use Rattle.count_rules.specs.Walk.{seenAfter}
 use Rattle.count_rules.proofs.ReportByLists.{same-report}
 use Rattle.count_rules.proofs.Means.{lines-mean}
+use Rattle.count_rules.proofs.Lendings.{same-answers}
 use Rattle.pit_marks.specs.declared.Sizes.{Sizes}
 use Rattle.pit_marks.specs.Sets.{Sets, Has}
 use Rattle.pit_marks.specs.Lines.{Lays}
 use Rattle.pit_marks.proofs.Told.{tiles-told, pits-told, sure-told}
 use Rattle.stretch.specs.Stretch.{Clean, entriesOf}
-use Rattle.stretch.proofs.Laws.{clean-answers}
-use Rattle.season.specs.Season.{Map, mapOf, Shows, Flight, setOut, flown, season, listsOf, listsOfAll, Handed, Unrefused, Holds, SeasonHolds, LinesOf, SeasonLines, AnyOrder, WhicheverFirst, NoneLost}
+use Rattle.stretch.proofs.StretchAnswers.{clean-answers}
+use Rattle.season.specs.Season.{Map, mapOf, Shows, Flight, setOut, flown, season, listsOf, listsOfAll, Handed, Unrefused, Holds, SeasonHolds, LinesOf, SeasonLines, Given, given, ListsOfLog, SameLogs, AnyOrder, Twice, WhicheverFirst, NoneLost}
 use Rattle.season.proofs.Went.{Went, stretch-went}
 use Rattle.count_rules.proofs.Seen.{seen-from, seen-has, seen-keeps}
 
@@ -100,7 +103,7 @@ lines-of x had ls h tile pit certain L = record {
   sure-of = L .sure-of ∙ ap (overlay (certain .before) 0) (sure-told x had ls h ∙ sym (map-both (line ls) (λ (l : Line). l .sure) (λ n. length (surePits ls n)) (λ n. refl) (tiles ls)));
 }
 
-same-lines : (ls ms : List PitList) → report ls ≡ report ms → (tile pit certain : Buffer) → LinesOf ls tile pit certain → LinesOf ms tile pit certain
+pub same-lines : (ls ms : List PitList) → report ls ≡ report ms → (tile pit certain : Buffer) → LinesOf ls tile pit certain → LinesOf ms tile pit certain
 same-lines ls ms e tile pit certain L = record {
   numbers = L .numbers ∙ ap (λ (r : List Line). overlay (tile .before) 0 (map (λ (l : Line). l .tile) r)) e;
   pits-of = L .pits-of ∙ ap (λ (r : List Line). overlay (pit .before) 0 (map (λ (l : Line). l .pits) r)) e;
@@ -113,31 +116,52 @@ season-lines fs m seen h w tile pit certain L =
     same-lines (s .lists) (listsOfAll fs ++ seen) (same-report (s .lists) (listsOfAll fs ++ seen) (s .same)) tile pit certain
     (lines-of (season fs m .sets) (season fs m .sizes) (s .lists) (s .shows) tile pit certain L)
 
--- ---- whatever the order
+-- ---- whatever was lent, and whatever the order
+
+pub lists-of-log : ListsOfLog
+lists-of-log f g e =
+    let es : List Entry = entriesOf (entriesIn (f .log)) in
+    ap (λ (rs : List Reply). listsRead (payloads rs)) (same-answers (f .store) (f .ledger) (g .store) (g .ledger) (ap (λ (x : Given). x .storeLength) e) (ap (λ (x : Given). x .ledgerSize) e) (limitsIn (f .log)) es)
+    ∙ ap (λ (l : List ℕ). listsRead (payloads (answersTo (limitsIn l) (g .store) (g .ledger) (entriesOf (entriesIn l))))) (ap (λ (x : Given). x .log) e)
+
+-- a list read in one season is read in every season that has its logs
+pub lists-in : (fs gs : List Flight) → ((x : Given) → In x (map given fs) → In x (map given gs)) → (l : PitList) → In l (listsOfAll fs) → In l (listsOfAll gs)
+lists-in fs gs sub l i =
+    let s : Source listsOf fs l = gather-from listsOf fs l i in
+    let o : Origin given gs (given (s .x)) = map-from given gs (given (s .x)) (sub (given (s .x)) (map-in given fs (s .x) (s .inside))) in
+    gather-in listsOf gs (o .x) l (o .inside) (subst (λ (ls : List PitList). In l ls) (lists-of-log (s .x) (o .x) (o .gives)) (s .gives))
+
+pub lists-same : (fs gs : List Flight) → SameLogs fs gs → SameMembers (listsOfAll fs) (listsOfAll gs)
+lists-same fs gs s = record { there = lists-in fs gs (s .there); back = lists-in gs fs (s .back) }
 
 pub any-order : AnyOrder
-any-order fs gs s = same-report (listsOfAll fs) (listsOfAll gs) (gather-same listsOf fs gs s)
+any-order fs gs s = same-report (listsOfAll fs) (listsOfAll gs) (lists-same fs gs s)
 
-either-way : (fs gs : List Flight) (f : Flight) → In f (fs ++ gs) → In f (gs ++ fs)
-either-way fs gs f i = elim (in-either f fs gs i) [ inl j ↦ in-right f gs fs j | inr j ↦ in-left f gs fs j ]
+-- flights whose logs are these
+ordered : (xs ys : List Given) → SameMembers xs ys → (fs gs : List Flight) → map given fs ≡ xs → map given gs ≡ ys → report (listsOfAll fs) ≡ report (listsOfAll gs)
+ordered xs ys s fs gs p q = any-order fs gs (subst₂ (λ (vs ws : List Given). SameMembers vs ws) (sym p) (sym q) s)
+
+either-way : (xs ys : List Given) (x : Given) → In x (xs ++ ys) → In x (ys ++ xs)
+either-way xs ys x i = elim (in-either x xs ys i) [ inl j ↦ in-right x ys xs j | inr j ↦ in-left x ys xs j ]
 
 pub whichever-first : WhicheverFirst
-whichever-first fs gs = any-order (fs ++ gs) (gs ++ fs) (record { there = either-way fs gs; back = either-way gs fs })
+whichever-first xs ys = ordered (xs ++ ys) (ys ++ xs) (record { there = either-way xs ys; back = either-way ys xs })
 
 -- given twice is given once
-pub twice : (f : Flight) (fs : List Flight) → report (listsOfAll (f ∷ f ∷ fs)) ≡ report (listsOfAll (f ∷ fs))
-twice f fs = any-order (f ∷ f ∷ fs) (f ∷ fs) (record { there = λ x i. elim i [ inl e ↦ inl e | inr j ↦ j ]; back = λ x i. inr i })
+pub twice : Twice
+twice x xs = ordered (x ∷ x ∷ xs) (x ∷ xs) (record { there = λ y i. elim i [ inl e ↦ inl e | inr j ↦ j ]; back = λ y i. inr i })
 
 -- ---- a pit stays
 
-marks-more : (ls ms : List PitList) (t p : ℕ) → Marks ls t p → Marks (ms ++ ls) t p
-marks-more ls ms t p m = record { list = m .list; among = in-right (m .list) ms ls (m .among); its-tile = m .its-tile; mark = m .mark; inside = m .inside; its-pit = m .its-pit }
+marks-more : (ls ms : List PitList) → ((l : PitList) → In l ls → In l ms) → (t p : ℕ) → Marks ls t p → Marks ms t p
+marks-more ls ms sub t p m = record { list = m .list; among = sub (m .list) (m .among); its-tile = m .its-tile; mark = m .mark; inside = m .inside; its-pit = m .its-pit }
 
 pub none-lost : NoneLost
 unfolding marks-more
-none-lost f fs t p =
+none-lost fs gs sub t p =
     let ls : List PitList = listsOfAll fs in
-    let ms : List PitList = listsOf f in (
-      (λ i. lines-mean (ms ++ ls) .pits-marked t p .1 (marks-more ls ms t p (lines-mean ls .pits-marked t p .0 i))),
-      (λ i. let m : MarksSure ls t p = lines-mean ls .sure-marked t p .0 i in lines-mean (ms ++ ls) .sure-marked t p .1 (record { marks = marks-more ls ms t p (m .marks); is-sure = m .is-sure })),
+    let ms : List PitList = listsOfAll gs in
+    let more : Marks ls t p → Marks ms t p = marks-more ls ms (lists-in fs gs sub) t p in (
+      (λ i. lines-mean ms .pits-marked t p .1 (more (lines-mean ls .pits-marked t p .0 i))),
+      (λ i. let m : MarksSure ls t p = lines-mean ls .sure-marked t p .0 i in lines-mean ms .sure-marked t p .1 (record { marks = more (m .marks); is-sure = m .is-sure })),
     )

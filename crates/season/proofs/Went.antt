@@ -14,7 +14,7 @@ use Rattle.steps.specs.Runs.{World}
 use Rattle.log.specs.declared.reader.Limits.{Limits}
 use Rattle.log.specs.declared.reader.Step.{Step}
 use Rattle.log.specs.declared.reader.Step.the-variants as step
-use Rattle.log.specs.Told.{entrySaid, readAt}
+use Rattle.log.specs.Said.{entrySaid, readAt}
 use Rattle.sorted_set.specs.Lists.{In}
 use Rattle.sorted_set.proofs.Members.{in-left, in-right, in-either}
 use Rattle.count_rules.specs.Marks.{PitList, listIn}
@@ -28,7 +28,7 @@ use Rattle.pit_payloads.proofs.PayloadTaken.{takes}
 use Rattle.stretch.specs.declared.Stop.{Stop}
 use Rattle.stretch.specs.declared.Stop.the-variants as stop
 use Rattle.stretch.specs.Stretch.{Kit, lookedAt, kitWith, Entered, enterOn, Stretched, here, before, byStep, stretch, Clean, stopFault}
-use Rattle.stretch.proofs.Laws.{list-long, seen-then, lists-both}
+use Rattle.stretch.proofs.StretchAnswers.{list-long, seen-then, lists-both}
 use Rattle.season.specs.Season.{Handed, firstOver}
 
 -- ---- parts of lists

@@ -15,7 +15,7 @@ use Rattle.pit_payloads.specs.Looks.{book}
 use Rattle.stretch.specs.declared.Stop.the-variants as stop
 use Rattle.stretch.specs.declared.Stretch.{Stretch}
 use Rattle.stretch.specs.Stretch.{Desk, desk, CountsOn}
-use Rattle.season.specs.Season.{Map, Shows, Flight, listsOfAll, LinesOf}
+use Rattle.season.specs.Season.{Map, Shows, Flight, listsOfAll, LinesOf, SameLogs}
 
 -- a flight made the map m to m′: state and names may have held anything, and nothing stood against it
 pub record Flew (f : Flight) (m m′ : Map) : Type 0 where
@@ -45,3 +45,8 @@ pub data Flown : List Flight → Map → Map → Type 0 where
 abbrev pub CodeSeason : Type 0
 CodeSeason = (fs : List Flight) (m m′ : Map) (seen : List PitList) → Shows m seen → Flown fs m m′ → (tile pit certain : Buffer)
     → Lays (m′ .sets) (m′ .sizes) tile pit certain → LinesOf (listsOfAll fs ++ seen) tile pit certain
+
+-- and they are those of any season of the same logs, over whatever stores and ledgers as long: so one that is lent to all flights, with what the flight before left in it, makes no difference
+abbrev pub CodeAnyOrder : Type 0
+CodeAnyOrder = (fs gs : List Flight) (m m′ : Map) (seen : List PitList) → Shows m seen → Flown fs m m′ → SameLogs fs gs → (tile pit certain : Buffer)
+    → Lays (m′ .sets) (m′ .sizes) tile pit certain → LinesOf (listsOfAll gs ++ seen) tile pit certain

@@ -10,9 +10,10 @@ use Rattle.wire.specs.Bytes.{Bytes}
 use Rattle.wire.specs.Choice.{pick}
 use Rattle.wire.specs.Overlay.{overlay}
 use Rattle.wire.specs.Slices.{Buffer}
+use Rattle.wire.specs.Taken.{taken}
 use Rattle.steps.specs.Runs.{fresh}
 use Rattle.log.specs.declared.reader.Limits.{Limits}
-use Rattle.log.specs.Editions.{limitsIn}
+use Rattle.log.specs.Editions.{Edition, headIn, limitsIn}
 use Rattle.log.specs.Listed.{entriesIn}
 use Rattle.sorted_set.specs.Lists.{In, SameMembers, gather}
 use Rattle.count_rules.specs.Marks.{PitList, listIn}
@@ -23,9 +24,10 @@ use Rattle.pit_marks.specs.declared.Sizes.{Sizes}
 use Rattle.pit_marks.specs.Sets.{Sets, Has}
 use Rattle.pit_marks.specs.Lines.{Lays}
 use Rattle.pit_payloads.specs.Took.{faultOver}
+use Rattle.stretch.specs.declared.Stop.the-variants as stop
 use Rattle.stretch.specs.declared.Totals.{Totals}
 use Rattle.stretch.specs.declared.Stretch.{Stretch}
-use Rattle.stretch.specs.Stretch.{Kit, Stretched, before, stretch, Clean, entriesOf}
+use Rattle.stretch.specs.Stretch.{Desk, Kit, Stretched, before, stretch, Clean, entriesOf, CountsOn}
 
 -- ---- in pieces
 
@@ -51,6 +53,18 @@ bothTotals a b = record {
 -- the answers of two stretches added up; where and why the second stopped
 abbrev pub both : Stretch → Stretch → Stretch
 both a b = record { stop = b .stop; place = b .place; entries = a .entries + b .entries; totals = bothTotals (a .totals) (b .totals); sizes = b .sizes }
+
+-- counted from the first byte on, where the head may be cut; or from any place of a log whose head is there
+pub data Begun (log : List ℕ) (place : ℕ) : Type 0 where
+  from-first : place ≡ 0 → Begun log place
+  past-head : (v : Edition) (rest : List ℕ) → headIn log ≡ taken v rest → Begun log place
+
+-- A LOG THAT GROWS: a call on it, and one on from where that stopped after more was appended, are one call on the whole with the answers added up.
+-- The first stopped for whatever reason but 13, 60 or 61: after so many entries, at the log's end, or at an entry that was there in part.
+abbrev pub LogGrows : Type 0
+LogGrows = (log more : List ℕ) → Bytes log → Bytes (log ++ more) → (place n j : ℕ) → Begun log place → (k : Desk) (had : Sizes) (r : Stretch) (k′ : Desk) → CountsOn log place n k had r k′
+    → ((i : ℕ) → r .stop ≡ stop.Refused i → ⊥) → (r″ : Stretch) (k″ : Desk) → CountsOn (log ++ more) (r .place) j k′ (r .sizes) r″ k″
+    → CountsOn (log ++ more) place (r .entries + j) k had (both r r″) k″
 
 -- ---- when 13, 60 and 61 come
 
@@ -127,15 +141,35 @@ abbrev pub SeasonLines : Type 0
 SeasonLines = (fs : List Flight) (m : Map) (seen : List PitList) → Shows m seen → Unrefused fs m → (tile pit certain : Buffer)
     → Lays (season fs m .sets) (season fs m .sizes) tile pit certain → LinesOf (listsOfAll fs ++ seen) tile pit certain
 
--- neither the order of the flights nor that one is given twice matters
+-- ---- whatever was lent
+
+-- what of a flight counts: its log, and how long store and ledger are; not what they hold
+pub record Given : Type 0 where
+  pub log : List ℕ
+  pub storeLength : ℕ
+  pub ledgerSize : ℕ
+
+abbrev pub given : Flight → Given
+given f = record { log = f .log; storeLength = length (f .store); ledgerSize = length (f .ledger) }
+
+abbrev pub ListsOfLog : Type 0
+ListsOfLog = (f g : Flight) → given f ≡ given g → listsOf f ≡ listsOf g
+
+-- the same logs: neither the order of the flights nor that one is given twice matters, nor with what store and ledger were filled
+abbrev pub SameLogs : List Flight → List Flight → Type 0
+SameLogs fs gs = SameMembers (map given fs) (map given gs)
+
 abbrev pub AnyOrder : Type 0
-AnyOrder = (fs gs : List Flight) → SameMembers fs gs → report (listsOfAll fs) ≡ report (listsOfAll gs)
+AnyOrder = (fs gs : List Flight) → SameLogs fs gs → report (listsOfAll fs) ≡ report (listsOfAll gs)
+
+abbrev pub Twice : Type 0
+Twice = (x : Given) (xs : List Given) (fs gs : List Flight) → map given fs ≡ x ∷ x ∷ xs → map given gs ≡ x ∷ xs → report (listsOfAll fs) ≡ report (listsOfAll gs)
 
 -- two teams' flights make one map, whichever comes first
 abbrev pub WhicheverFirst : Type 0
-WhicheverFirst = (fs gs : List Flight) → report (listsOfAll (fs ++ gs)) ≡ report (listsOfAll (gs ++ fs))
+WhicheverFirst = (xs ys : List Given) (fs gs : List Flight) → map given fs ≡ xs ++ ys → map given gs ≡ ys ++ xs → report (listsOfAll fs) ≡ report (listsOfAll gs)
 
 -- a flight more takes no pit away, nor makes one unsure
 abbrev pub NoneLost : Type 0
-NoneLost = (f : Flight) (fs : List Flight) (t p : ℕ)
-    → (In p (pits (listsOfAll fs) t) → In p (pits (listsOfAll (f ∷ fs)) t)) × (In p (surePits (listsOfAll fs) t) → In p (surePits (listsOfAll (f ∷ fs)) t))
+NoneLost = (fs gs : List Flight) → ((x : Given) → In x (map given fs) → In x (map given gs)) → (t p : ℕ)
+    → (In p (pits (listsOfAll fs) t) → In p (pits (listsOfAll gs) t)) × (In p (surePits (listsOfAll fs) t) → In p (surePits (listsOfAll gs) t))

@@ -16,7 +16,7 @@ use Rattle.steps.specs.Receive.{opened, stay, sameFragment, agrees, step
 use Rattle.steps.specs.Limits.{ledgerLength}
 use Rattle.steps.specs.Runs.{Arrival, from, Heard, heard}
 use Rattle.steps.specs.Worked.{inFours, A-of, B-of, Case, hears, ofOne}
-use Rattle.steps.proofs.Quick.{runAt, run-at}
+use Rattle.steps.proofs.RunComputed.{runAt, run-at}
 
 abbrev pub quickly : Case → List Heard
 quickly c = let xs : List Arrival = map (from 0) (c .come) in zipWith heard xs (runAt ledgerLength inFours xs)

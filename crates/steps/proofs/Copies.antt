@@ -23,6 +23,13 @@ use Rattle.steps.specs.Reach.{isStored}
 use Rattle.steps.specs.Promises.{OfMessage, Copy}
 use Rattle.steps.proofs.Branches.{step-unsound, step-sound, fragment-open, step3-other, step3-differs, step3-join, step3-clash, step5-stores}
 
+-- step 3's test of P and n
+pub message-of : (slot : Slot) (f : Fragment) → sameMessage slot f ≡ true → OfMessage slot f
+message-of slot f e = record {
+  same-size = eqb-true (f .size) (slot .size) (and-l (eqb (f .size) (slot .size)) (eqb (f .count) (slot .count)) e);
+  same-count = eqb-true (f .count) (slot .count) (and-r (eqb (f .size) (slot .size)) (eqb (f .count) (slot .count)) e);
+}
+
 -- what step 3 has found when it answers so
 data Found3 (m : Machine) (store ledger : List ℕ) (s : ℕ) (f : Fragment) (a : Answer) : Type 0 where
   other : a ≡ Refused 8 → Found3 m store ledger s f a
@@ -60,12 +67,6 @@ module _ (m : Machine) (store ledger : List ℕ) (sender : ℕ) (d : List ℕ) (
   unfolding stay
   nine e = ap (λ (a : After). a .answer) (step-unsound m store ledger sender d e)
 
-  message-of : sameMessage slot f ≡ true → OfMessage slot f
-  message-of e = record {
-    same-size = eqb-true (f .size) (slot .size) (and-l (eqb (f .size) (slot .size)) (eqb (f .count) (slot .count)) e);
-    same-count = eqb-true (f .count) (slot .count) (and-r (eqb (f .size) (slot .size)) (eqb (f .count) (slot .count)) e);
-  }
-
   -- not refused: it has the slot's P and n
   pub of-its-message : ((n : ℕ) → step m store ledger sender d .answer ≢ Refused n) → OfMessage (slotAt (m .slots) s) f
   of-its-message h = elim (either (sound m (length store) (length ledger))) [
@@ -75,8 +76,8 @@ module _ (m : Machine) (store ledger : List ℕ) (sender : ℕ) (d : List ℕ) (
     where
       go : Found3 m store ledger s f answer → OfMessage slot f
       go (other q) = absurd (h 8 q)
-      go (copy x y z) = message-of x
-      go (new x y) = message-of x
+      go (copy x y z) = message-of slot f x
+      go (new x y) = message-of slot f x
 
   copy-of : isHeld (slot .held) (f .number) ≡ true → sameFragment (m .slotSize) store ledger s slot f ≡ true → Copy (m .slotSize) store ledger s slot f
   unfolding sameFragment

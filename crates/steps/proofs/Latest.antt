@@ -14,20 +14,16 @@ use lib.ListN.{length, take, length-map, getD-replicate}
 use lib.Seq.{take-all}
 use borrow.Author.Tests.{eqb-true, eq-eqb, ne-eqb, lt-ltb, le-ltb}
 use Rattle.wire.specs.Choice.{pick}
-use Rattle.wire.proofs.Choices.{either, never, and-of, or-l, or-r, pick-all}
+use Rattle.wire.proofs.Choices.{either, never, and-of, or-l, or-r, or-of-right, pick-all}
 use Rattle.steps.specs.Limits.{sendersMost, keysEach}
 use Rattle.steps.specs.Search.{first}
 use Rattle.steps.specs.Memory.{Key, sameKey, among, Place, noPlace, vacant, isOf, has, Memory, emptyMemory, placeAt, isRemembered, furthestBack, placeFor, orElse, withKey}
-use Rattle.steps.specs.Memory.{sunk, remember, freed, forgetKeys, rememberAll, since, Recent, Deed, delivery, forgetting, memoryAfter, without, latest, sequencesOf, amongLast, isThere, isKnown}
+use Rattle.steps.specs.Memory.{sunk, remember, freed, forgetKeys, rememberAll, since, Lately, FewSenders, Deed, delivery, forgetting, memoryAfter, without, latest, sequencesOf, amongLast, isThere, isKnown}
 use Rattle.steps.proofs.Tables.{or-not, or-yes, First, first-some, first-none}
 use Rattle.steps.proofs.Memories.{key-same, has-reverse, without-less, without-other, at-most, Whole, empty-whole, empty-vacant, remember-whole, forget-whole, forget-at, Seated, own, free, full, seated, place-inside}
 use Rattle.steps.proofs.Memories.{own-place, found, not-found, of-sender, of-taken, taken-of, vacant-of, key-taken, key-sender, after-here, after-other, Holds, holds-own, holds-first, freed-own, freed-same, freed-other}
 
 -- ---- lists of numbers, each once
-
-right : (a : Bool) {b : Bool} → b ≡ true → (a || b) ≡ true
-right true e = refl
-right false e = e
 
 abbrev Apart : List ℕ → Type 0
 Apart [] = Unit {0}
@@ -42,7 +38,7 @@ without-has [] x z e = never e refl
 without-has (y ∷ l) x z e = elim (ℕ-discrete y x) [
   | yes q ↦
       let r = without-has l x z (rw (eq-eqb y x q) at e) in
-      (r .0, right (eqb y z) (r .1))
+      (r .0, or-of-right (eqb y z) (r .1))
   | no q ↦ here (without-has l x z) q (rw (ne-eqb y x q) at e)
 ]
   where
@@ -51,7 +47,7 @@ without-has (y ∷ l) x z e = elim (ℕ-discrete y x) [
       | inl t ↦ ((λ w. q (eqb-true y z t ∙ w)), or-yes (eqb y z) (has l z) t)
       | inr t ↦
           let r = ih (sym (or-not (eqb y z) (has (without l x) z) t) ∙ p) in
-          (r .0, right (eqb y z) (r .1))
+          (r .0, or-of-right (eqb y z) (r .1))
     ]
 
 without-lacks : (l : List ℕ) (x z : ℕ) → has l z ≡ false → has (without l x) z ≡ false
@@ -165,10 +161,10 @@ besides-has v (x ∷ l) i e = go (besides-has v l i) (v x) refl e
   where
     go : (has (besides v l) i ≡ true → (has l i ≡ true) × (v i ≡ false)) → (b : Bool) → v x ≡ b → has (pick b (besides v l) (x ∷ besides v l)) i ≡ true
         → ((eqb x i || has l i) ≡ true) × (v i ≡ false)
-    go ih true t q = let r = ih q in (right (eqb x i) (r .0), r .1)
+    go ih true t q = let r = ih q in (or-of-right (eqb x i) (r .0), r .1)
     go ih false t q = elim (either (eqb x i)) [
       | inl s ↦ (or-yes (eqb x i) (has l i) s, subst (λ (y : ℕ). v y ≡ false) (eqb-true x i s) t)
-      | inr s ↦ let r = ih (sym (or-not (eqb x i) (has (besides v l) i) s) ∙ q) in (right (eqb x i) (r .0), r .1)
+      | inr s ↦ let r = ih (sym (or-not (eqb x i) (has (besides v l) i) s) ∙ q) in (or-of-right (eqb x i) (r .0), r .1)
     ]
 
 besides-in : (v : ℕ → Bool) (l : List ℕ) (i : ℕ) → has l i ≡ true → v i ≡ false → has (besides v l) i ≡ true
@@ -179,7 +175,7 @@ besides-in v (x ∷ l) i e q = go (λ z. besides-in v l i z q) (v x) refl
     go ih true t = ih (sym (or-not (eqb x i) (has l i) (ne-eqb x i (λ z. never (subst (λ (y : ℕ). v y ≡ true) z t) q))) ∙ e)
     go ih false t = elim (either (eqb x i)) [
       | inl s ↦ or-yes (eqb x i) (has (besides v l) i) s
-      | inr s ↦ right (eqb x i) (ih (sym (or-not (eqb x i) (has l i) s) ∙ e))
+      | inr s ↦ or-of-right (eqb x i) (ih (sym (or-not (eqb x i) (has l i) s) ∙ e))
     ]
 
 besides-apart : (v : ℕ → Bool) (l : List ℕ) → Apart l → Apart (besides v l)
@@ -197,7 +193,7 @@ besides-all : (v : ℕ → Bool) (l : List ℕ) → ((i : ℕ) → has l i ≡ t
 besides-all v [] h = refl
 besides-all v (x ∷ l) h =
     ap (λ (b : Bool). pick b (besides v l) (x ∷ besides v l)) (h x (or-yes (eqb x x) (has l x) (eq-eqb x x refl)))
-    ∙ ap (λ (t : List ℕ). x ∷ t) (besides-all v l (λ i e. h i (right (eqb x i) e)))
+    ∙ ap (λ (t : List ℕ). x ∷ t) (besides-all v l (λ i e. h i (or-of-right (eqb x i) e)))
 
 besides-without : (v : ℕ → Bool) (l : List ℕ) (p : ℕ) → besides v (without l p) ≡ without (besides v l) p
 besides-without v [] p = refl
@@ -215,7 +211,7 @@ besides-without v (x ∷ l) p = go (besides-without v l p) (eqb x p) (v x) refl 
 besides-same : (u v : ℕ → Bool) (l : List ℕ) → ((i : ℕ) → has l i ≡ true → u i ≡ v i) → besides u l ≡ besides v l
 besides-same u v [] h = refl
 besides-same u v (x ∷ l) h =
-    let r : besides u l ≡ besides v l = besides-same u v l (λ i e. h i (right (eqb x i) e)) in
+    let r : besides u l ≡ besides v l = besides-same u v l (λ i e. h i (or-of-right (eqb x i) e)) in
     let q : u x ≡ v x = h x (or-yes (eqb x x) (has l x) (eq-eqb x x refl)) in
     λ i. pick (q i) (r i) (x ∷ r i)
 
@@ -270,22 +266,22 @@ map-lacks : (f : ℕ → ℕ) (l : List ℕ) (s : ℕ) → ((i : ℕ) → has l 
 map-lacks f [] s h = refl
 map-lacks f (x ∷ l) s h =
     rw (ne-eqb (f x) s (h x (or-yes (eqb x x) (has l x) (eq-eqb x x refl))))
-    (map-lacks f l s (λ i e. h i (right (eqb x i) e)))
+    (map-lacks f l s (λ i e. h i (or-of-right (eqb x i) e)))
 
 -- taking a place out takes its sender out
 map-without : (f : ℕ → ℕ) (l : List ℕ) (p : ℕ) → ((i : ℕ) → has l i ≡ true → f i ≡ f p → i ≡ p) → map f (without l p) ≡ without (map f l) (f p)
 map-without f [] p h = refl
 map-without f (x ∷ l) p h = elim (ℕ-discrete x p) [
-  | yes q ↦ rw (eq-eqb x p q, eq-eqb (f x) (f p) (ap f q)) (map-without f l p (λ i e. h i (right (eqb x i) e)))
+  | yes q ↦ rw (eq-eqb x p q, eq-eqb (f x) (f p) (ap f q)) (map-without f l p (λ i e. h i (or-of-right (eqb x i) e)))
   | no q ↦ rw (ne-eqb x p q, ne-eqb (f x) (f p) (λ e. q (h x (or-yes (eqb x x) (has l x) (eq-eqb x x refl)) e)))
-      (ap (λ (t : List ℕ). f x ∷ t) (map-without f l p (λ i e. h i (right (eqb x i) e))))
+      (ap (λ (t : List ℕ). f x ∷ t) (map-without f l p (λ i e. h i (or-of-right (eqb x i) e))))
 ]
 
 map-has : (f : ℕ → ℕ) (l : List ℕ) (i : ℕ) → has l i ≡ true → has (map f l) (f i) ≡ true
 map-has f [] i e = e
 map-has f (x ∷ l) i e = elim (ℕ-discrete x i) [
   | yes q ↦ or-yes (eqb (f x) (f i)) (has (map f l) (f i)) (eq-eqb (f x) (f i) (ap f q))
-  | no q ↦ right (eqb (f x) (f i)) (map-has f l i (sym (or-not (eqb x i) (has l i) (ne-eqb x i q)) ∙ e))
+  | no q ↦ or-of-right (eqb (f x) (f i)) (map-has f l i (sym (or-not (eqb x i) (has l i) (ne-eqb x i q)) ∙ e))
 ]
 
 -- what stands in a place
@@ -295,11 +291,11 @@ at-index (y ∷ l) zero h a = (y, or-yes (eqb y y) (has l y) (eq-eqb y y refl), 
 at-index (y ∷ l) (suc n) h a =
     let r = at-index l n (omega arith) (a .1) in
     let d : eqb y (r .0) ≡ false = ne-eqb y (r .0) (λ q. never (r .1) (subst (λ (z : ℕ). has l z ≡ false) q (a .0))) in
-    (r .0, right (eqb y (r .0)) (r .1), rw d (ap suc (r .2)))
+    (r .0, or-of-right (eqb y (r .0)) (r .1), rw d (ap suc (r .2)))
 
 map-same : (f g : ℕ → ℕ) (l : List ℕ) → ((i : ℕ) → has l i ≡ true → f i ≡ g i) → map f l ≡ map g l
 map-same f g [] h = refl
-map-same f g (x ∷ l) h = rw (h x (or-yes (eqb x x) (has l x) (eq-eqb x x refl)), map-same f g l (λ i e. h i (right (eqb x i) e)))
+map-same f g (x ∷ l) h = rw (h x (or-yes (eqb x x) (has l x) (eq-eqb x x refl)), map-same f g l (λ i e. h i (or-of-right (eqb x i) e)))
 
 -- the last is taken out
 without-last : (f : ℕ → ℕ) (l : List ℕ) (p n : ℕ) → Apart l → has l p ≡ true → indexOf l p ≡ n → length l ≡ suc n → map f (without l p) ≡ take n (map f l)
@@ -535,7 +531,7 @@ module _ (h : List Deed) (m : Memory) (order : List ℕ) (o : Ordered h m order)
 
     less-senders : (l : List ℕ) → ((i : ℕ) → has l i ≡ true → i < sendersMost) → map (senderAt less) (takenOf less l) ≡ without (map (senderAt m) (takenOf m l)) x
     less-senders [] b = refl
-    less-senders (i ∷ l) b = go (less-senders l (λ j e. b j (right (eqb i j) e))) (free-at m i) refl (eqb (senderAt m i) x) refl
+    less-senders (i ∷ l) b = go (less-senders l (λ j e. b j (or-of-right (eqb i j) e))) (free-at m i) refl (eqb (senderAt m i) x) refl
       where
         at : placeAt less i ≡ freed x (placeAt m i)
         at = then-at i (b i (or-yes (eqb i i) (has l i) (eq-eqb i i refl)))
@@ -653,7 +649,7 @@ no-more : (l senders : List ℕ) → Apart l → ((x : ℕ) → has l x ≡ true
 no-more [] senders a h = zero-le
 no-more (y ∷ l) senders a h =
     let r : length l ≤ length (without senders y) = no-more l (without senders y) (a .1) (λ x e.
-    without-other senders y x (λ q. never e (subst (λ (z : ℕ). has l z ≡ false) (sym q) (a .0))) (h x (right (eqb y x) e))) in
+    without-other senders y x (λ q. never e (subst (λ (z : ℕ). has l z ≡ false) (sym q) (a .0))) (h x (or-of-right (eqb y x) e))) in
     omega (arith, without-less senders y (h y (or-yes (eqb y y) (has l y) (eq-eqb y y refl))))
 
 record Undropped (senders : List ℕ) (ks : List Key) : Type 0 where
@@ -665,7 +661,7 @@ undropped : (senders : List ℕ) → length senders ≤ sendersMost → (ks : Li
 unfolding latest among
 undropped senders few [] all = record { apart = tt; of-them = λ x e. never e refl; every = λ k e. never e refl }
 undropped senders few (k ∷ ks) all =
-    let u : Undropped senders ks = undropped senders few ks (λ x e. all x (right (sameKey k x) e)) in
+    let u : Undropped senders ks = undropped senders few ks (λ x e. all x (or-of-right (sameKey k x) e)) in
     let before : List ℕ = latest (given ks) in
     let now : List ℕ = k .sender ∷ without (latest (given ks)) (k .sender) in
     let apart′ : Apart (k .sender ∷ without (latest (given ks)) (k .sender)) = (without-gone (latest (given ks)) (k .sender), without-apart (latest (given ks)) (k .sender) (u .apart)) in
@@ -682,7 +678,7 @@ undropped senders few (k ∷ ks) all =
         | yes t ↦ or-yes (eqb (k .sender) (x .sender)) _ (eq-eqb (k .sender) (x .sender) t)
         | no t ↦
             let other : sameKey k x ≡ false = rw (ne-eqb (k .sender) (x .sender) t) in
-            right (eqb (k .sender) (x .sender)) (without-other (latest (given ks)) (k .sender) (x .sender) (λ z. t (sym z)) (u .every x (sym (or-not (sameKey k x) (among ks x) other) ∙ q)))
+            or-of-right (eqb (k .sender) (x .sender)) (without-other (latest (given ks)) (k .sender) (x .sender) (λ z. t (sym z)) (u .every x (sym (or-not (sameKey k x) (among ks x) other) ∙ q)))
       ]);
     }
 
@@ -701,7 +697,7 @@ of-its-sender senders few (x ∷ ks) all k (suc n) e h = elim (ℕ-discrete (x .
 ]
   where
     earlier : (y : Key) → among ks y ≡ true → has senders (y .sender) ≡ true
-    earlier y q = all y (right (sameKey x y) q)
+    earlier y q = all y (or-of-right (sameKey x y) q)
 
     go : (among ks k ≡ true → since ks k < n → has (take n (sequencesOf (k .sender) (given ks))) (k .sequence) ≡ true)
         → (t : Bool) → (t || among ks k) ≡ true → pick t 0 (1 + since ks k) < suc n
@@ -712,7 +708,12 @@ of-its-sender senders few (x ∷ ks) all k (suc n) e h = elim (ℕ-discrete (x .
         subst (λ (b : Bool). has (take n (pick b (sequencesOf (k .sender) (given ks)) [])) (k .sequence) ≡ true)
         (sym (undropped senders few ks earlier .every k u)) (ih u (omega arith))
 
--- a key delivered lately is remembered
+-- 32 others of its sender have not been delivered since, nor keys of a 17th sender
+pub record Recent (ks : List Key) (k : Key) : Type 0 where
+  pub lately : Lately ks k
+  pub few : FewSenders ks
+
+-- such a key is remembered
 pub recalled : (ks : List Key) (k : Key) → among ks k ≡ true → Recent ks k → isRemembered (rememberAll ks) k ≡ true
 recalled ks k e h =
     let u : Undropped (h .few .senders) ks = undropped (h .few .senders) (h .few .few) ks (h .few .all) in

@@ -1,4 +1,4 @@
-pub mod Quick
+pub mod RunComputed
 pub mod Answered
 pub mod Tables
 pub mod Helds
@@ -18,3 +18,5 @@ pub mod Emptying
 pub mod Recalls
 pub mod Limited
 pub mod Running
+pub mod Twins
+pub mod Whatever

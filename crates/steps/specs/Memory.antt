@@ -152,10 +152,6 @@ pub record FewSenders (ks : List Key) : Type 0 where
   pub few : length senders ≤ sendersMost
   pub all : (k : Key) → among ks k ≡ true → has senders (k .sender) ≡ true
 
-pub record Recent (ks : List Key) (k : Key) : Type 0 where
-  pub lately : Lately ks k
-  pub few : FewSenders ks
-
 -- ---- what is remembered, told by what happened and not by places and turns
 
 -- a message is delivered, or a sender is forgotten

@@ -18,8 +18,7 @@ use Rattle.stream.specs.declared.Skip.the-variants.{Done, Ended}
 use Rattle.stream.specs.declared.Next.{Next}
 use Rattle.stream.specs.declared.Next.the-variants.{Record, End, Cut}
 use Rattle.stream.specs.Records.{headOf, widthOf, unitOf, bodyLength, isWhole, unread, Roomy, holds, Took, Ends, Lacks, Gives}
-use Rattle.stream.specs.Windows.{Within, Ready}
-use Rattle.stream.specs.InsideWindows.{Headed, Fronted, Grown, Gone, Lacking, Dropped, afterSkip}
+use Rattle.stream.specs.InsideWindows.{Within, Ready, Headed, Fronted, Grown, Gone, Lacking, Dropped, afterSkip}
 use Rattle.stream.proofs.Slices.{slice-rest, slice-slice, slice-within, slice-append}
 use Rattle.stream.proofs.Passing.{grown-joined}
 

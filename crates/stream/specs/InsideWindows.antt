@@ -1,16 +1,30 @@
 -- INSIDE: what only private contracts use. Definitions only; no promise of a public function rests on them.
 use mathlib.Core.Path.{_≡_}
 use mathlib.Core.List.{List, _++_}
-use Prim.Native.Nat.{ℕ, _+_, _-_, _≤_, _<_}
+use Prim.Native.Nat.{ℕ, _+_, _≤_, _<_, min, _-_}
 use lib.ListN.{length, take, drop}
 use lib.Seq.{slice}
+use Rattle.stream.specs.declared.Input.{Input}
 use Rattle.stream.specs.Records.{headOf, bodyLength, unread}
 use Rattle.stream.specs.declared.Kind.{Kind}
-use Rattle.stream.specs.declared.Input.{Input}
 use Rattle.stream.specs.declared.Next.{Next}
 use Rattle.stream.specs.declared.Next.the-variants.{Record, Cut}
 use Rattle.stream.specs.declared.Skip.{Skip}
 use Rattle.stream.specs.declared.Skip.the-variants.{Done, Ended}
+
+-- the same unread bytes, within a buffer of n
+pub record Within (i : Input) (n : ℕ) (r : Input) : Type 0 where
+  pub at : r .at ≡ min (i .at) (r .end)
+  pub end : r .end ≡ min (i .end) n
+
+-- the unread bytes, and after them what came; with room for `want` and one more
+pub record Ready (before : List ℕ) (i : Input) (want : ℕ) (after : List ℕ) (r : Input) : Type 0 where
+  pub order : r .at ≤ r .end
+  pub within : r .end ≤ length after
+  pub room : r .at + want < length after
+  pub same-length : length after ≡ length before
+  pub came : List ℕ
+  pub joined : slice (r .at) (r .end) after ≡ slice (i .at) (i .end) before ++ came
 
 -- the head of a record with a body of so many bytes is unread, in a buffer that holds one byte more
 pub record Headed (kind : Kind) (b : List ℕ) (i : Input) (body : ℕ) : Type 0 where

@@ -1,4 +1,3 @@
 pub mod Records
 pub mod Whole
-pub mod Windows
 pub mod InsideWindows

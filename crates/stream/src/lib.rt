@@ -7,8 +7,7 @@ ghost use lib.Seq.{slice};
 ghost use Rattle.wire.specs.Bytes.{be};
 ghost use Rattle.stream.specs.Records.{headOf, bodyLength, Gives};
 ghost use Rattle.stream.specs.Whole.{HoldsAll};
-ghost use Rattle.stream.specs.Windows.{Ready, Within};
-ghost use Rattle.stream.specs.InsideWindows.{Fronted, Grown, Dropped, Headed, afterSkip};
+ghost use Rattle.stream.specs.InsideWindows.{Ready, Within, Fronted, Grown, Dropped, Headed, afterSkip};
 
 // More records than any input has: a proved loop has to end, so a program counts its records up to this.
 pub const MANY: u64 = 18446744073709551615;

@@ -1,5 +1,5 @@
 pub mod Adds
 pub mod Enters
-pub mod Laws
-pub mod Onward
+pub mod StretchAnswers
+pub mod MidStretch
 pub mod Once

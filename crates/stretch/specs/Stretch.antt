@@ -12,9 +12,9 @@ use Rattle.wire.specs.Choice.{pick}
 use Rattle.steps.specs.declared.Answer.the-variants as answer
 use Rattle.steps.specs.Receive.{After, stay}
 use Rattle.steps.specs.Answers.{Reply, refusedBy, kept, repeat, delivered, reply}
-use Rattle.steps.specs.Runs.{World, worldOf, lending}
-use Rattle.receiver_state.specs.View.{view, shaped}
-use Rattle.receiver.specs.Lent.{Lent}
+use Rattle.steps.specs.Runs.{World, worldOf}
+use Rattle.receiver_state.specs.View.{shaped}
+use Rattle.receiver.specs.Lent.{Lent, worldIn}
 use Rattle.lmcp.specs.Lists.{readList}
 use Rattle.log.specs.declared.reader.Limits.{Limits}
 use Rattle.log.specs.declared.reader.Step.{Step}
@@ -22,7 +22,7 @@ use Rattle.log.specs.declared.reader.Step.the-variants as step
 use Rattle.log.specs.Editions.{limitsIn}
 use Rattle.log.specs.Entries.{Entry}
 use Rattle.log.specs.Listed.{Listed, whole, broken}
-use Rattle.log.specs.Told.{entrySaid, readAt}
+use Rattle.log.specs.Said.{entrySaid, readAt}
 use Rattle.sorted_set.specs.Lists.{In}
 use Rattle.count_rules.specs.Run.{called, keptIn, repeatedIn, deliveredIn, refusedIn, payloads}
 use Rattle.count_rules.specs.Walk.{listAt}
@@ -55,7 +55,7 @@ pub record Kit : Type 0 where
 
 abbrev pub kitOf : Desk → Sizes → Kit
 kitOf k had = record {
-  world = lending (view (k .lent .state) (k .lent .names)) (k .lent .store) (k .lent .ledger);
+  world = worldIn (k .lent);
   list = k .book .list;
   sets = k .book .sets;
   sizes = had;

@@ -2,7 +2,7 @@
 ghost use mathlib.Core.Path.{_≡_};
 ghost use Prim.Native.Nat.{ℕ, _+_, _<_, _^_};
 ghost use lib.ListN.{getD};
-ghost use Rattle.log.specs.Told.{entrySaid};
+ghost use Rattle.log.specs.Said.{entrySaid};
 ghost use Rattle.receiver.specs.Lent.{lentBefore, lentAfter};
 ghost use Rattle.pit_marks.specs.Sets.{setsBefore, heldIn};
 ghost use Rattle.pit_payloads.specs.Looks.{bookBefore, bookAfter};

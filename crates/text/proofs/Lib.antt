@@ -1,3 +1,2 @@
-pub mod BodyNumbers
 pub mod Puts
 pub mod Texts

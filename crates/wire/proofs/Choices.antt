@@ -14,6 +14,10 @@ either false = inr refl
 pub never {ℓ} : {X : Type ℓ} {b : Bool} → b ≡ true → b ≡ false → X
 never {b = b} p q = let z : _≡_ {A = ℕ} 0 1 = cc in absurd (let h : ⊥ = omega arith in h)
 
+-- nor is 0 what 1 is
+pub zero-is-one {ℓ} : {X : Type ℓ} → _≡_ {A = ℕ} 0 1 → X
+zero-is-one z = absurd (let h : ⊥ = omega arith in h)
+
 pub and-l : (a b : Bool) → (a && b) ≡ true → a ≡ true
 and-l true b e = refl
 and-l false b e = e
@@ -40,6 +44,10 @@ or-l false b e = refl
 pub or-r : (a b : Bool) → (a || b) ≡ false → b ≡ false
 or-r true b e = never refl e
 or-r false b e = e
+
+pub or-false : (b : Bool) → (b || false) ≡ b
+or-false true = refl
+or-false false = refl
 
 pub or-of-right : (a : Bool) {b : Bool} → b ≡ true → (a || b) ≡ true
 or-of-right true e = refl

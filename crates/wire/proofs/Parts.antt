@@ -1,17 +1,26 @@
--- Parts of a list, and comparing one with bytes. Assumes nothing.
+-- Parts of a list, its elements worked on, and comparing one with bytes. Assumes nothing.
 use mathlib.Core.Path.{_≡_, refl, sym, _∙_, ap}
 use mathlib.Core.Bool.{Bool, true, false, _&&_}
-use mathlib.Core.List.{List, [], _∷_}
+use mathlib.Core.List.{List, [], _∷_, map}
 use Prim.Native.Nat.{ℕ, _+_, _-_, _≤_, _<_, min}
 use native.Mathlib.Numerals.{add-one}
 use native.Mathlib.Omega.{arith}
 use native.Mathlib.Decide.{decLe}
 use lib.Dec.{eqb}
 use lib.ListN.{length, getD, take, drop, length-drop, drop-of-length-le}
-use lib.Seq.{drop-cons, getD-take, getD-drop, length-take-le, take-all}
+use lib.Seq.{drop-cons, getD-take, getD-drop, length-take-le, take-all, take-at, sets, sets-eq}
 use borrow.Author.Tests.{eq-eqb, eqb-true}
 use Rattle.wire.specs.Same.{same}
 use Rattle.wire.proofs.Choices.{never, and-false}
+
+-- the front of a list is what was stored there
+pub front-of : {X : Type 0} (l vs : List X) → length vs ≤ length l → take (length vs) (sets l 0 vs) ≡ vs
+front-of l vs h = ap (take (length vs)) (sets-eq vs l 0 (let z : 0 + length vs ≤ length l = omega arith in z)) ∙ take-at vs (drop (0 + length vs) l) (length vs) refl
+
+-- one after the other, on each element
+pub map-both : {A B C : Type 0} (f : A → B) (g : B → C) (h : A → C) → ((x : A) → g (f x) ≡ h x) → (l : List A) → map g (map f l) ≡ map h l
+map-both f g h e [] = refl
+map-both f g h e (x ∷ l) = λ i. e x i ∷ map-both f g h e l i
 
 pub same-refl : (l : List ℕ) → same l l ≡ true
 same-refl [] = refl
@@ -59,10 +68,10 @@ module _ (d : List ℕ) (at : ℕ) (s : List ℕ) (fits : length s ≤ length d 
 
 -- ---- the part that is asked for, and the part that there is
 
-take-least : (n : ℕ) (l : List ℕ) → take (min n (length l)) l ≡ take n l
-take-least n l = elim (decLe n (length l)) [
-  | yes h ↦ ap (λ (k : ℕ). take k l) (let e : min n (length l) ≡ n = omega arith in e)
-  | no h ↦ take-all (min n (length l)) l (omega arith) ∙ sym (take-all n l (omega arith))
+pub take-least : {X : Type 0} (s : List X) (n k : ℕ) → k ≡ min n (length s) → take k s ≡ take n s
+take-least s n k e = elim (decLe n (length s)) [
+  | yes h ↦ ap (λ (j : ℕ). take j s) (let z : k ≡ n = omega arith in z)
+  | no h ↦ take-all k s (omega arith) ∙ sym (take-all n s (omega arith))
 ]
 
 drop-least : (n : ℕ) (l : List ℕ) → drop (min n (length l)) l ≡ drop n l
@@ -74,7 +83,7 @@ drop-least n l = elim (decLe n (length l)) [
 pub part-least : (s : List ℕ) (at n a m : ℕ) → a ≡ min at (length s) → m ≡ min n (length s - a) → take m (drop a s) ≡ take n (drop at s)
 part-least s at n a m e f =
     let l : length s - a ≡ length (drop a s) = sym (length-drop a s) in
-    rw (f, l, take-least, e, drop-least) refl
+    take-least (drop a s) n m (f ∙ ap (min n) l) ∙ ap (take n) (ap (λ (k : ℕ). drop k s) e ∙ drop-least at s)
 
 -- from a place to the end
 pub part-rest : (s : List ℕ) (at : ℕ) → take (length s - at) (drop at s) ≡ drop at s

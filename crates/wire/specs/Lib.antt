@@ -1,5 +1,6 @@
 pub mod Bytes
 pub mod Choice
+pub mod Given
 pub mod Halving
 pub mod Overlay
 pub mod Same

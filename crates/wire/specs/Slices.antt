@@ -1,7 +1,10 @@
 -- LENT SLICES, as a contract has them: what they held at its entry, and what they hold at its exit. Definitions only.
+use mathlib.Core.Bool.{Bool}
 use mathlib.Core.List.{List}
 use Prim.Native.Nat.{ℕ}
 use lib.IntN.{ℤ}
+use lib.Dec.{ltb}
+use lib.ListN.{length}
 use denote.Ref.{RefT}
 use denote.Triple.Both.{Both}
 
@@ -24,3 +27,7 @@ x ⇒ y = record { before = x; after = y }
 
 abbrev pub buffer : Slice → Buffer
 buffer s = s .entry .now ⇒ s .exit .now
+
+-- a list with room for fewer than n numbers
+abbrev pub short : ℕ → List ℕ → Bool
+short n l = ltb (length l) n

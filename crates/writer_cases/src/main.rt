@@ -71,7 +71,7 @@ fn one_more(
     output::pour(out, c, b"\n")
 }
 
-// One line a case, and the last line.
+// One line a case, and the last line. It stops where the output is closed.
 fn run(buf: &mut [u8], out: &mut [u8], letters: &[u8], blocks: &mut [u8], room: &mut [u8])
     requires { ⌜ lineLimit ≤ length (now out) ⌝ }
 {
@@ -79,6 +79,9 @@ fn run(buf: &mut [u8], out: &mut [u8], letters: &[u8], blocks: &mut [u8], room: 
     let mut at: usize = 0;
     let mut n: u64 = 0;
     while n < stream::MANY {
+        if at == output::CLOSED {
+            return;
+        }
         let next = stream::next_record(buf, input, Kind::Numbers);
         let Next::Record(from, len, left) = next else {
             output::finish(out, at, n, next);
@@ -98,6 +101,7 @@ fn run(buf: &mut [u8], out: &mut [u8], letters: &[u8], blocks: &mut [u8], room: 
             room,
         );
     }
+    output::finish(out, at, n, Next::Cut);
 }
 
 fn main() {

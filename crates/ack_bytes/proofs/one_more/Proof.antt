@@ -6,7 +6,8 @@ use lib.ListN.{length, take}
 use lib.Seq.{sets}
 use Rattle.output.proofs.Sending.{pours-then, pours-is}
 use Rattle.ack_bytes.specs.Lines.{listLimit, numbersOf}
-use Rattle.ack_bytes.proofs.Taken.{length-numbers, taken-front}
+use Rattle.wire.proofs.Parts.{front-of}
+use Rattle.record_lines.proofs.BodyNumbers.{length-numbers}
 use Rattle.ack_bytes.proofs.Records.{line-longer, line-cut, line-written}
 use borrow.Author.Needs.{needs}
 use Rattle.ack_bytes.proofs.one_more.Statement.{statement}
@@ -43,13 +44,13 @@ returns-3 c =
     let a = z .args in
     let b = a .body .now in
     let numbers = numbersOf (length b / 8) b in
-    let some : length numbers ≡ length b / 8 = length-numbers (length b / 8) b in
+    let some : length numbers ≡ length b / 8 = length-numbers (λ x. x) (length b / 8) b in
     let held : length b / 8 ≤ listLimit = f .before .if1 .left in
     let is =
     w .before .before .front .ensures
     ∙ (λ i. take (t .take-list .ensures .0 i) (t .take-list .ensures .1 i))
     ∙ ap (λ (k : ℕ). take k (sets (a .list .now) 0 numbers)) (sym some)
-    ∙ taken-front (a .list .now) numbers (omega (arith, some, held, z .pre .0)) in
+    ∙ front-of (a .list .now) numbers (omega (arith, some, held, z .pre .0)) in
     pours-is (pours-then (d .pour-decimal .ensures) (at-pour-written .pour-written .ensures))
     (line-written (a .n) b held (f .if2 .left) (a .blocks .now) _ (z .pre .1) _ _ is (w .write-blocks .ensures))
 

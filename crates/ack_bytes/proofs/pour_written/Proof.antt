@@ -1,7 +1,8 @@
 -- What was written as text, by its cases. Assumes nothing.
 use mathlib.Core.Path.{ap, sym, _∙_}
 use Rattle.output.proofs.Sending.{pours-is}
-use Rattle.ack_bytes.specs.Lines.{bytesText, writtenText}
+use Rattle.ack_bytes.specs.Lines.{bytesText}
+use Rattle.ack_bytes.specs.InsideLines.{writtenText}
 use borrow.Author.Needs.{needs}
 use Rattle.ack_bytes.proofs.pour_written.Statement.{statement}
 use Rattle.ack_bytes.proofs.pour_written.Tie as tie

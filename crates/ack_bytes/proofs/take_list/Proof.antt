@@ -6,7 +6,7 @@ use native.Mathlib.Omega.{arith}
 use lib.ListN.{length, set}
 use lib.Seq.{sets, length-sets}
 use Rattle.ack_bytes.specs.Lines.{numbersOf}
-use Rattle.ack_bytes.proofs.Taken.{taken-one}
+use Rattle.record_lines.proofs.BodyNumbers.{taken-one}
 use borrow.Author.Needs.{needs}
 use Rattle.ack_bytes.proofs.take_list.Statement.{statement}
 use Rattle.ack_bytes.proofs.take_list.Tie as tie
@@ -27,7 +27,7 @@ loop-again c =
     let a = start .args in
     let l = turn .loop in
     let b = a .body .now in
-    let q = ap (λ (x : List ℕ). set x (l .i) (c .number .result)) (l .inv .2) ∙ taken-one (a .list .now) (l .i) b (c .number .result) (c .number .ensures .value) in
+    let q = ap (λ (x : List ℕ). set x (l .i) (c .number .result)) (l .inv .2) ∙ taken-one (λ x. x) (a .list .now) (l .i) b (c .number .result) (c .number .ensures .value) in
     (omega arith, ap length q ∙ length-sets (a .list .now) 0 (numbersOf (l .i + 1) b), q)
 
 returns : tie.Need-returns Inv-loop μ-loop

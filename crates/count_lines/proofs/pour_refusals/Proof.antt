@@ -1,11 +1,11 @@
--- The loop's invariant: the lines of the i numbers passed went out. Assumes nothing.
+-- The loop's invariant: the lines of the i numbers passed went out. Where the output is closed, the rest takes no more. Assumes nothing.
 use mathlib.Core.Path.{_≡_, refl, ap, _∙_, subst}
-use Prim.Native.Nat.{ℕ, _≤_, _-_}
+use Prim.Native.Nat.{ℕ, suc, _≤_, _-_}
 use native.Mathlib.Omega.{arith}
-use lib.ListN.{length}
+use lib.ListN.{length, getD}
 use borrow.Author.Needs.{needs}
 use Rattle.output.specs.Output.{Pours}
-use Rattle.output.proofs.Sending.{pours-none, pours-then, pours-is}
+use Rattle.output.proofs.Sending.{pours-none, pours-then, pours-is, pours-shut}
 use Rattle.count_lines.specs.Lines.{refusedLine, refusedLines}
 use Rattle.count_lines.proofs.OneLineMore.{refused-more}
 use Rattle.count_lines.proofs.pour_refusals.Statement.{statement}
@@ -17,21 +17,33 @@ Inv-loop out₀ at refused next₀ i₀ out next i = (i ≤ length refused) × (
 abbrev μ-loop : tie.MeasureT-loop
 μ-loop out₀ at refused next₀ i₀ out next i = length refused - i
 
+returns : tie.Need-returns Inv-loop μ-loop
+returns c =
+    let p = c .before .before .before in
+    let w = p .before in
+    let t = w .before .before in
+    let l = t .before in
+    let refused = l .before .before .before .args .refused .now in
+    let i = l .loop .i in
+    let line = subst (λ (n : ℕ). Pours (l .loop .out) (l .loop .next) (refusedLine i n) (p .pour-refused .last .0) (p .pour-refused .result)) (w .word .ensures) (p .pour-refused .ensures) in
+    let k : suc i ≤ length refused = omega (arith, t .loop-test .taken) in
+    pours-shut (λ j. refusedLines j refused) (λ j. refusedLine j (getD refused j 0)) (λ j. refl) {i = suc i} (c .if1 .taken) k (pours-then (l .loop .inv .2) line)
+
 loop-again : tie.Need-loop-again Inv-loop μ-loop
 loop-again c =
-    let p = c .before .before in
+    let p = c .before .before .before in
     let w = p .before in
     let l = w .before .before .before in
     let refused = l .before .before .before .args .refused .now in
     let i = l .loop .i in
     let line = subst (λ (n : ℕ). Pours (l .loop .out) (l .loop .next) (refusedLine i n) (p .pour-refused .last .0) (p .pour-refused .result)) (w .word .ensures) (p .pour-refused .ensures) in (
       omega arith,
-      c .before .out .given ∙ l .loop .inv .1,
+      c .before .before .out .given ∙ l .loop .inv .1,
       pours-is (pours-then (l .loop .inv .2) line) (refused-more i refused),
     )
 
-returns : tie.Need-returns Inv-loop μ-loop
-returns c =
+returns-2 : tie.Need-returns-2 Inv-loop μ-loop
+returns-2 c =
     let l = c .before in
     let refused = l .before .before .before .args .refused .now in
     let e : l .loop .i ≡ length refused = omega arith in
@@ -48,6 +60,8 @@ pour-refusals-spec =
     (λ c κs. search needs)
     (λ c. search needs)
     (λ c. search needs)
+    returns
+    (λ c. search needs)
     loop-again
     (λ c. search needs)
-    returns)
+    returns-2)

@@ -1,11 +1,11 @@
--- The loop's invariant: the lines of the i tiles passed went out. Assumes nothing.
+-- The loop's invariant: the lines of the i tiles passed went out. Where the output is closed, the rest takes no more. Assumes nothing.
 use mathlib.Core.Path.{_≡_, refl, ap, _∙_}
-use Prim.Native.Nat.{ℕ, _≤_, _-_}
+use Prim.Native.Nat.{ℕ, suc, _≤_, _-_}
 use native.Mathlib.Omega.{arith}
-use lib.ListN.{length}
+use lib.ListN.{length, getD}
 use borrow.Author.Needs.{needs}
 use Rattle.output.specs.Output.{Pours}
-use Rattle.output.proofs.Sending.{pours-none, pours-then, pours-is}
+use Rattle.output.proofs.Sending.{pours-none, pours-then, pours-is, pours-shut}
 use Rattle.count_lines.specs.Lines.{tileLine, tileLines}
 use Rattle.count_lines.proofs.OneLineMore.{tile-more}
 use Rattle.count_lines.proofs.pour_tiles.Statement.{statement}
@@ -22,24 +22,37 @@ Inv-loop out₀ at n tile pits sure next₀ i₀ out next i = (i ≤ n) × (leng
 abbrev μ-loop : tie.MeasureT-loop
 μ-loop out₀ at n tile pits sure next₀ i₀ out next i = n - i
 
-loop-again : tie.Need-loop-again Inv-loop μ-loop
-loop-again c =
-    let p = c .before .before in
+returns : tie.Need-returns Inv-loop μ-loop
+returns c =
+    let p = c .before .before .before in
     let w = p .before in
-    let l = w .before .before .before .before .before in
+    let t = w .before .before .before .before in
+    let l = t .before in
     let a = l .before .before .before .before .before .args in
     let i = l .loop .i in
-    let t = w .before .before .word .ensures in
-    let q = w .before .word2 .ensures in
-    let s = w .word3 .ensures in
-    let line = pours-is (p .pour-tile .ensures) (line-of t q s) in (
+    let line = pours-is (p .pour-tile .ensures) (line-of (w .before .before .word .ensures) (w .before .word2 .ensures) (w .word3 .ensures)) in
+    let k : suc i ≤ a .n = omega (arith, t .loop-test .taken) in
+    pours-shut
+    (λ j. tileLines j (a .tile .now) (a .pits .now) (a .sure .now))
+    (λ j. tileLine (getD (a .tile .now) j 0) (getD (a .pits .now) j 0) (getD (a .sure .now) j 0))
+    (λ j. refl) {i = suc i} (c .if1 .taken) k (pours-then (l .loop .inv .2) line)
+
+loop-again : tie.Need-loop-again Inv-loop μ-loop
+loop-again c =
+    let p = c .before .before .before in
+    let w = p .before in
+    let t = w .before .before .before .before in
+    let l = t .before in
+    let a = l .before .before .before .before .before .args in
+    let i = l .loop .i in
+    let line = pours-is (p .pour-tile .ensures) (line-of (w .before .before .word .ensures) (w .before .word2 .ensures) (w .word3 .ensures)) in (
       omega arith,
-      c .before .out .given ∙ l .loop .inv .1,
+      c .before .before .out .given ∙ l .loop .inv .1,
       pours-is (pours-then (l .loop .inv .2) line) (tile-more i (a .tile .now) (a .pits .now) (a .sure .now)),
     )
 
-returns : tie.Need-returns Inv-loop μ-loop
-returns c =
+returns-2 : tie.Need-returns-2 Inv-loop μ-loop
+returns-2 c =
     let l = c .before in
     let a = l .before .before .before .before .before .args in
     let e : l .loop .i ≡ a .n = omega arith in
@@ -58,6 +71,8 @@ pour-tiles-spec =
     (λ c κs. search needs)
     (λ c. search needs)
     (λ c. search needs)
+    returns
+    (λ c. search needs)
     loop-again
     (λ c. search needs)
-    returns)
+    returns-2)

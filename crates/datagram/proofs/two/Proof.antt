@@ -1,6 +1,6 @@
 -- `datagram::two` meets its contract. Assumes nothing.
 use native.Mathlib.Omega.{arith}
-use Rattle.datagram.proofs.Names.{be-two}
+use Rattle.wire.proofs.Numbers.{be-two}
 use borrow.Author.Needs.{needs}
 use Rattle.datagram.proofs.two.Statement.{statement}
 use Rattle.datagram.proofs.two.Tie as tie

@@ -8,7 +8,7 @@ use lib.Dec.{ltb}
 use borrow.Author.Tests.{not-true, not-false}
 use borrow.Author.Needs.{needs}
 use Rattle.steps.specs.Search.{allBelow}
-use Rattle.fragment_fit.specs.Apart.{apartAt}
+use Rattle.fragment_fit.specs.Inside.{apartAt}
 use Rattle.fragment_fit.proofs.Aparts.{run-passes, run-fails, run-word, zero-apart}
 use Rattle.fragment_fit.proofs.all_apart.Statement.{statement}
 use Rattle.fragment_fit.proofs.all_apart.Tie as tie

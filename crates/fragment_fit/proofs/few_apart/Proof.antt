@@ -5,8 +5,7 @@ use mathlib.Core.Bool.{false}
 use borrow.Author.Tests.{not-true, not-false}
 use borrow.Author.Needs.{needs}
 use Rattle.steps.specs.Search.{allBelow}
-use Rattle.fragment_fit.specs.Apart.{apartAt}
-use Rattle.fragment_fit.specs.Inside.{apartIn}
+use Rattle.fragment_fit.specs.Inside.{apartAt, apartIn}
 use Rattle.fragment_fit.proofs.Aparts.{few-below, few-all, zero-apart}
 use Rattle.fragment_fit.proofs.few_apart.Statement.{statement}
 use Rattle.fragment_fit.proofs.few_apart.Tie as tie

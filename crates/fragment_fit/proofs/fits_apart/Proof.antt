@@ -6,7 +6,7 @@ use borrow.Author.Tests.{not-true, not-false}
 use borrow.Author.Needs.{needs}
 use Rattle.steps.specs.Search.{allBelow}
 use Rattle.fragment_fit.specs.Fits.{fitsIn}
-use Rattle.fragment_fit.specs.Apart.{apartAt}
+use Rattle.fragment_fit.specs.Inside.{apartAt}
 use Rattle.fragment_fit.proofs.Aparts.{near-missed, near-apart}
 use Rattle.fragment_fit.proofs.fits_apart.Statement.{statement}
 use Rattle.fragment_fit.proofs.fits_apart.Tie as tie

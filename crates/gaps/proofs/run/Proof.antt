@@ -6,7 +6,7 @@ use lib.ListN.{length}
 use Rattle.stream.specs.declared.Kind.the-variants.{Bytes2}
 use Rattle.output.proofs.Sending.{pours-is}
 use Rattle.record_lines.specs.Streams.{many}
-use Rattle.record_lines.proofs.Going.{Going, going-none, going-more, going-to, going-end, going-over, going-shut}
+use Rattle.record_lines.proofs.RecordLoop.{Going, going-none, going-more, going-to, going-end, going-over, going-shut}
 use Rattle.datagram.specs.Limits.{maxPayload, maxFragments}
 use Rattle.datagram.specs.Read.{readDatagram}
 use Rattle.watch.specs.Senders.{empty}

@@ -6,7 +6,7 @@ use lib.ListN.{length}
 use Rattle.stream.specs.declared.Kind.the-variants.{Bytes2}
 use Rattle.output.proofs.Sending.{pours-is}
 use Rattle.record_lines.specs.Streams.{many}
-use Rattle.record_lines.proofs.Going.{Going, going-none, going-more, going-to, going-end, going-over, going-shut}
+use Rattle.record_lines.proofs.RecordLoop.{Going, going-none, going-more, going-to, going-end, going-over, going-shut}
 use Rattle.moss.specs.Packet.{packetOf}
 use Rattle.gauge_watch.specs.Heard.{silent, asked, after}
 use Rattle.gauge.specs.Lines.{line, says}

@@ -1,13 +1,15 @@
--- Row by row. The loop's invariant: the i rows passed have their lines. Assumes nothing.
+-- Row by row. The loop's invariant: the i rows passed have their lines. Where the output is closed, the rest takes no more. Assumes nothing.
 use mathlib.Core.Path.{_≡_, refl, sym, ap, _∙_}
 use mathlib.Core.List.{_++_}
-use Prim.Native.Nat.{ℕ, _-_, _≤_}
+use Prim.Native.Nat.{ℕ, suc, _-_, _≤_}
 use native.Mathlib.Omega.{arith}
 use native.Mathlib.Numerals.{add-one}
 use lib.ListN.{length}
 use Rattle.output.specs.Output.{Pours}
-use Rattle.output.proofs.Sending.{pours-none, pours-then, pours-is, finishes-then, finishes-is}
+use Rattle.output.proofs.Sending.{pours-none, pours-then, pours-is, pours-stop, pours-shut, finishes-then, finishes-is, finishes-shut}
+use Rattle.log_index.specs.Words.{rowAt}
 use Rattle.log_lines.specs.Lines.{endLine}
+use Rattle.index_lines.specs.Lines.{rowLine}
 use Rattle.index_list.specs.InsideLines.{linesBelow}
 use borrow.Author.Needs.{needs}
 use Rattle.index_list.proofs.listed.Statement.{statement}
@@ -19,17 +21,28 @@ Inv-loop index n out₀ at₀ i₀ out at i = (length out ≡ length out₀) × 
 abbrev μ-loop : tie.MeasureT-loop
 μ-loop index n out₀ at₀ i₀ out at i = n - i
 
+returns : tie.Need-returns Inv-loop μ-loop
+returns c =
+    let p = c .before .before .before in
+    let t = p .before .before in
+    let l = t .before in
+    let a = l .before .before .before .args in
+    let w = a .index .now in
+    let k : suc (l .loop .i) ≤ a .n = omega (arith, t .loop-test .taken) in
+    let v = pours-then (l .loop .inv .1 .1) (p .pour-one .ensures) in
+    finishes-shut (c .if1 .taken) (pours-stop (endLine (a .n)) (c .if1 .taken) (pours-shut (λ j. linesBelow j w) (λ j. rowLine (rowAt w j)) (λ j. refl) {i = suc (l .loop .i)} (c .if1 .taken) k v))
+
 loop-again : tie.Need-loop-again Inv-loop μ-loop
 loop-again c =
-    let p = c .before .before in
+    let p = c .before .before .before in
     let t = p .before .before in
     let l = t .before in
     let w = l .before .before .before .args .index .now in
     let v = l .loop .inv in
     (p .pour-one .kept .0 ∙ v .0, (omega (arith, t .loop-test .taken), pours-is (pours-then (v .1 .1) (p .pour-one .ensures)) (ap (λ (k : ℕ). linesBelow k w) (sym (add-one (l .loop .i))))))
 
-returns : tie.Need-returns Inv-loop μ-loop
-returns c =
+returns-2 : tie.Need-returns-2 Inv-loop μ-loop
+returns-2 c =
     let f = c .before .before in
     let t = f .before .before in
     let l = t .before in
@@ -48,7 +61,9 @@ listed-spec =
     (λ c κs. search needs)
     (λ c. search needs)
     (λ c. search needs)
+    returns
+    (λ c. search needs)
     loop-again
     (λ c κs. search needs)
     (λ c. search needs)
-    returns)
+    returns-2)

@@ -3,7 +3,8 @@ use mathlib.Core.Path.{_≡_, ap, _∙_}
 use mathlib.Core.List.{List}
 use Prim.Native.Nat.{ℕ}
 use borrow.Author.Needs.{needs}
-use Rattle.lmcp.specs.Packed.{packedOf, cell}
+use Rattle.lmcp.specs.Packed.{packedOf}
+use Rattle.lmcp.specs.InsidePacked.{cell}
 use Rattle.lmcp.proofs.Codes.{row-is, rows-end}
 use Rattle.lmcp.proofs.row_at.Statement.{statement}
 use Rattle.lmcp.proofs.row_at.Tie as tie

@@ -6,7 +6,7 @@ use native.Mathlib.Omega.{arith}
 use lib.ListN.{getD}
 use borrow.Author.Needs.{needs}
 use Rattle.lmcp.specs.Table.{pitsurv, startsOf}
-use Rattle.lmcp.specs.Packed.{cell}
+use Rattle.lmcp.specs.InsidePacked.{cell}
 use Rattle.lmcp.proofs.Codes.{begin-is, end-is, starts-end}
 use Rattle.lmcp.proofs.start_of.Statement.{statement}
 use Rattle.lmcp.proofs.start_of.Tie as tie

@@ -7,12 +7,14 @@ use lib.IntN.{ℤ}
 use lib.ListN.{length, take}
 use lib.Seq.{sets}
 use borrow.Author.Tests.{lt-ltb, le-ltb}
+use Rattle.wire.specs.Signed.{signed}
 use Rattle.lmcp.specs.Message.{WrittenTo}
 use Rattle.lmcp.specs.Lists.{writeList}
 use Rattle.text.specs.Text.{decimal}
 use Rattle.output.proofs.Sending.{pours-then, pours-is}
 use Rattle.lmcp_bytes.specs.Lines.{numbersOf, byLength}
-use Rattle.lmcp_bytes.proofs.Taken.{length-numbers, taken-front}
+use Rattle.wire.proofs.Parts.{front-of}
+use Rattle.record_lines.proofs.BodyNumbers.{length-numbers}
 use Rattle.lmcp_bytes.proofs.Writing.{text-longer, text-written}
 use borrow.Author.Needs.{needs}
 use native.Mathlib.Omega.{arith}
@@ -49,8 +51,8 @@ returns-2 c =
     let vs = numbersOf (length (a .body .now) / 8) (a .body .now) in
     let e : take (l .take-list .result) (l .take-list .last .1 .0) ≡ vs =
     (λ i. take (l .take-list .ensures .0 i) (l .take-list .ensures .1 i))
-    ∙ ap (λ (k : ℕ). take k (sets (a .list .now) 0 vs)) (sym (length-numbers (length (a .body .now) / 8) (a .body .now)))
-    ∙ taken-front (a .list .now) vs (omega (arith, length-numbers (length (a .body .now) / 8) (a .body .now), t .if1 .left)) in
+    ∙ ap (λ (k : ℕ). take k (sets (a .list .now) 0 vs)) (sym (length-numbers (signed 64) (length (a .body .now) / 8) (a .body .now)))
+    ∙ front-of (a .list .now) vs (omega (arith, length-numbers (signed 64) (length (a .body .now) / 8) (a .body .now), t .if1 .left)) in
     let u = subst (λ (x : List ℤ). WrittenTo (writeList (a .calculate) x) (a .bytes .now) (w .write-message .result) (w .write-message .last .1 .1 .0)) (f .front .ensures ∙ e)
     (w .write-message .ensures) in
     record {

@@ -7,7 +7,7 @@ use Rattle.stream.specs.declared.Kind.the-variants.{Numbers}
 use Rattle.output.proofs.Sending.{pours-is}
 use Rattle.record_lines.specs.Streams.{many}
 use Rattle.record_lines.specs.Lines.{each, Says}
-use Rattle.record_lines.proofs.Going.{Going, going-none, going-more, going-end, going-over, going-shut}
+use Rattle.record_lines.proofs.RecordLoop.{Going, going-none, going-more, going-end, going-over, going-shut}
 use Rattle.text.specs.Text.{decimal}
 use Rattle.lmcp_bytes.specs.Lines.{calculated, listText, line}
 use borrow.Author.Needs.{needs}

@@ -11,7 +11,7 @@ use mir.Val.{toZ, ofZ}
 use mir.ValLaws.{toZ-ofZ}
 use Rattle.wire.specs.Signed.{signed}
 use Rattle.lmcp_bytes.specs.Lines.{numbersOf}
-use Rattle.lmcp_bytes.proofs.Taken.{taken-one}
+use Rattle.record_lines.proofs.BodyNumbers.{taken-one}
 use borrow.Author.Needs.{needs}
 use Rattle.lmcp_bytes.proofs.take_list.Statement.{statement}
 use Rattle.lmcp_bytes.proofs.take_list.Tie as tie
@@ -33,7 +33,7 @@ loop-again c =
     let b = l .before .before .args .body .now in
     let z : ℤ = toZ w64 (ofZ w64 (s .signed-of .result)) in
     let e = toZ-ofZ w64 (s .signed-of .result) (record { sfits = s .signed-of .ok }) ∙ s .signed-of .ensures ∙ ap (signed 64) (k .number .ensures .value) in
-    let q = ap (λ (x : List ℤ). set x (l .loop .i) z) (l .loop .inv .2) ∙ taken-one (l .before .before .args .list .now) (l .loop .i) b z e in
+    let q = ap (λ (x : List ℤ). set x (l .loop .i) z) (l .loop .inv .2) ∙ taken-one (signed 64) (l .before .before .args .list .now) (l .loop .i) b z e in
     (omega arith, ap length q ∙ length-sets (l .before .before .args .list .now) 0 (numbersOf (l .loop .i + 1) b), q)
 
 returns : tie.Need-returns Inv-loop μ-loop

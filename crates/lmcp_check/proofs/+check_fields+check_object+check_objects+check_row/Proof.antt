@@ -11,7 +11,8 @@ use Rattle.lmcp.specs.Run.{repeat}
 use Rattle.lmcp.specs.Table.{pitsurv, rowsOf, startsOf, fieldsOf}
 use Rattle.lmcp.proofs.WalkPlaces.{repeat-all}
 use Rattle.lmcp_check.specs.InsideSteps.{readObject, readFields}
-use Rattle.lmcp.specs.Packed.{packedOf, cell}
+use Rattle.lmcp.specs.Packed.{packedOf}
+use Rattle.lmcp.specs.InsidePacked.{cell}
 use Rattle.lmcp_check.specs.InsideChecks.{Upto}
 use Rattle.lmcp_check.proofs.CheckTurns.{begins, items-turn, items-stop, items-end}
 use Rattle.lmcp.proofs.Rows.{few-rows, bounds}

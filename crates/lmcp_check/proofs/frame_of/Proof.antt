@@ -1,4 +1,4 @@
--- `lmcp_reader::frame_of` meets its contract, in the order of the refusals.
+-- `lmcp_check::frame_of` meets its contract, in the order of the refusals.
 use mathlib.Core.Path.{_≡_, sym, ap, _∙_}
 use mathlib.Core.Bool.{true}
 use mathlib.Core.List.{List}

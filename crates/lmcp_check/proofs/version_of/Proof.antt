@@ -1,4 +1,4 @@
--- `lmcp_reader::version_of` meets its contract.
+-- `lmcp_check::version_of` meets its contract.
 use mathlib.Core.Path.{sym, ap, _∙_}
 use mathlib.Core.Bool.{Bool}
 use borrow.Author.Tests.{eq-eqb, ne-eqb}

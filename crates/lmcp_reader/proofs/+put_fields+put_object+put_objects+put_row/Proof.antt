@@ -13,10 +13,10 @@ use Rattle.lmcp.specs.declared.Row.{Row}
 use Rattle.lmcp.specs.declared.Went.the-variants.{To}
 use Rattle.lmcp.specs.Run.{andThen, repeat}
 use Rattle.lmcp.specs.Table.{pitsurv, rowsOf, fieldsOf}
-use Rattle.lmcp.specs.Packed.{packedOf, cell}
-use Rattle.lmcp.specs.InsidePacked.{widthOf}
+use Rattle.lmcp.specs.Packed.{packedOf}
+use Rattle.lmcp.specs.InsidePacked.{cell, widthOf}
 use Rattle.lmcp.specs.Read.{reading}
-use Rattle.lmcp.specs.Ends.{begun, Sofar}
+use Rattle.lmcp.specs.InsideEnds.{begun, Sofar}
 use Rattle.lmcp.proofs.WalkPlaces.{begins, repeat-all, repeat-more, fields-more, items-turn, items-end, fields-turn, fields-done}
 use Rattle.lmcp.proofs.Widths.{be-one}
 use Rattle.lmcp.proofs.Rows.{few-rows, bounds}
@@ -26,7 +26,8 @@ use Rattle.lmcp_check.proofs.ReadCases.{number-is}
 use Rattle.lmcp.specs.InsideAhead.{Few0}
 use Rattle.lmcp_reader.specs.InsidePuts.{Ahead}
 use Rattle.lmcp_reader.proofs.NumberBits.{through, plain-small}
-use Rattle.lmcp_reader.proofs.Puts.{Placed, object-ahead, object-laid, width-is, values-room, values-laid, single-room, single-laid}
+use Rattle.lmcp_reader.proofs.Arrays.{width-is}
+use Rattle.lmcp_reader.proofs.Puts.{Placed, object-ahead, object-laid, values-room, values-laid, single-room, single-laid}
 use Rattle.lmcp_reader.proofs.Puts.{few, count-inside, count-room, objects-ahead, objects-laid, chars-room, chars-laid}
 use Rattle.lmcp_reader.proofs.Puts.{Object, first-inside, null-room, null-laid, some-inside, some-deep, some-typed, some-ahead, some-laid}
 use borrow.Fn.Kinds.{In}
@@ -47,7 +48,7 @@ use Rattle.lmcp_reader.proofs.entry.Reads as entry-reads
 use Rattle.lmcp_reader.proofs.four.Reads as four-reads
 use Rattle.lmcp_reader.proofs.plain_of.Reads as plain-of-reads
 use Rattle.lmcp_reader.proofs.put.Reads as put-reads
-use Rattle.lmcp_reader.proofs.put_values.Reads as put-values-reads
+use Rattle.lmcp_reader.proofs.put_bytes_as_numbers.Reads as put-bytes-as-numbers-reads
 use Rattle.lmcp_reader.proofs.value_of.Reads as value-of-reads
 use Rattle.wire.proofs.number.Reads as number-reads
 use Rattle.wire.proofs.wide.Reads as wide-reads
@@ -115,8 +116,8 @@ put-row-claims t = (
   value-of-reads.Learnt,
   put-reads.Asked,
   put-reads.Learnt,
-  put-values-reads.Asked,
-  put-values-reads.Learnt,
+  put-bytes-as-numbers-reads.Asked,
+  put-bytes-as-numbers-reads.Learnt,
   number-reads.Asked,
   number-reads.Learnt,
   plain-of-reads.Asked,
@@ -432,9 +433,9 @@ module _ (t : ℕ) (f : put-row-lts.After-entry4 (put-row-claims t) (put-row-at 
   fixed-start = fixed-row .before .before .before .before
 
   fixed-width : fixed-row .entry3 .result ≡ widthOf (fixed-row .before .before .entry .result)
-  fixed-width = width-is (row-here t fixed-row) (f .before .if2 .left)
+  fixed-width = width-is (row-here t fixed-row .row) (f .before .if2 .left)
 
-  fixed-room : (fixed-start .args .p + f .entry4 .result * fixed-row .entry3 .result ≤ length (fixed-start .args .s .now)) × (fixed-start .args .q + f .entry4 .result ≤ 4294967296)
+  fixed-room : (f .entry4 .result ≡ 1 → ⊥) → (fixed-start .args .p + f .entry4 .result ≤ length (fixed-start .args .s .now)) × (fixed-start .args .q + f .entry4 .result ≤ 4294967296)
   fixed-room = values-room (row-here t fixed-row) (f .before .if2 .left) (f .before .before .if1 .taken) _ (row-fixed t f)
 
   one-room : f .entry4 .result ≡ 1 → (fixed-start .args .p + fixed-row .entry3 .result ≤ length (fixed-start .args .s .now)) × (fixed-start .args .q + 1 ≤ 4294967296)
@@ -454,7 +455,7 @@ module _ (t : ℕ) (m : put-row-lts.After-number (put-row-claims t) (put-row-at 
   array-room : array-start .args .q < 4294967296
   array-room = count-room (row-here t array-row) (m .before .if1 .left) _ (m .number .ensures)
 
-  text-room : (array-row .before .before .entry .result ≡ 6 → ⊥) → (array-start .args .p + array-row .before .entry2 .result + m .number .result * array-row .entry3 .result ≤ length (array-start .args .s .now)) × (array-start .args .q + 1 + m .number .result ≤ 4294967296)
+  text-room : (array-row .before .before .entry .result ≡ 6 → ⊥) → (array-start .args .p + array-row .before .entry2 .result + m .number .result ≤ length (array-start .args .s .now)) × (array-start .args .q + 1 + m .number .result ≤ 4294967296)
   text-room = chars-room (row-here t array-row) (m .before .if1 .left) _ (m .number .ensures)
 
 put-row-value-of-requires : (t : ℕ) → put-row-lts.Need-value-of-requires (put-row-claims t) (put-row-at t) put-row.Post
@@ -477,29 +478,24 @@ put-row-returns-2 t c =
     let v = c .before .before .value-of in
     single-laid (row-here t (fixed-row t f)) (f .before .if2 .left) (f .before .before .if1 .taken) _ (row-fixed t f) (c .before .before .before .before .if3 .taken) _ (c .before .put .ensures ∙ ap (λ (y : ℤ). set (a .list .now) (a .q) y) (through (record { sfits = v .ok }) (v .ensures)))
 
-put-row-put-values-requires : (t : ℕ) → put-row-lts.Need-put-values-requires (put-row-claims t) (put-row-at t) put-row.Post
-put-row-put-values-requires t c κs =
+put-row-put-bytes-as-numbers-requires : (t : ℕ) → put-row-lts.Need-put-bytes-as-numbers-requires (put-row-claims t) (put-row-at t) put-row.Post
+put-row-put-bytes-as-numbers-requires t c κs =
     let f = c .before .before in
-    (fixed-room t f, (fixed-width t f, fixed-start t f .pre .1 .0 .short))
+    (fixed-room t f (c .before .if3 .left), fixed-start t f .pre .1 .0 .short)
 
-put-row-mul-t28 : (t : ℕ) → put-row-lts.Need-mul-t28 (put-row-claims t) (put-row-at t) put-row.Post
-put-row-mul-t28 t c =
+put-row-add-t28 : (t : ℕ) → put-row-lts.Need-add-t28 (put-row-claims t) (put-row-at t) put-row.Post
+put-row-add-t28 t c =
     let f = c .before .before .before .before in
-    omega (arith, fixed-room t f .0, fixed-start t f .pre .1 .0 .short)
+    omega (arith, fixed-room t f (c .before .before .before .if3 .left) .0, fixed-start t f .pre .1 .0 .short)
 
 put-row-add-t29 : (t : ℕ) → put-row-lts.Need-add-t29 (put-row-claims t) (put-row-at t) put-row.Post
 put-row-add-t29 t c =
-    let f = c .before .before .before .before in
-    omega (arith, fixed-room t f .0, fixed-start t f .pre .1 .0 .short)
-
-put-row-add-t30 : (t : ℕ) → put-row-lts.Need-add-t30 (put-row-claims t) (put-row-at t) put-row.Post
-put-row-add-t30 t c =
-    omega (arith, fixed-room t (c .before .before .before .before) .1)
+    omega (arith, fixed-room t (c .before .before .before .before) (c .before .before .before .if3 .left) .1)
 
 put-row-returns-3 : (t : ℕ) → put-row-lts.Need-returns-3 (put-row-claims t) (put-row-at t) put-row.Post
 put-row-returns-3 t c =
     let f = c .before .before .before .before in
-    values-laid (row-here t (fixed-row t f)) (f .before .if2 .left) (f .before .before .if1 .taken) _ (row-fixed t f) _ (c .before .put-values .ensures)
+    values-laid (row-here t (fixed-row t f)) (f .before .if2 .left) (f .before .before .if1 .taken) _ (row-fixed t f) (c .before .before .before .if3 .left) _ (c .before .put-bytes-as-numbers .ensures)
 
 put-row-plain-of-requires : (t : ℕ) → put-row-lts.Need-plain-of-requires (put-row-claims t) (put-row-at t) put-row.Post
 put-row-plain-of-requires t c κs =
@@ -531,48 +527,42 @@ put-row-returns-4 t c =
     let m = c .before .before .before .before .before .before .before .before in
     objects-laid (row-here t (array-row t m)) (m .before .if1 .left) _ (m .number .ensures) (c .before .before .before .if4 .taken) (row-counted t (c .before .before .before .before .before)) _ _ _ (c .before .put-objects .ensures)
 
-put-row-add-put-values : (t : ℕ) → put-row-lts.Need-add-put-values (put-row-claims t) (put-row-at t) put-row.Post
-put-row-add-put-values t c =
+put-row-add-put-bytes-as-numbers : (t : ℕ) → put-row-lts.Need-add-put-bytes-as-numbers (put-row-claims t) (put-row-at t) put-row.Post
+put-row-add-put-bytes-as-numbers t c =
     let m = c .before .before .before .before .before in
     omega (arith, array-inside t m, array-start t m .pre .1 .0 .short)
 
-put-row-add-put-values-2 : (t : ℕ) → put-row-lts.Need-add-put-values-2 (put-row-claims t) (put-row-at t) put-row.Post
-put-row-add-put-values-2 t c =
+put-row-add-put-bytes-as-numbers-2 : (t : ℕ) → put-row-lts.Need-add-put-bytes-as-numbers-2 (put-row-claims t) (put-row-at t) put-row.Post
+put-row-add-put-bytes-as-numbers-2 t c =
     omega (arith, array-room t (c .before .before .before .before .before))
 
-put-row-put-values-requires-2 : (t : ℕ) → put-row-lts.Need-put-values-requires-2 (put-row-claims t) (put-row-at t) put-row.Post
-put-row-put-values-requires-2 t c κs =
+put-row-put-bytes-as-numbers-requires-2 : (t : ℕ) → put-row-lts.Need-put-bytes-as-numbers-requires-2 (put-row-claims t) (put-row-at t) put-row.Post
+put-row-put-bytes-as-numbers-requires-2 t c κs =
     let m = c .before .before .before .before .before .before in
-    let k = c .before .if4 .left in
-    (text-room t m k, (width-is (row-here t (array-row t m)) k, array-start t m .pre .1 .0 .short))
+    (text-room t m (c .before .if4 .left), array-start t m .pre .1 .0 .short)
+
+put-row-add-t38 : (t : ℕ) → put-row-lts.Need-add-t38 (put-row-claims t) (put-row-at t) put-row.Post
+put-row-add-t38 t c =
+    let m = c .before .before .before .before .before .before .before .before in
+    omega (arith, text-room t m (c .before .before .before .if4 .left) .0, array-start t m .pre .1 .0 .short)
 
 put-row-add-t39 : (t : ℕ) → put-row-lts.Need-add-t39 (put-row-claims t) (put-row-at t) put-row.Post
 put-row-add-t39 t c =
     let m = c .before .before .before .before .before .before .before .before in
     omega (arith, text-room t m (c .before .before .before .if4 .left) .0, array-start t m .pre .1 .0 .short)
 
-put-row-mul-t40 : (t : ℕ) → put-row-lts.Need-mul-t40 (put-row-claims t) (put-row-at t) put-row.Post
-put-row-mul-t40 t c =
-    let m = c .before .before .before .before .before .before .before .before in
-    omega (arith, text-room t m (c .before .before .before .if4 .left) .0, array-start t m .pre .1 .0 .short)
+put-row-add-t42 : (t : ℕ) → put-row-lts.Need-add-t42 (put-row-claims t) (put-row-at t) put-row.Post
+put-row-add-t42 t c =
+    omega (arith, text-room t (c .before .before .before .before .before .before .before .before) (c .before .before .before .if4 .left) .1)
 
 put-row-add-t43 : (t : ℕ) → put-row-lts.Need-add-t43 (put-row-claims t) (put-row-at t) put-row.Post
 put-row-add-t43 t c =
-    let m = c .before .before .before .before .before .before .before .before in
-    omega (arith, text-room t m (c .before .before .before .if4 .left) .0, array-start t m .pre .1 .0 .short)
-
-put-row-add-t44 : (t : ℕ) → put-row-lts.Need-add-t44 (put-row-claims t) (put-row-at t) put-row.Post
-put-row-add-t44 t c =
-    omega (arith, text-room t (c .before .before .before .before .before .before .before .before) (c .before .before .before .if4 .left) .1)
-
-put-row-add-t45 : (t : ℕ) → put-row-lts.Need-add-t45 (put-row-claims t) (put-row-at t) put-row.Post
-put-row-add-t45 t c =
     omega (arith, text-room t (c .before .before .before .before .before .before .before .before) (c .before .before .before .if4 .left) .1)
 
 put-row-returns-5 : (t : ℕ) → put-row-lts.Need-returns-5 (put-row-claims t) (put-row-at t) put-row.Post
 put-row-returns-5 t c =
     let m = c .before .before .before .before .before .before .before .before in
-    chars-laid (row-here t (array-row t m)) (m .before .if1 .left) _ (m .number .ensures) (c .before .before .before .if4 .left) (row-counted t (c .before .before .before .before .before)) _ (c .before .put-values2 .ensures)
+    chars-laid (row-here t (array-row t m)) (m .before .if1 .left) _ (m .number .ensures) (c .before .before .before .if4 .left) (row-counted t (c .before .before .before .before .before)) _ (c .before .put-bytes-as-numbers2 .ensures)
 
 pub +put-fields+put-object+put-objects+put-row-spec : {M : Type 1} → statement M
 +put-fields+put-object+put-objects+put-row-spec =
@@ -645,10 +635,9 @@ pub +put-fields+put-object+put-objects+put-row-spec : {M : Type 1} → statement
     (put-row-add-t24 t)
     (λ c. search needs)
     (put-row-returns-2 t)
-    (put-row-put-values-requires t)
-    (put-row-mul-t28 t)
+    (put-row-put-bytes-as-numbers-requires t)
+    (put-row-add-t28 t)
     (put-row-add-t29 t)
-    (put-row-add-t30 t)
     (λ c. search needs)
     (put-row-returns-3 t)
     (λ c κs. search needs)
@@ -659,13 +648,12 @@ pub +put-fields+put-object+put-objects+put-row-spec : {M : Type 1} → statement
     (put-row-put-objects-requires t)
     (λ c. search needs)
     (put-row-returns-4 t)
-    (put-row-add-put-values t)
-    (put-row-add-put-values-2 t)
-    (put-row-put-values-requires-2 t)
+    (put-row-add-put-bytes-as-numbers t)
+    (put-row-add-put-bytes-as-numbers-2 t)
+    (put-row-put-bytes-as-numbers-requires-2 t)
+    (put-row-add-t38 t)
     (put-row-add-t39 t)
-    (put-row-mul-t40 t)
+    (put-row-add-t42 t)
     (put-row-add-t43 t)
-    (put-row-add-t44 t)
-    (put-row-add-t45 t)
     (λ c. search needs)
     (put-row-returns-5 t)

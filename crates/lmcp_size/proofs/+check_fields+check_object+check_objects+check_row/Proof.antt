@@ -11,9 +11,9 @@ use Rattle.lmcp.specs.declared.Row.{Row}
 use Rattle.lmcp.specs.declared.Went.the-variants.{To}
 use Rattle.lmcp.specs.Run.{after, repeat}
 use Rattle.lmcp.specs.Table.{nothing, pitsurv, rowsOf, fieldsOf}
-use Rattle.lmcp.specs.Packed.{cell}
+use Rattle.lmcp.specs.InsidePacked.{cell}
 use Rattle.lmcp.specs.Write.{writing, writeValue, writeCount}
-use Rattle.lmcp.specs.Ends.{begun, Sofar, Few15}
+use Rattle.lmcp.specs.InsideEnds.{begun, Sofar, Few15}
 use Rattle.lmcp.proofs.WalkPlaces.{same-run, begins, marked-then, marked-end, marked-stops, repeat-all, inside, object-is, inside-null, inside-fields, items-turn, items-stop, items-end, fields-turn, fields-stop, fields-done, mark-stop, mark-on}
 use Rattle.lmcp.proofs.Heads.{write-some}
 use Rattle.lmcp.proofs.Rows.{row-of, few-rows, bounds}

@@ -4,7 +4,7 @@ use lib.ListN.{drop}
 use borrow.Author.Needs.{needs}
 use Rattle.lmcp.specs.Run.{repeat}
 use Rattle.lmcp.specs.Write.{writeValue}
-use Rattle.lmcp.specs.Ends.{begun, Sofar, Few15}
+use Rattle.lmcp.specs.InsideEnds.{begun, Sofar, Few15}
 use Rattle.lmcp.proofs.WalkPlaces.{begins, repeat-all, items-turn, items-stop, items-end}
 use mathlib.Core.List.{[]}
 use Rattle.lmcp_size.proofs.check_values.Statement.{statement}

@@ -6,7 +6,7 @@ use native.Mathlib.Omega.{arith}
 use borrow.Author.Needs.{needs}
 use Rattle.lmcp.specs.declared.Went.{Went}
 use Rattle.lmcp.specs.Run.{got}
-use Rattle.lmcp.specs.Ends.{begun, Sofar, Few15}
+use Rattle.lmcp.specs.InsideEnds.{begun, Sofar, Few15}
 use Rattle.lmcp_size.specs.InsideSteps.{writeRoot}
 use Rattle.lmcp_size.specs.InsideWeighs.{Weighs}
 use Rattle.lmcp_size.proofs.Answers.{answer-stopped, answer-left, answer-long, answer-good}

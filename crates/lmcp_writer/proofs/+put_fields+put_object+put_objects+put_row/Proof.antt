@@ -15,9 +15,10 @@ use Rattle.lmcp.specs.declared.Row.{Row}
 use Rattle.lmcp.specs.declared.Went.the-variants.{To}
 use Rattle.lmcp.specs.Run.{andThen, repeat}
 use Rattle.lmcp.specs.Table.{pitsurv, rowsOf, fieldsOf}
-use Rattle.lmcp.specs.Packed.{packedOf, cell}
+use Rattle.lmcp.specs.Packed.{packedOf}
+use Rattle.lmcp.specs.InsidePacked.{cell}
 use Rattle.lmcp.specs.Write.{Write, writing, header}
-use Rattle.lmcp.specs.Ends.{begun, Sofar}
+use Rattle.lmcp.specs.InsideEnds.{begun, Sofar}
 use Rattle.lmcp.proofs.WalkPlaces.{begins, repeat-all, repeat-more, fields-more, items-turn, items-end, fields-turn, fields-done}
 use Rattle.lmcp.proofs.Sizes.{through}
 use Rattle.lmcp_size.specs.InsideSteps.{writeObject, writeFields}

@@ -46,7 +46,7 @@ use denote.Triple.Spec.{Meets, tripleOf}
 use denote.Triple.Table.{entered, cited}
 use denote.Triple.Clauses.{ensured, lasts}
 use denote.Triple.Walked.{says, Stays, stay-ref, walkOf, goes-ref, Walks, ends-at, walked, walk-meets}
-use Rattle.log.specs.Told.{readAt, placeAfter}
+use Rattle.log.specs.Said.{readAt, placeAfter}
 use Rattle.log.specs.declared.reader.Step.{Step}
 use Rattle.log_reader.specs.Reader.{readerAt}
 use Rattle.log_reader.specs.declared.LogReader.{LogReader}

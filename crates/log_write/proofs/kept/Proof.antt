@@ -7,7 +7,7 @@ use Rattle.wire.specs.Bytes.{be}
 use Rattle.stream.specs.declared.Kind.the-variants.{Entry}
 use Rattle.output.proofs.Sending.{pours-is}
 use Rattle.record_lines.specs.Streams.{many}
-use Rattle.record_lines.proofs.Going.{Going, going-none, going-more, going-end, going-over, going-shut}
+use Rattle.record_lines.proofs.RecordLoop.{Going, going-none, going-more, going-end, going-over, going-shut}
 use Rattle.log.specs.Entries.{entryOf, entryBytes}
 use Rattle.log_write.specs.Inside.{says}
 use Rattle.log_write.proofs.Records.{short-part, finishes-out}

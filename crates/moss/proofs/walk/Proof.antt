@@ -5,8 +5,7 @@ use native.Mathlib.Omega.{arith}
 use lib.ListN.{length, drop}
 use borrow.Author.Needs.{needs}
 use Rattle.moss.specs.Blocks.{messagesIn}
-use Rattle.moss.specs.Walk.{start}
-use Rattle.moss.specs.InsideWalk.{walked}
+use Rattle.moss.specs.InsideWalk.{start, walked}
 use Rattle.moss.specs.declared.Trail.{Trail}
 use Rattle.moss.proofs.MessageTurn.{past-count, walk-next, walk-broken, walk-end}
 use Rattle.moss.proofs.walk.Statement.{statement}

@@ -4,8 +4,7 @@ use lib.ListN.{drop, length-drop}
 use borrow.Author.Tests.{eq-eqb, ne-eqb}
 use native.Mathlib.Omega.{arith}
 use borrow.Author.Needs.{needs}
-use Rattle.moss.specs.Walk.{start}
-use Rattle.moss.specs.InsideWalk.{walked}
+use Rattle.moss.specs.InsideWalk.{start, walked}
 use Rattle.moss.proofs.MessageTurn.{nothing-inside, nothing-at-end}
 use Rattle.moss.proofs.walk_kind.Statement.{statement}
 use Rattle.moss.proofs.walk_kind.Tie as tie

@@ -4,7 +4,7 @@ use Prim.Native.Nat.{ℕ, _-_, _≤_, _<_}
 use native.Mathlib.Omega.{arith}
 use lib.ListN.{length, getD}
 use Rattle.pit_marks.specs.Lines.{pitsIn}
-use Rattle.pit_marks.proofs.Lays.{laid, laid-none, laid-more, laid-all}
+use Rattle.pit_marks.proofs.TileLines.{laid, laid-none, laid-more, laid-all}
 use borrow.Author.Needs.{needs}
 use Rattle.pit_marks.proofs.put_lines.Statement.{statement}
 use Rattle.pit_marks.proofs.put_lines.Tie as tie

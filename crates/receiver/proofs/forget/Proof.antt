@@ -2,7 +2,7 @@
 use mathlib.Core.Path.{refl, sym, _∙_}
 use borrow.Author.Tests.{not-true, not-false}
 use Rattle.receiver_state.proofs.Remembers.{in-order-is, drops}
-use Rattle.receiver.proofs.Others.{words-forgets, names-forgets, memory-forgets, known-after, forgets}
+use Rattle.receiver.proofs.Forgetting.{words-forgets, names-forgets, memory-forgets, known-after, forgets}
 use borrow.Author.Needs.{needs}
 use Rattle.receiver.proofs.forget.Statement.{statement}
 use Rattle.receiver.proofs.forget.Tie as tie

@@ -4,7 +4,7 @@ use Prim.Native.Nat.{_-_, _≤_}
 use native.Mathlib.Omega.{arith}
 use Rattle.steps.specs.Limits.{slotCount}
 use Rattle.receiver.specs.Inside.{ReleasesAll}
-use Rattle.receiver.proofs.Others.{released-none, released-more}
+use Rattle.receiver.proofs.Forgetting.{released-none, released-more}
 use borrow.Author.Needs.{needs}
 use Rattle.receiver.proofs.release_all.Statement.{statement}
 use Rattle.receiver.proofs.release_all.Tie as tie

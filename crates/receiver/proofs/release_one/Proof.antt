@@ -1,6 +1,6 @@
 -- `receiver::release_one` meets its contract. Assumes nothing.
 use mathlib.Core.Path.{sym, _∙_}
-use Rattle.receiver.proofs.Others.{free-stays, other-stays, its-goes}
+use Rattle.receiver.proofs.Forgetting.{free-stays, other-stays, its-goes}
 use borrow.Author.Needs.{needs}
 use Rattle.receiver.proofs.release_one.Statement.{statement}
 use Rattle.receiver.proofs.release_one.Tie as tie

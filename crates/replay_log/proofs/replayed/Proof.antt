@@ -7,7 +7,7 @@ use native.Mathlib.Omega.{arith}
 use lib.ListN.{length}
 use types.Run.{OneOf}
 use denote.Enum.Declared.{tagOf}
-use Rattle.receiver.specs.Lent.{lent}
+use Rattle.receiver.specs.Lent.{lent, worldIn}
 use Rattle.log.proofs.reader.Step.{the-type}
 use Rattle.log.specs.declared.reader.EntryAt.{EntryAt}
 use Rattle.log.specs.declared.reader.Limits.{Limits}
@@ -16,8 +16,7 @@ use Rattle.log.specs.declared.reader.Step.the-variants as step
 use Rattle.log.specs.Listed.{entriesIn}
 use Rattle.log.proofs.EntriesPassed.{ahead}
 use Rattle.output.proofs.Sending.{finishes-shut, finishes-is}
-use Rattle.replay_run.specs.Inside.{worldIn}
-use Rattle.replay_run.proofs.Heard.{shaped-still}
+use Rattle.receiver_state.proofs.Unique.{shaped-still}
 use Rattle.replay_log.specs.Lines.{logLines, linesFrom}
 use Rattle.replay_log.proofs.Replaying.{replayed-said, replayed-left, Going, going-none, going-more, going-end, going-shut}
 use borrow.Author.Needs.{needs}

@@ -2,13 +2,13 @@
 use mathlib.Core.Path.{_≡_, refl, _∙_}
 use Prim.Native.Nat.{_-_}
 use lib.ListN.{length}
-use Rattle.receiver.specs.Lent.{lent}
+use Rattle.receiver.specs.Lent.{lent, worldIn}
 use Rattle.stream.specs.declared.Kind.the-variants.{Bytes2}
 use Rattle.record_lines.specs.Streams.{many}
-use Rattle.record_lines.proofs.Going.{Going, going-none, going-more, going-to, going-end, going-over, going-shut}
+use Rattle.record_lines.proofs.RecordLoop.{Going, going-none, going-more, going-to, going-end, going-over, going-shut}
+use Rattle.receiver_state.proofs.Unique.{shaped-still}
 use Rattle.replay_run.specs.Lines.{says}
-use Rattle.replay_run.specs.Inside.{worldIn}
-use Rattle.replay_run.proofs.Heard.{shaped-still, replayed-said, replayed-left}
+use Rattle.replay_run.proofs.Heard.{replayed-said, replayed-left}
 use borrow.Author.Needs.{needs}
 use Rattle.replay_run.proofs.replayed.Statement.{statement}
 use Rattle.replay_run.proofs.replayed.Tie as tie

@@ -20,7 +20,7 @@ use Rattle.stretch.specs.declared.Stop.{Stop}
 use Rattle.stretch.specs.declared.Ran.{Ran}
 use Rattle.stretch.specs.Inside.{ran, noTotals, stoppedAt}
 use Rattle.stretch.specs.Stretch.{Desk, desk}
-use Rattle.stretch.proofs.Onward.{Going, going-first, going-few, all-taken, log-stops, going-more, going-ends, as-told}
+use Rattle.stretch.proofs.MidStretch.{Going, going-first, going-few, all-taken, log-stops, going-more, going-ends, as-told}
 use borrow.Author.Needs.{needs}
 use Rattle.stretch.proofs.count_on.Statement.{statement}
 use Rattle.stretch.proofs.count_on.Tie as tie

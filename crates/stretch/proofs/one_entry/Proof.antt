@@ -1,7 +1,7 @@
 -- The datagram is received, the answer told, and what is delivered taken. Assumes nothing.
 use mathlib.Core.Path.{ap}
 use native.Mathlib.Omega.{arith}
-use Rattle.log.specs.Told.{entrySaid}
+use Rattle.log.specs.Said.{entrySaid}
 use Rattle.receiver.specs.Lent.{lent}
 use Rattle.pit_marks.specs.Sets.{setsOf}
 use Rattle.pit_payloads.specs.Looks.{book}

@@ -6,7 +6,7 @@ use lib.ListN.{length, getD}
 use Rattle.wire.specs.Choice.{pick}
 use Rattle.sorted_set.specs.Halving.{isThere}
 use Rattle.count_rules.specs.Keys.{span}
-use Rattle.pit_marks.proofs.Lays.{laid, laid-none, laid-more, laid-all}
+use Rattle.pit_marks.proofs.TileLines.{laid, laid-none, laid-more, laid-all}
 use borrow.Author.Needs.{needs}
 use Rattle.tile_pits.proofs.put_pits.Statement.{statement}
 use Rattle.tile_pits.proofs.put_pits.Tie as tie

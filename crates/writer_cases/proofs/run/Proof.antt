@@ -18,7 +18,7 @@ loop-again c =
     let m = c .before .before .before .before .before .before in
     let h = m .before .before .before .before .before .before .before in
     let r = h .before .before .before .before .before .before .before in
-    let l = r .before .before .before in
+    let l = r .before .before .before .before in
     let k = m .one-more .kept in
     let i = l .loop .inv in
     (r .next-record .kept .0 ∙ i .0, (k .0 ∙ i .1 .0, (k .1 .1 .1 .1 .1 .1 .0 ∙ i .1 .1 .0, k .1 .1 .1 .1 .1 .1 .1 .0 ∙ i .1 .1 .1)))
@@ -29,6 +29,11 @@ run-spec =
     (tie.spec
     Inv-loop
     μ-loop
+    (λ c. search needs)
+    (λ c. search needs)
+    (λ c. search needs)
+    (λ c. search needs)
+    (λ c. search needs)
     (λ c. search needs)
     (λ c κs. search needs)
     (λ c. search needs)
@@ -45,6 +50,7 @@ run-spec =
     (λ c κs. search needs)
     (λ c. search needs)
     loop-again
+    (λ c κs. search needs)
     (λ c. search needs)
     (λ c. search needs)
     (λ c. search needs)

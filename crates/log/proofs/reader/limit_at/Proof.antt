@@ -1,7 +1,7 @@
 -- `log::reader::limit_at` meets its contract. Assumes nothing.
 use mathlib.Core.Path.{sym, ap, _∙_}
 use Rattle.varint.proofs.Sevens.{number-taken, number-refused}
-use Rattle.log.specs.Told.{firstOf}
+use Rattle.log.specs.Said.{firstOf}
 use Rattle.log.proofs.Reading.{limit-follows, limit-refused}
 use borrow.Author.Needs.{needs}
 use Rattle.log.proofs.reader.limit_at.Statement.{statement}

@@ -1,7 +1,7 @@
 -- `log::next_entry` meets its contract. Assumes nothing.
 use mathlib.Core.Path.{sym, ap, _∙_}
 use Rattle.varint.proofs.Sevens.{number-taken, number-refused}
-use Rattle.log.specs.Told.{stepOf}
+use Rattle.log.specs.Said.{stepOf}
 use Rattle.log.proofs.Reading.{next-end, next-here, entry-follows, entry-refused}
 use borrow.Author.Needs.{needs}
 use Rattle.log.proofs.reader.next_entry.Statement.{statement}

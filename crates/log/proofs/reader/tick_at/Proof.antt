@@ -1,7 +1,7 @@
 -- `log::reader::tick_at` meets its contract. Assumes nothing.
 use mathlib.Core.Path.{sym, ap, _∙_}
 use Rattle.varint.proofs.Sevens.{number-taken, number-refused}
-use Rattle.log.specs.Told.{stepOf}
+use Rattle.log.specs.Said.{stepOf}
 use Rattle.log.proofs.Reading.{tick-follows, tick-refused}
 use borrow.Author.Needs.{needs}
 use Rattle.log.proofs.reader.tick_at.Statement.{statement}

@@ -13,9 +13,9 @@ use Rattle.varint.proofs.Sevens.{groups-some}
 use Rattle.log.specs.Editions.{Edition, edition1, edition2, headBytes, headIn, limitsOf}
 use Rattle.log.specs.Entries.{Entry, entryOf, entryBytes}
 use Rattle.log.specs.Listed.{entryIn, after, more, listBy, entriesAfter, entriesIn}
-use Rattle.log.specs.Told.{firstOf, entryAt, stepOf, stepIn, nextAt, entrySaid, says, saidOf, saidIn, readAt, placeAfter, onward, readOn, readAll}
+use Rattle.log.specs.Said.{firstOf, entryAt, stepOf, stepIn, nextAt, entrySaid, says, saidOf, saidIn, readAt, placeAfter, onward, readOn, readAll}
 use Rattle.log.specs.declared.reader.Step.the-variants.{End, Refused}
-use Rattle.log.proofs.Backs.{back-entry, back-head}
+use Rattle.log.proofs.LogRoundTrip.{back-entry, back-head}
 use Rattle.log.proofs.Reading.{read-on, read-first, read-refused}
 
 -- ---- where an entry lies

@@ -10,7 +10,7 @@ use lib.ListN.{length, length-append}
 use lib.Seq.{length-sets}
 use borrow.Author.Tests.{eqb-false}
 use Rattle.wire.specs.Choice.{pick}
-use Rattle.wire.proofs.Choices.{pick-all}
+use Rattle.wire.proofs.Choices.{zero-is-one, pick-all}
 use Rattle.steps.specs.Answers.{Reply, refusedBy, kept, repeat, delivered}
 use Rattle.lmcp.specs.Run.{got, refused}
 use Rattle.lmcp.specs.Read.{Read}
@@ -21,7 +21,7 @@ use Rattle.log.specs.declared.reader.Step.{Step}
 use Rattle.log.specs.declared.reader.Step.the-variants as step
 use Rattle.log.specs.Entries.{Entry}
 use Rattle.log.specs.Listed.{Listed, whole, broken, after}
-use Rattle.log.specs.Told.{entrySaid, readAt, onward, readOn}
+use Rattle.log.specs.Said.{entrySaid, readAt, onward, readOn}
 use Rattle.count_rules.specs.Marks.{PitList, listIn}
 use Rattle.count_rules.specs.Run.{answerTo, answers, payloadIn, listsRead}
 use Rattle.count_rules.specs.Walk.{seenAt, listAt, seenAfter}
@@ -29,9 +29,6 @@ use Rattle.pit_payloads.specs.Took.{faultIn}
 use Rattle.stretch.specs.declared.Stop.{Stop}
 use Rattle.stretch.specs.declared.Stop.the-variants as stop
 use Rattle.stretch.specs.Stretch.{Kit, calledOn, Entered, enterOn, Stretched, here, byStep, stretch, Clean, stopFault, entriesOf}
-
-no : {A : Type 0} → _≡_ {A = ℕ} 0 1 → A
-no z = absurd (let y : ⊥ = omega arith in y)
 
 pub entries-after : (e : Entry) (x : Listed) → entriesOf (after e x) ≡ e ∷ entriesOf x
 entries-after e (whole es) = refl
@@ -112,12 +109,12 @@ module _ (b : Bool) (l : Limits) (log : List ℕ) where
 
   some-step : (m : ℕ) → Some m → (place : ℕ) (k : Kit) (f : ℕ) (x : Step) → byStep b l log place k (stretch b l log m) x .stop ≡ stop.Refused f → f ≡ 0 → ⊥
   some-step m ih place k f (step.Found e) q = some-fault m ih (faultIn (enterOn b l k (entrySaid log e) .looked)) (e .next) (enterOn b l k (entrySaid log e) .kit) f _ refl q
-  some-step m ih place k f step.End q = no (let z : _≡_ {A = ℕ} 0 1 = cc in z)
-  some-step m ih place k f (step.Refused j) q = no (let z : _≡_ {A = ℕ} 0 1 = cc in z)
+  some-step m ih place k f step.End q = zero-is-one (let z : _≡_ {A = ℕ} 0 1 = cc in z)
+  some-step m ih place k f (step.Refused j) q = zero-is-one (let z : _≡_ {A = ℕ} 0 1 = cc in z)
 
   refused-any : (m : ℕ) → Some m
   unfolding stretch
-  refused-any zero place k f q = no (let z : _≡_ {A = ℕ} 0 1 = cc in z)
+  refused-any zero place k f q = zero-is-one (let z : _≡_ {A = ℕ} 0 1 = cc in z)
   refused-any (suc m) place k f q = some-step m (refused-any m) place k f (readAt log place) q
 
   pub refused-some : (m place : ℕ) (k : Kit) (f : ℕ) → stretch b l log m place k .stop ≡ stop.Refused f → f ≡ 0 → ⊥

@@ -15,7 +15,7 @@ use Rattle.steps.specs.Receive.{Machine, After, stay, receive}
 use Rattle.steps.specs.Runs.{World, Arrival, call}
 use Rattle.steps.specs.Reach.{receives, found, isStored}
 use Rattle.steps.proofs.Branches.{Course, unmoved, given, joined, begun, course, step-sound, fragment-begin, step5-stores}
-use Rattle.steps.proofs.Quick.{step5-ledger}
+use Rattle.steps.proofs.RunComputed.{step5-ledger}
 use Rattle.steps.proofs.Reaches.{Good, good-sound, reached-good}
 use Rattle.steps.proofs.Emptying.{emptied-unknown}
 use Rattle.arrival.specs.Demand.{Message, key, datagram}

@@ -1,4 +1,4 @@
--- How far a walk has come, in places: the contract of each function that walks. Definitions only.
+-- INSIDE: how far a walk has come, in places: the contract of each function that walks. Definitions only; no promise of a public function rests on them.
 use mathlib.Core.Path.{_≡_}
 use mathlib.Core.List.{List, []}
 use Prim.Native.Nat.{ℕ, _+_, _*_, _≤_}

@@ -1,4 +1,4 @@
--- Bits of a word. Definitions only, for private contracts.
+-- INSIDE: bits of a word. Definitions only; no promise of a public function rests on them.
 use mathlib.Core.Bool.{Bool}
 use Prim.Native.Nat.{ℕ, _/_, _%_, _^_}
 use lib.Dec.{eqb}

@@ -17,7 +17,7 @@ use Rattle.log.specs.declared.reader.EntryAt.{EntryAt}
 use Rattle.log.specs.declared.reader.Step.{Step}
 use Rattle.log.specs.declared.reader.Step.the-variants as step
 use Rattle.log.specs.Editions.{limitsIn}
-use Rattle.log.specs.Told.{entrySaid, readAt}
+use Rattle.log.specs.Said.{entrySaid, readAt}
 use Rattle.sorted_set.specs.Lists.{In}
 use Rattle.sorted_set.proofs.Members.{in-left, in-right, in-either}
 use Rattle.count_rules.specs.Run.{payloadIn, payloads}
