@@ -1,14 +1,11 @@
 // Acknowledge blocks of lists of numbers. Standard input holds records, each after a 4-byte big-endian length: 8-byte big-endian numbers; a line
 // gives the bytes of the blocks of each list, or its refusal, or says that the list is longer than the program holds.
 ghost use mathlib.Core.Path.{_≡_};
-ghost use mathlib.Core.List.{_++_};
 ghost use Prim.Native.Nat.{_/_, _≤_};
 ghost use lib.ListN.{length, take};
 ghost use lib.Seq.{sets};
 ghost use Rattle.wire.specs.Slices.{buffer};
-ghost use Rattle.wire.specs.Text.{ascii};
 ghost use Rattle.ack_blocks.specs.Limits.{maxBlocks};
-ghost use Rattle.text.specs.Text.{decimal};
 ghost use Rattle.stream.specs.declared.Kind.the-variants.{Bytes4};
 ghost use Rattle.output.specs.Output.{Pours, lineLimit};
 ghost use Rattle.record_lines.specs.Lines.{Tells};
@@ -51,12 +48,6 @@ fn front(list: &[u64], n: usize) -> &[u64]
     &list[..k]
 }
 
-fn pour_refused(out: &mut [u8], at: usize, number: u32) -> usize
-    ensures { λ r. ⌜ Pours (now (out .entry)) at (ascii " refused " ++ decimal number ++ ascii "\n") (now (out .exit)) r ⌝ }
-{
-    output::pour_counted_line(out, at, b" refused ", number as u64)
-}
-
 fn pour_longer(out: &mut [u8], at: usize) -> usize
     ensures { λ r. ⌜ Pours (now (out .entry)) at longerText (now (out .exit)) r ⌝ }
 {
@@ -82,7 +73,7 @@ fn pour_written(out: &mut [u8], at: usize, blocks: &[u8], w: Written) -> usize
 {
     match w {
         Written::Bytes(k) => pour_bytes(out, at, wire::part(blocks, 0, k)),
-        Written::Refused(number) => pour_refused(out, at, number),
+        Written::Refused(number) => output::pour_counted_line(out, at, b" refused ", number as u64),
     }
 }
 
@@ -103,7 +94,7 @@ fn one_more(
         return pour_longer(out, next);
     }
     if body.len() % WIDTH != 0 {
-        return pour_refused(out, next, 70);
+        return output::pour_counted_line(out, next, b" refused ", 70);
     }
     let count = take_list(body, list);
     let w = ack_writer::write_blocks(front(list, count), blocks);

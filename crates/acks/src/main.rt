@@ -2,14 +2,11 @@
 // a line says whether the blocks acknowledge the number, or why they are refused.
 ghost use Prim.Native.Nat.{_≤_};
 ghost use lib.ListN.{length};
-ghost use mathlib.Core.List.{_++_};
 ghost use Rattle.wire.specs.Slices.{buffer};
-ghost use Rattle.wire.specs.Text.{ascii};
 ghost use Rattle.ack_blocks.specs.Read.{answers};
 ghost use Rattle.stream.specs.declared.Kind.the-variants.{Bytes4};
 ghost use Rattle.output.specs.Output.{Pours, lineLimit};
 ghost use Rattle.record_lines.specs.Lines.{Tells};
-ghost use Rattle.text.specs.Text.{decimal};
 ghost use Rattle.acks.specs.Lines.{answerText, line, lines};
 use ack_blocks::Answer;
 use stream::Input;
@@ -19,19 +16,13 @@ use stream::Next;
 // The bytes of a record before its blocks.
 const NUMBER: usize = 8;
 
-fn pour_refused(out: &mut [u8], at: usize, number: u32) -> usize
-    ensures { λ r. ⌜ Pours (now (out .entry)) at (ascii " refused " ++ decimal number ++ ascii "\n") (now (out .exit)) r ⌝ }
-{
-    output::pour_counted_line(out, at, b" refused ", number as u64)
-}
-
 fn pour_answer(out: &mut [u8], at: usize, a: Answer) -> usize
     ensures { λ r. ⌜ Pours (now (out .entry)) at (answerText (answers a)) (now (out .exit)) r ⌝ }
 {
     match a {
         Answer::Yes => output::pour(out, at, b" yes\n"),
         Answer::No => output::pour(out, at, b" no\n"),
-        Answer::Refused(number) => pour_refused(out, at, number),
+        Answer::Refused(number) => output::pour_counted_line(out, at, b" refused ", number as u64),
     }
 }
 
@@ -41,7 +32,7 @@ fn one_more(out: &mut [u8], at: usize, n: u64, b: &[u8]) -> usize
 {
     let next = output::pour_decimal(out, at, n);
     if b.len() < NUMBER {
-        return pour_refused(out, next, 70);
+        return output::pour_counted_line(out, next, b" refused ", 70);
     }
     let number = wire::number(b, 0, NUMBER);
     let a = ack_blocks::ask(wire::part(b, NUMBER, b.len()), number);

@@ -8,7 +8,7 @@ ghost use Rattle.wire.specs.Slices.{buffer};
 ghost use Rattle.wire.specs.Text.{ascii};
 ghost use Rattle.wire.specs.Bytes.{be};
 ghost use Rattle.moss.specs.Limits.{maxPacket};
-ghost use Rattle.text.specs.Text.{decimal, hex};
+ghost use Rattle.text.specs.Text.{hex};
 ghost use Rattle.stream.specs.declared.Kind.the-variants.{Bytes4};
 ghost use Rattle.output.specs.Output.{Pours, lineLimit};
 ghost use Rattle.record_lines.specs.Lines.{Tells};
@@ -32,12 +32,6 @@ fn word_at(b: &[u8], at: usize) -> u32
     wire::number(b, at, 4) as u32
 }
 
-fn pour_refused(out: &mut [u8], at: usize, number: u32) -> usize
-    ensures { λ r. ⌜ Pours (now (out .entry)) at (ascii " refused " ++ decimal number ++ ascii "\n") (now (out .exit)) r ⌝ }
-{
-    output::pour_counted_line(out, at, b" refused ", number as u64)
-}
-
 // The first n bytes of the packet, in hexadecimal.
 fn pour_bytes(out: &mut [u8], at: usize, packet: &[u8], n: usize) -> usize
     ensures { λ r. ⌜ Pours (now (out .entry)) at (ascii " bytes " ++ hex (take n (now (packet .entry))) ++ ascii "\n") (now (out .exit)) r ⌝ }
@@ -54,7 +48,7 @@ fn one_more(out: &mut [u8], at: usize, n: u64, packet: &mut [u8], b: &[u8]) -> u
 {
     let next = output::pour_decimal(out, at, n);
     if b.len() < RECORD_HEAD {
-        return pour_refused(out, next, 50);
+        return output::pour_counted_line(out, next, b" refused ", 50);
     }
     let session = moss::session_at(b, 0);
     let sequence = word_at(b, SEQUENCE_AT);
@@ -63,7 +57,7 @@ fn one_more(out: &mut [u8], at: usize, n: u64, packet: &mut [u8], b: &[u8]) -> u
     let w = moss_writer::write_packet(session, sequence, kind, blocks, packet);
     match w {
         Written::Bytes(n) => pour_bytes(out, next, packet, n),
-        Written::Refused(number) => pour_refused(out, next, number),
+        Written::Refused(number) => output::pour_counted_line(out, next, b" refused ", number as u64),
     }
 }
 

@@ -24,13 +24,13 @@ returns c =
 
 returns-2 : tie.Need-returns-2
 returns-2 c =
-    let at-pour-refused = c .before .before in
-    let at-if2 = at-pour-refused .before .before in
+    let at-refused = c .before .before in
+    let at-if2 = at-refused .before .before .before in
     let at-if1 = at-if2 .before in
     let at-pour-decimal = at-if1 .before .before .before in
     let start = at-pour-decimal .before .before .before .before .before .before in
     let a = start .args in
-    pours-is (pours-then (at-pour-decimal .pour-decimal .ensures) (at-pour-refused .pour-refused .ensures)) (line-cut (a .n) (a .body .now) (at-if1 .if1 .left) (at-if2 .if2 .taken))
+    pours-is (pours-then (at-pour-decimal .pour-decimal .ensures) (at-refused .pour-counted-line .ensures)) (line-cut (a .n) (a .body .now) (at-if1 .if1 .left) (at-if2 .if2 .taken))
 
 returns-3 : tie.Need-returns-3
 returns-3 c =
@@ -62,6 +62,7 @@ one-more-spec =
     (λ c κs. search needs)
     (λ c. search needs)
     returns
+    (λ c. search needs)
     (λ c κs. search needs)
     (λ c. search needs)
     returns-2

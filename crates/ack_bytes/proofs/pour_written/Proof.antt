@@ -19,11 +19,11 @@ returns c =
 
 returns-2 : tie.Need-returns-2
 returns-2 c =
-    let at-pour-refused = c .before .before in
-    let at-w2 = at-pour-refused .before .before .before in
+    let at-refused = c .before .before in
+    let at-w2 = at-refused .before .before .before .before in
     let start = at-w2 .before .before .before .before in
     let a = start .args in
-    pours-is (at-pour-refused .pour-refused .ensures) (ap (writtenText (a .blocks .now)) (sym (at-w2 .w2 .given .1)))
+    pours-is (at-refused .pour-counted-line .ensures) (ap (writtenText (a .blocks .now)) (sym (at-w2 .w2 .given .1)))
 
 pub pour-written-spec : {M : Type 1} → statement M
 pour-written-spec =
@@ -32,6 +32,8 @@ pour-written-spec =
     (λ c. search needs)
     (λ c κs. search needs)
     (λ c κs. search needs)
+    (λ c. search needs)
+    (λ c. search needs)
     (λ c. search needs)
     (λ c κs. search needs)
     (λ c. search needs)

@@ -16,13 +16,13 @@ use Rattle.acks.proofs.one_more.Tie as tie
 
 returns : tie.Need-returns
 returns c =
-    let at-pour-refused = c .before .before in
-    let at-if1 = at-pour-refused .before .before in
+    let at-refused = c .before .before in
+    let at-if1 = at-refused .before .before .before in
     let place = at-if1 .before .before .before in
     let start = place .before .before .before .before in
     let a = start .args in
     let d = place in
-    pours-is (pours-then (d .pour-decimal .ensures) (at-pour-refused .pour-refused .ensures))
+    pours-is (pours-then (d .pour-decimal .ensures) (at-refused .pour-counted-line .ensures))
     (ap (λ (g : Given Bool). decimal (a .n) ++ answerText g) (sym (answer-short (a .b .now) (at-if1 .if1 .taken))))
 
 returns-2 : tie.Need-returns-2
@@ -47,6 +47,7 @@ one-more-spec =
     tie.close
     (tie.spec
     (λ c κs. search needs)
+    (λ c. search needs)
     (λ c κs. search needs)
     (λ c. search needs)
     returns

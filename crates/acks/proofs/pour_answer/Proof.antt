@@ -25,9 +25,9 @@ returns-2 c =
 
 returns-3 : tie.Need-returns-3
 returns-3 c =
-    let at-pour-refused = c .before .before in
-    let at-a = at-pour-refused .before .before .before in
-    pours-is (at-pour-refused .pour-refused .ensures) (ap (λ (x : Answer). answerText (answers x)) (sym (at-a .a .given .1)))
+    let at-refused = c .before .before in
+    let at-a = at-refused .before .before .before .before in
+    pours-is (at-refused .pour-counted-line .ensures) (ap (λ (x : Answer). answerText (answers x)) (sym (at-a .a .given .1)))
 
 pub pour-answer-spec : {M : Type 1} → statement M
 pour-answer-spec =
@@ -39,6 +39,8 @@ pour-answer-spec =
     (λ c. search needs)
     (λ c. search needs)
     (λ c κs. search needs)
+    (λ c. search needs)
+    (λ c. search needs)
     (λ c. search needs)
     (λ c κs. search needs)
     (λ c. search needs)
