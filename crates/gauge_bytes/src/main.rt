@@ -57,7 +57,12 @@ fn one_more(out: &mut [u8], at: usize, n: u64, packet: &mut [u8], b: &[u8]) -> u
     let w = moss_writer::write_packet(session, sequence, kind, blocks, packet);
     match w {
         Written::Bytes(n) => pour_bytes(out, next, packet, n),
-        Written::Refused(number) => output::pour_counted_line(out, next, b" refused ", number as u64),
+        Written::Refused(number) => output::pour_counted_line(
+            out,
+            next,
+            b" refused ",
+            number as u64,
+        ),
     }
 }
 
