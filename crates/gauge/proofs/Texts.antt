@@ -9,7 +9,7 @@ use lib.ListN.{length, take, drop, length-drop, drop-of-length-le}
 use lib.Seq.{drop-cons, drop-drop, length-take-le}
 use borrow.Author.Tests.{eq-eqb}
 use Rattle.wire.specs.Bytes.{be}
-use Rattle.watch.specs.Noted.{Noted}
+use Rattle.differences.specs.Noted.{Noted}
 use Rattle.moss.specs.Limits.{headLength, letterU}
 use Rattle.moss.specs.Blocks.{firstMessage, before, messagesIn}
 use Rattle.moss.specs.Packet.{Given, gives, refuses, Packet, kindIn, carried, fillFault, packetOf}

@@ -9,9 +9,8 @@ use Rattle.wire.specs.Same.{same}
 use Rattle.wire.specs.Overlay.{overlay}
 use Rattle.wire.proofs.Choices.{and-false}
 use Rattle.wire.proofs.Overlays.{overlay-all}
-use Rattle.watch.specs.Noted.{first}
-use Rattle.watch.specs.Difference.{difference, told}
-use Rattle.watch.specs.Watching.{moves}
+use Rattle.differences.specs.Noted.{first, moves}
+use Rattle.differences.specs.Difference.{difference, told}
 use Rattle.moss.specs.Limits.{sessionLength}
 use Rattle.moss.specs.Packet.{Given, gives, refuses, Packet, sessionPlace, sessionIn, packetOf}
 use Rattle.moss.specs.Answers.{headerOf, headersOf}

@@ -8,11 +8,9 @@ use lib.ListN.{length, replicate}
 use Rattle.wire.specs.Same.{same}
 use Rattle.wire.specs.Sum.{sum}
 use Rattle.wire.proofs.Parts.{same-refl}
-use Rattle.watch.specs.Noted.{Noted, first, forward, restarted}
-use Rattle.watch.specs.Watching.{moves}
-use Rattle.watch.specs.Difference.{difference, told}
-use Rattle.watch.proofs.Differences.{restarted-number}
-use Rattle.watch.proofs.Runs.{step-told, forward-distance, cons-eq}
+use Rattle.differences.specs.Noted.{Noted, first, forward, restarted, moves}
+use Rattle.differences.specs.Difference.{difference, told}
+use Rattle.differences.proofs.Differences.{restarted-number, step-told, forward-distance, cons-eq}
 use Rattle.moss.specs.Packet.{gives, Packet, packetOf}
 use Rattle.gauge_watch.specs.declared.Gauge.{Gauge}
 use Rattle.gauge_watch.specs.Heard.{notedOf, movedTo, asked, after}

@@ -13,9 +13,9 @@ use Rattle.wire.proofs.Once.{one-answer}
 use Rattle.watch.specs.declared.Watch.{Watch}
 use Rattle.watch.specs.declared.Seen.{Seen}
 use Rattle.watch.specs.Limits.{maxSenders}
-use Rattle.watch.specs.Noted.{notes, notedCode}
+use Rattle.differences.specs.Noted.{notes, notedCode, moves}
 use Rattle.watch.specs.Senders.{empty}
-use Rattle.watch.specs.Watching.{asked, moves, after, Result}
+use Rattle.watch.specs.Watching.{asked, after, Result}
 use Rattle.host_flight.specs.Watches.{watchIn, lacking, sendersOf, lastsOf, SeeTold, watchKind, watchNumber}
 
 -- ---- lists

@@ -12,8 +12,7 @@ use Rattle.wire.specs.Slices.{_⇒_}
 use Rattle.wire.proofs.Numbers.{length-bytes}
 use Rattle.wire.proofs.Overlays.{overlay-next, overlay-whole}
 use Rattle.wire.proofs.Once.{one-answer}
-use Rattle.watch.specs.Noted.{notes, notedCode}
-use Rattle.watch.specs.Watching.{moves}
+use Rattle.differences.specs.Noted.{notes, notedCode, moves}
 use Rattle.moss.specs.Limits.{sessionLength}
 use Rattle.moss.specs.Packet.{packetOf}
 use Rattle.gauge_watch.specs.declared.Gauge.{Gauge}

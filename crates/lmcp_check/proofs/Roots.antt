@@ -26,6 +26,13 @@ use Rattle.wire.proofs.Choices.{or-l}
 
 -- ---- a root
 
+-- the root, as the code takes it
+abbrev pub root : List ℕ → List ℕ
+root m = take (length m - 4 - 8) (drop 8 m)
+
+pub root-is : (m : List ℕ) → root m ≡ rootOf m
+root-is m = let e : length m - 4 - 8 ≡ length m - 12 = omega arith in ap (λ (n : ℕ). take n (drop 8 m)) e
+
 module _ (v : ℕ) (s : List ℕ) where
   stops : (n : ℕ) → readRoot v s ≡ refused n → n ≡ refusalOf (whole (readRoot v s))
   unfolding whole

@@ -24,7 +24,7 @@ use Rattle.within_limits.specs.Within.{receivedWithin}
 use Rattle.output.specs.Output.{closed, Pours, Finishes}
 use Rattle.output.proofs.Sending.{pours-none, pours-then, pours-is, pours-stop}
 use Rattle.log_lines.specs.Lines.{endLine, refusedLine, lastLine}
-use Rattle.replay_run.specs.Lines.{line}
+use Rattle.replay_lines.specs.Lines.{line}
 use Rattle.replay_log.specs.Lines.{heardBy, linesAfter, logLines, linesFrom, Replayed}
 
 -- ---- a call of the receiver is the step list's, and leaves what that leaves

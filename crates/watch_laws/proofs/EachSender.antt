@@ -16,10 +16,10 @@ use Rattle.wire.specs.Choice.{pick}
 use Rattle.wire.proofs.Choices.{either}
 use Rattle.watch.specs.declared.Watch.{Watch}
 use Rattle.watch.specs.Limits.{maxSenders}
-use Rattle.watch.specs.Noted.{Noted, first, refused}
-use Rattle.watch.specs.Difference.{difference, told}
+use Rattle.differences.specs.Noted.{Noted, first, refused, moves}
+use Rattle.differences.specs.Difference.{difference, told}
 use Rattle.watch.specs.Senders.{place, senderPlace}
-use Rattle.watch.specs.Watching.{asked, moves, after}
+use Rattle.watch.specs.Watching.{asked, after}
 use Rattle.watch.specs.Runs.{answers}
 use Rattle.watch.specs.Worked.{Come, noted}
 use Rattle.watch.proofs.Places.{place-le, place-at, place-new}

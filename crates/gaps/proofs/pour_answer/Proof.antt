@@ -1,7 +1,7 @@
 -- The answer as text, by its cases. Assumes nothing.
 use mathlib.Core.Path.{sym, ap}
-use Rattle.watch.specs.declared.Answer.{Answer}
-use Rattle.watch.specs.Noted.{notes}
+use Rattle.differences.specs.declared.Answer.{Answer}
+use Rattle.differences.specs.Noted.{notes}
 use Rattle.output.proofs.Sending.{pours-is}
 use Rattle.gaps.specs.Lines.{answerText}
 use borrow.Author.Needs.{needs}

@@ -1,6 +1,6 @@
 -- A packet is heard, and its line goes out. Assumes nothing.
 use mathlib.Core.Path.{ap}
-use Rattle.watch.specs.Noted.{Noted}
+use Rattle.differences.specs.Noted.{Noted}
 use Rattle.moss.specs.Packet.{packetOf}
 use Rattle.output.proofs.Sending.{pours-is}
 use Rattle.gauge.specs.Lines.{line}

@@ -1,6 +1,6 @@
 -- A line: its number, then what is said of the packet. Assumes nothing.
 use mathlib.Core.Path.{sym, ap, _∙_}
-use Rattle.watch.specs.Noted.{notes}
+use Rattle.differences.specs.Noted.{notes}
 use Rattle.moss.specs.Packet.{packetOf}
 use Rattle.moss.specs.Answers.{reads}
 use Rattle.output.proofs.Sending.{pours-then, pours-is}

@@ -5,7 +5,7 @@ use mir.Syntax.{w32}
 use mir.ValLaws.{toZ-ofZ}
 use borrow.Author.Tests.{not-true, not-false}
 use borrow.Author.Needs.{needs}
-use Rattle.watch.specs.Difference.{difference, told}
+use Rattle.differences.specs.Difference.{difference, told}
 use Rattle.moss.specs.Limits.{sessionLength}
 use Rattle.moss.specs.Packet.{packetOf}
 use Rattle.moss.specs.declared.Header.{Header}

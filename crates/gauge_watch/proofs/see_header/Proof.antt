@@ -4,7 +4,7 @@ use native.Mathlib.Omega.{arith}
 use lib.ListN.{drop, replicate}
 use borrow.Author.Needs.{needs}
 use Rattle.wire.specs.Overlay.{overlay}
-use Rattle.watch.specs.Watching.{moves}
+use Rattle.differences.specs.Noted.{moves}
 use Rattle.moss.specs.Limits.{sessionLength}
 use Rattle.moss.specs.Packet.{packetOf}
 use Rattle.moss.specs.declared.Header.{Header}

@@ -1,22 +1,14 @@
 -- `lmcp_check::check_message` meets its contract: the frame, and then the root.
-use mathlib.Core.Path.{_≡_, sym, ap, _∙_}
+use mathlib.Core.Path.{sym, _∙_}
 use mathlib.Core.List.{List}
 use Prim.Native.Nat.{ℕ, _-_, _≤_}
 use native.Mathlib.Omega.{arith}
-use lib.ListN.{length, take, drop, length-take, length-drop}
+use lib.ListN.{length, length-take, length-drop}
 use borrow.Author.Needs.{needs}
 use Rattle.lmcp.specs.Limits.{maxMessage}
-use Rattle.lmcp.specs.Message.{rootOf}
-use Rattle.lmcp_check.proofs.Roots.{frame-within, wrong-frame, wrong-root}
+use Rattle.lmcp_check.proofs.Roots.{root, root-is, frame-within, wrong-frame, wrong-root}
 use Rattle.lmcp_check.proofs.check_message.Statement.{statement}
 use Rattle.lmcp_check.proofs.check_message.Tie as tie
-
--- the root, as the code takes it
-abbrev root : List ℕ → List ℕ
-root m = take (length m - 4 - 8) (drop 8 m)
-
-root-is : (m : List ℕ) → root m ≡ rootOf m
-root-is m = let e : length m - 4 - 8 ≡ length m - 12 = omega arith in ap (λ (n : ℕ). take n (drop 8 m)) e
 
 abbrev M : tie.Else1 → List ℕ
 M c = c .before .before .before .args .message .now

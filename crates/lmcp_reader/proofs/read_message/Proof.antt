@@ -1,29 +1,21 @@
 -- `lmcp_reader::read_message` meets its contract: what is wrong with the message, or the numbers of its root.
-use mathlib.Core.Path.{_≡_, sym, ap, _∙_}
+use mathlib.Core.Path.{_≡_, sym, _∙_}
 use mathlib.Core.Bool.{Bool, true, false}
 use mathlib.Core.List.{List}
 use Prim.Native.Nat.{ℕ, _-_, _^_, _≤_, _<_}
 use native.Mathlib.Omega.{arith}
 use lib.Dec.{eqb}
-use lib.ListN.{length, take, drop, length-take, length-drop}
+use lib.ListN.{length, drop, length-take, length-drop}
 use borrow.Author.Needs.{needs}
 use Rattle.wire.specs.Choice.{pick}
 use Rattle.wire.specs.Bytes.{be}
 use Rattle.lmcp.specs.Limits.{maxMessage}
-use Rattle.lmcp.specs.Message.{rootOf}
 use Rattle.lmcp.specs.Lists.{versionOf, readList}
 use Rattle.lmcp_check.specs.Refusal.{refusalOf}
-use Rattle.lmcp_check.proofs.Roots.{frame-within}
+use Rattle.lmcp_check.proofs.Roots.{root, root-is, frame-within}
 use Rattle.lmcp_reader.proofs.Roots.{answer-refused, good, good-ahead, answer-good}
 use Rattle.lmcp_reader.proofs.read_message.Statement.{statement}
 use Rattle.lmcp_reader.proofs.read_message.Tie as tie
-
--- the root, as the code takes it
-abbrev root : List ℕ → List ℕ
-root m = take (length m - 4 - 8) (drop 8 m)
-
-root-is : (m : List ℕ) → root m ≡ rootOf m
-root-is m = let e : length m - 4 - 8 ≡ length m - 12 = omega arith in ap (λ (n : ℕ). take n (drop 8 m)) e
 
 -- a version is 1 or 2
 version-small : (b : List ℕ) {v : ℕ} → v ≡ versionOf b → v < 2 ^ 63

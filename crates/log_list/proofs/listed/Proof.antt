@@ -1,27 +1,15 @@
 -- Entry by entry. The loop's invariant: the entries passed have their lines. Assumes nothing.
-use mathlib.Core.Path.{_≡_, refl, sym, _∙_, subst}
-use mathlib.Core.Logic.{inl, inr}
-use mathlib.Core.List.{[], _∷_}
+use mathlib.Core.Path.{_≡_, refl, sym, _∙_}
 use Prim.Native.Nat.{_-_}
 use native.Mathlib.Omega.{arith}
 use lib.ListN.{length}
-use types.Run.{OneOf}
-use denote.Enum.Declared.{tagOf}
 use Rattle.wire.specs.Bytes.{Bytes}
-use Rattle.log.proofs.reader.Step.{the-type}
-use Rattle.log.specs.declared.reader.EntryAt.{EntryAt}
-use Rattle.log.specs.declared.reader.Step.{Step}
-use Rattle.log.specs.declared.reader.Step.the-variants as step
-use Rattle.log.proofs.EntriesPassed.{ahead}
+use Rattle.log.proofs.EntriesPassed.{no-entry, ahead}
 use Rattle.output.proofs.Sending.{finishes-shut}
 use Rattle.log_list.proofs.Listing.{Going, going-none, going-more, going-end, going-shut}
 use borrow.Author.Needs.{needs}
 use Rattle.log_list.proofs.listed.Statement.{statement}
 use Rattle.log_list.proofs.listed.Tie as tie
-
--- the reading ended
-no-entry : (x : Step) → OneOf (1 ∷ 2 ∷ []) (tagOf the-type x) → (e : EntryAt) → x ≡ step.Found e → ⊥
-no-entry x o e q = elim (subst (λ (y : Step). OneOf (1 ∷ 2 ∷ []) (tagOf the-type y)) q o) [ inl z ↦ (let y : ⊥ = omega arith in y) | inr z ↦ (let y : ⊥ = omega arith in y) ]
 
 abbrev Inv-loop : tie.InvT-loop
 Inv-loop log out₀ place₀ at₀ n₀ out place at n = (length out ≡ length out₀) × Going log out₀ out place at n

@@ -1,9 +1,10 @@
 -- A fresh receiver is opened, which is not refused, and the log is replayed over it. Assumes nothing.
 use lib.ListN.{replicate}
 use Rattle.steps.specs.Limits.{ledgerLength}
+use Rattle.steps.specs.Runs.{begun}
 use Rattle.output.proofs.Zeros.{zeros}
-use Rattle.replay_run.proofs.Heard.{zeros-shaped, opened-done, opened-world, opened-shaped}
-use Rattle.replay_log.specs.Lines.{storeBytes, begun}
+use Rattle.open_and_payload.proofs.Opened.{zeros-shaped, opened-done, opened-world, opened-shaped}
+use Rattle.replay_log.specs.Lines.{storeBytes}
 use Rattle.replay_log.proofs.Replaying.{finishes-from}
 use borrow.Author.Needs.{needs}
 use Rattle.replay_log.proofs.afresh.Statement.{statement}

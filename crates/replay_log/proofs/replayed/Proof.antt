@@ -1,20 +1,12 @@
 -- Entry by entry. The loop's invariant: the entries passed have their lines. Assumes nothing.
-use mathlib.Core.Path.{_≡_, refl, sym, ap, _∙_, subst}
-use mathlib.Core.Logic.{inl, inr}
-use mathlib.Core.List.{[], _∷_}
+use mathlib.Core.Path.{_≡_, refl, sym, ap, _∙_}
 use Prim.Native.Nat.{_-_}
 use native.Mathlib.Omega.{arith}
 use lib.ListN.{length}
-use types.Run.{OneOf}
-use denote.Enum.Declared.{tagOf}
 use Rattle.receiver.specs.Lent.{lent, worldIn}
-use Rattle.log.proofs.reader.Step.{the-type}
-use Rattle.log.specs.declared.reader.EntryAt.{EntryAt}
 use Rattle.log.specs.declared.reader.Limits.{Limits}
-use Rattle.log.specs.declared.reader.Step.{Step}
-use Rattle.log.specs.declared.reader.Step.the-variants as step
 use Rattle.log.specs.Listed.{entriesIn}
-use Rattle.log.proofs.EntriesPassed.{ahead}
+use Rattle.log.proofs.EntriesPassed.{no-entry, ahead}
 use Rattle.output.proofs.Sending.{finishes-shut, finishes-is}
 use Rattle.receiver_state.proofs.Unique.{shaped-still}
 use Rattle.replay_log.specs.Lines.{logLines, linesFrom}
@@ -22,10 +14,6 @@ use Rattle.replay_log.proofs.Replaying.{replayed-said, replayed-left, G
 use borrow.Author.Needs.{needs}
 use Rattle.replay_log.proofs.replayed.Statement.{statement}
 use Rattle.replay_log.proofs.replayed.Tie as tie
-
--- the reading ended
-no-entry : (x : Step) → OneOf (1 ∷ 2 ∷ []) (tagOf the-type x) → (e : EntryAt) → x ≡ step.Found e → ⊥
-no-entry x o e q = elim (subst (λ (y : Step). OneOf (1 ∷ 2 ∷ []) (tagOf the-type y)) q o) [ inl z ↦ (let y : ⊥ = omega arith in y) | inr z ↦ (let y : ⊥ = omega arith in y) ]
 
 abbrev Inv-loop : tie.InvT-loop
 Inv-loop log out₀ state₀ names₀ store₀ ledger₀ limits place₀ at₀ n₀ out state names store ledger place at n =

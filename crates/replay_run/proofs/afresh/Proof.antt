@@ -1,8 +1,10 @@
 -- A fresh receiver is opened, which is not refused, and the datagrams are replayed over it. Assumes nothing.
 use lib.ListN.{replicate}
 use Rattle.steps.specs.Limits.{ledgerLength}
-use Rattle.replay_run.specs.Lines.{storeBytes, begun}
-use Rattle.replay_run.proofs.Heard.{zeros-shaped, opened-done, opened-world, opened-shaped, tells-to}
+use Rattle.steps.specs.Runs.{begun}
+use Rattle.open_and_payload.proofs.Opened.{zeros-shaped, opened-done, opened-world, opened-shaped}
+use Rattle.replay_run.specs.Lines.{storeBytes}
+use Rattle.replay_run.proofs.Heard.{tells-to}
 use borrow.Author.Needs.{needs}
 use Rattle.replay_run.proofs.afresh.Statement.{statement}
 use Rattle.replay_run.proofs.afresh.Tie as tie

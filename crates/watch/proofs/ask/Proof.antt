@@ -3,7 +3,7 @@ use mathlib.Core.Path.{sym, ap, _∙_}
 use borrow.Author.Needs.{needs}
 use mir.Syntax.{w32}
 use mir.ValLaws.{toZ-ofZ}
-use Rattle.watch.specs.Difference.{told}
+use Rattle.differences.specs.Difference.{told}
 use Rattle.watch.proofs.WatchCases.{asked-claims, asked-known, asked-new, asked-full}
 use Rattle.watch.proofs.ask.Statement.{statement}
 use Rattle.watch.proofs.ask.Tie as tie
