@@ -5,9 +5,13 @@ import platform
 import subprocess
 import sys
 
-ROOT = os.path.join(os.path.dirname(os.path.abspath(__file__)), "..", "..")
+from .files import ROOT
+
 _guide = subprocess.run(["rt", "doc"], capture_output=True, text=True, check=True).stdout.strip()
-TOOLS = os.path.join(os.path.dirname(os.path.dirname(_guide)), "on", platform.machine(), "toolchain")
+# the toolchain, and what of it is for this processor
+HOME = os.path.dirname(os.path.dirname(_guide))
+OWN = os.path.join(HOME, "on", platform.machine())
+TOOLS = os.path.join(OWN, "toolchain")
 LIB = os.path.join(TOOLS, "lib")
 # the words before the path of what is run
 RUN = [os.path.join(LIB, "ld-linux-x86-64.so.2"), "--library-path", LIB]
@@ -21,3 +25,16 @@ def program(name):
     if not os.path.exists(path):
         sys.exit(f"{name} is not built: rt check {name}")
     return RUN + [path]
+
+
+def linking(program, *parts):
+    """The words that link a program of these objects and archives."""
+    first, last = ([os.path.join(LIB, x) for x in some.split()] for some in ("Scrt1.o crti.o crtbeginS.o", "libc.so.6 libc_nonshared.a libgcc.a crtendS.o crtn.o"))
+    return [os.path.join(TOOLS, "bin", "ld.lld"), "-pie", "--dynamic-linker", "/lib64/ld-linux-x86-64.so.2", "-o", program, *first, *parts, *last]
+
+
+def of_c(name, crates, *sources):
+    """The words that run a program of C sources, linked with the archives of some crates (tests/reference/export.sh)."""
+    script = f'set -eu; . tests/reference/export.sh; build_x86 "$export_to/{name}" "{crates}" {" ".join(sources)}'
+    subprocess.run(["bash", "-c", script], cwd=ROOT, check=True)
+    return RUN + [os.path.join(ROOT, "target", "tests", "export", name)]
