@@ -1,14 +1,9 @@
 -- Acknowledge blocks and their bytes determine each other. Assumes nothing.
-use mathlib.Core.Path.{_≡_, refl, sym, ap, _∙_, subst}
-use mathlib.Core.Bool.{Bool, true, false, _||_}
-use mathlib.Core.List.{List, [], _∷_, _++_, append-assoc}
-use Prim.Native.Nat.{ℕ, zero, suc, _+_, _-_, _*_, _/_, _%_, _^_, _≤_, _<_}
-use native.Mathlib.Omega.{arith}
-use native.Mathlib.Decide.{ℕ-discrete}
-use lib.Dec.{eqb, ltb}
-use lib.ListN.{length, getD, take, drop, length-append, length-drop, take-append-drop, List·getD-append}
-use lib.Seq.{take-at, drop-at, take-add, getD-drop, getD-append-add, length-take-le}
-use borrow.Author.Tests.{eq-eqb, ne-eqb, eqb-true, ltb-false}
+use Rattle.wire.proofs.Basics.{_∙_, sym, _≡_, ap, refl, subst, ℕ, _≤_, _+_, _<_, _-_, suc, zero, _*_, _^_, _%_, _/_, List, [], _∷_, _++_, append-assoc, true, false, Bool, _||_, length, drop, getD}
+use Rattle.wire.proofs.Basics.{take, length-append, length-drop, take-append-drop, length-take-le, drop-at, getD-drop, take-at, take-add, eqb, ltb, eq-eqb, ne-eqb, eqb-true, ltb-false, ℕ-discrete}
+use Rattle.wire.proofs.Basics.{arith}
+use lib.ListN.{List·getD-append}
+use lib.Seq.{getD-append-add}
 use Rattle.wire.specs.Choice.{pick}
 use Rattle.wire.specs.Bytes.{be, bytes, Bytes}
 use Rattle.wire.proofs.Choices.{never, or-l, or-r}

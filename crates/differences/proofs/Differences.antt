@@ -1,13 +1,7 @@
 -- What a difference says, by its sign, and how it is computed. Assumes nothing.
-use mathlib.Core.Path.{_≡_, refl, ap, sym, _∙_}
-use mathlib.Core.Bool.{Bool, true, false}
-use mathlib.Core.List.{List, _∷_}
-use Prim.Native.Nat.{ℕ, zero, suc, _+_, _-_, _%_, _≤_, _<_, _^_}
-use native.Mathlib.Omega.{arith}
-use lib.IntN.{ℤ, pos, negsuc, natAbs}
+use Rattle.wire.proofs.Basics.{_∙_, sym, _≡_, ap, refl, ℕ, _≤_, _+_, _<_, _-_, suc, zero, _^_, _%_, List, _∷_, true, false, Bool, leb, ℤ, pos, negsuc, natAbs, le-leb, ltb-true, lt-leb, leb-true}
+use Rattle.wire.proofs.Basics.{arith}
 use lib.Signed.{ltZ}
-use lib.Dec.{leb}
-use borrow.Author.Tests.{ltb-true, le-leb, lt-leb, leb-true}
 use Rattle.wire.specs.Choice.{pick}
 use Rattle.wire.specs.Signed.{signed, unsigned}
 use Rattle.wire.proofs.Signs.{signed-low, signed-high, unsigned-signed}

@@ -1,5 +1,5 @@
 -- No second answer satisfies a contract of this crate. All but `tell` say `r ≡ definition inputs`: wire's one-answer is their theorem. Assumes nothing.
-use mathlib.Core.Path.{_≡_, refl, ap, sym, _∙_}
+use Rattle.wire.proofs.Basics.{_∙_, sym, _≡_, ap, refl}
 use Rattle.wire.proofs.Once.{one-answer}
 use Rattle.differences.specs.declared.Answer.{Answer}
 use Rattle.differences.specs.declared.Answer.the-variants.{First, Forward, Same, Late, Restarted, Refused}

@@ -1,10 +1,5 @@
 -- Runs of packets of one session: nothing is missing where nothing was left out, and what is missing is what was left out. Assumes nothing.
-use mathlib.Core.Path.{_≡_, refl, ap, sym, _∙_, subst}
-use mathlib.Core.Bool.{true}
-use mathlib.Core.List.{List, [], _∷_, map}
-use Prim.Native.Nat.{ℕ, zero, suc, _+_, _%_, _^_}
-use native.Mathlib.Omega.{arith}
-use lib.ListN.{length, replicate}
+use Rattle.wire.proofs.Basics.{_∙_, sym, _≡_, ap, refl, subst, ℕ, _+_, suc, zero, _^_, _%_, List, [], _∷_, map, true, length, replicate, arith}
 use Rattle.wire.specs.Same.{same}
 use Rattle.wire.specs.Sum.{sum}
 use Rattle.wire.proofs.Parts.{same-refl}

@@ -1,13 +1,6 @@
 -- Calls of qm_gauge_see one after another hear as the gauge does: what the words show afterwards is the gauge after the packet. Assumes nothing.
-use mathlib.Core.Path.{_≡_, refl, sym, ap, subst, _∙_}
-use mathlib.Core.Bool.{Bool, true, false}
-use mathlib.Core.List.{List, [], _∷_, _++_}
-use Prim.Native.Nat.{ℕ, _%_, _^_, _≤_, _<_}
-use native.Mathlib.Omega.{arith}
-use lib.Dec.{eqb}
-use lib.ListN.{length, drop, length-drop, length-take, take-append-drop}
-use lib.Seq.{take-all}
-use borrow.Author.Tests.{le-ltb}
+use Rattle.wire.proofs.Basics.{_∙_, sym, _≡_, ap, refl, subst, ℕ, _≤_, _<_, _^_, _%_, List, [], _∷_, _++_, true, false, Bool, length, drop, length-drop, length-take, take-append-drop, take-all, eqb}
+use Rattle.wire.proofs.Basics.{le-ltb, arith}
 use Rattle.wire.specs.Choice.{pick}
 use Rattle.wire.specs.Bytes.{Bytes, be, bytes}
 use Rattle.wire.specs.Overlay.{overlay}

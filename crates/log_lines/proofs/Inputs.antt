@@ -1,12 +1,5 @@
 -- An input that a buffer holds is told by its lines, a longer one by the one line. Assumes nothing.
-use mathlib.Core.Path.{_≡_, sym, ap, _∙_, subst}
-use mathlib.Core.Bool.{Bool, true, false}
-use mathlib.Core.List.{List}
-use Prim.Native.Nat.{ℕ}
-use native.Mathlib.Omega.{arith}
-use lib.Dec.{ltb}
-use lib.ListN.{length, take}
-use borrow.Author.Tests.{le-ltb, lt-ltb}
+use Rattle.wire.proofs.Basics.{_∙_, sym, _≡_, ap, subst, ℕ, List, true, false, Bool, length, take, ltb, le-ltb, lt-ltb, arith}
 use Rattle.wire.specs.Choice.{pick}
 use Rattle.stream.specs.declared.All.{All}
 use Rattle.stream.specs.declared.All.the-variants.{Whole, Longer}

@@ -1,16 +1,6 @@
 -- Laws of the definitions, one turn at a time, as the loops use them.
-use mathlib.Core.Path.{_≡_, refl, sym, _∙_, ap}
-use mathlib.Core.Bool.{Bool, true, false, not, _&&_, _||_, or-true}
-use mathlib.Core.Option.{Option, none, some}
-use mathlib.Core.List.{List, [], _∷_, _++_}
-use Prim.Native.Nat.{ℕ, zero, suc, _+_, _%_, _≤_, _<_, min}
-use native.Mathlib.Numerals.{add-one}
-use native.Mathlib.Decide.{ℕ-discrete, decLe}
-use native.Mathlib.Omega.{arith}
-use borrow.Author.Tests.{eq-eqb, ne-eqb, eqb-false}
-use lib.Dec.{eqb}
-use lib.ListN.{length, getD, set, take, length-set}
-use lib.Seq.{take-suc, take-all}
+use Rattle.wire.proofs.Basics.{_∙_, sym, _≡_, ap, refl, ℕ, _≤_, _+_, _<_, suc, zero, _%_, min, List, [], _∷_, _++_, true, false, Bool, _&&_, _||_, not, or-true, some, none, Option, length, getD, take}
+use Rattle.wire.proofs.Basics.{set, length-set, take-all, take-suc, eqb, eq-eqb, ne-eqb, eqb-false, ℕ-discrete, decLe, add-one, arith}
 use Rattle.wire.proofs.Choices.{and-false, or-false}
 use Rattle.words.specs.Builds.{build}
 use Rattle.words.proofs.Builds.{length-build, getD-build}

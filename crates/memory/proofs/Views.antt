@@ -1,16 +1,8 @@
 -- What the memory's words show, before and after its functions: the step list's own memory.
-use mathlib.Core.Path.{_≡_, refl, sym, _∙_, ap}
-use mathlib.Core.Logic.{_≢_, inl, inr}
-use mathlib.Core.Bool.{Bool, false}
-use mathlib.Core.Option.{Option, none, some}
-use mathlib.Core.List.{List, [], _∷_, _++_}
-use Prim.Native.Nat.{ℕ, zero, suc, _+_, _-_, _*_, _/_, _%_, _≤_, _<_}
-use native.Mathlib.Decide.{decLe, ℕ-discrete}
-use native.Mathlib.Omega.{arith}
-use lib.Dec.{ltb}
-use lib.ListN.{length, getD, set, drop, length-set, length-append, length-drop, List·getD-append}
-use lib.Seq.{getD-set-same, getD-set-other, getD-at, getD-drop, ext-getD}
-use borrow.Author.Tests.{lt-ltb, le-ltb, ne-eqb}
+use Rattle.wire.proofs.Basics.{_∙_, sym, _≡_, ap, refl, ℕ, _≤_, _+_, _<_, _-_, suc, zero, _*_, _%_, _/_, List, [], _∷_, _++_, false, Bool, inl, inr, _≢_, some, none, Option, length, drop, getD}
+use Rattle.wire.proofs.Basics.{length-append, length-drop, set, length-set, getD-drop, getD-set-other, getD-set-same, ext-getD, ltb, le-ltb, ne-eqb, lt-ltb, ℕ-discrete, decLe, arith}
+use lib.ListN.{List·getD-append}
+use lib.Seq.{getD-at}
 use Rattle.wire.specs.Choice.{pick}
 use Rattle.wire.proofs.Choices.{either, pick-all}
 use Rattle.ranks.specs.Ranks.{rankOf, lowerRank, ranksLowered, lowestRanked}

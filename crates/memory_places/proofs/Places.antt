@@ -1,17 +1,7 @@
 -- Places in order, and places that are freed. Assumes nothing.
-use mathlib.Core.Bool.{Bool, true}
-use mathlib.Core.List.{List}
-use mathlib.Core.Logic.{_≢_}
-use mathlib.Core.Path.{_≡_, refl, sym, _∙_, ap}
-use Prim.Native.Nat.{ℕ, zero, suc, _+_, _≤_, _<_}
-use native.Mathlib.Decide.{decLe, ℕ-discrete}
-use native.Mathlib.Numerals.{add-one}
-use native.Mathlib.Omega.{arith}
-use borrow.Author.Tests.{eq-eqb, ne-eqb, le-leb}
+use Rattle.wire.proofs.Basics.{_∙_, sym, _≡_, ap, refl, ℕ, _≤_, _+_, _<_, suc, zero, List, true, Bool, _≢_, length, getD, length-set, getD-set-other, getD-set-same, eqb, leb, eq-eqb, ne-eqb, le-leb}
+use Rattle.wire.proofs.Basics.{ℕ-discrete, decLe, add-one, arith}
 use lib.Bits.{bitOr, or-add-and, and-le-l, and-le-r}
-use lib.Dec.{eqb, leb}
-use lib.ListN.{length, getD, length-set}
-use lib.Seq.{getD-set-same, getD-set-other}
 use Rattle.memory.specs.Words.{senderAt, usedAt, sequencesAt, sequencesIn, placeIn, memoryIn, turnAt, memoryWords}
 use Rattle.steps.proofs.Memories.{forget-at, forget-long}
 use Rattle.steps.proofs.Tables.{all-cong, all-of}

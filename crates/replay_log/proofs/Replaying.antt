@@ -1,9 +1,5 @@
 -- The lines of the entries that were passed, and of those that are left, heard by one receiver, are those of the log. Assumes nothing.
-use mathlib.Core.Path.{_≡_, refl, sym, ap, _∙_, subst}
-use mathlib.Core.Bool.{Bool, true}
-use mathlib.Core.List.{List, [], _∷_, _++_, append-nil, append-assoc}
-use Prim.Native.Nat.{ℕ, _+_}
-use lib.ListN.{length, length-append}
+use Rattle.wire.proofs.Basics.{_∙_, sym, _≡_, ap, refl, subst, ℕ, _+_, List, [], _∷_, _++_, append-assoc, append-nil, true, Bool, length, length-append}
 use Rattle.wire.specs.Bytes.{Bytes}
 use Rattle.wire.specs.Choice.{pick}
 use Rattle.wire.specs.Slices.{Buffer}

@@ -1,8 +1,5 @@
 -- A call of the receiver over lent memory is the step list's, and leaves what that leaves. Assumes nothing.
-use mathlib.Core.Path.{_≡_, ap, sym, _∙_, subst}
-use mathlib.Core.Bool.{Bool, true}
-use mathlib.Core.List.{List}
-use Prim.Native.Nat.{ℕ}
+use Rattle.wire.proofs.Basics.{_∙_, sym, _≡_, ap, subst, ℕ, List, true, Bool}
 use Rattle.wire.specs.Choice.{pick}
 use Rattle.wire.specs.Slices.{Buffer}
 use Rattle.steps.specs.declared.Answer.the-variants.{Refused}

@@ -1,5 +1,5 @@
 -- `replay` on B, A, B, computed from the definition of its lines. Assumes nothing.
-use mathlib.Core.Path.{_≡_, refl}
+use Rattle.wire.proofs.Basics.{_≡_, refl}
 use Rattle.wire.specs.Bytes.{be, bytes}
 use Rattle.wire.specs.Overlay.{overlay}
 use Rattle.names.specs.Name.{goodName}

@@ -1,10 +1,5 @@
 -- EXACTLY WHEN 13, 60 AND 61 COME: where the first payload comes, of those that the log's entries deliver, against which something stands. Assumes nothing.
-use mathlib.Core.Path.{_≡_, refl, sym, ap, _∙_}
-use mathlib.Core.Bool.{Bool, true, false}
-use mathlib.Core.List.{List, [], _∷_, _++_}
-use Prim.Native.Nat.{ℕ, zero, suc}
-use lib.Dec.{eqb}
-use lib.ListN.{length}
+use Rattle.wire.proofs.Basics.{_∙_, sym, _≡_, ap, refl, ℕ, suc, zero, List, [], _∷_, _++_, true, false, Bool, length, eqb}
 use Rattle.wire.proofs.Choices.{zero-is-one}
 use Rattle.wire.specs.Choice.{pick}
 use Rattle.steps.specs.Answers.{Reply}

@@ -1,13 +1,7 @@
 -- A LOG THAT HAS GROWN: what was read of it is read again, at the same places; counted up to its end, or to an entry or a head that is cut, and on from there
 -- after more was appended, it is counted as the whole. Assumes nothing.
-use mathlib.Core.Path.{_≡_, refl, sym, ap, _∙_, subst}
-use mathlib.Core.Logic.{inl, inr}
-use mathlib.Core.Bool.{Bool, true, false}
-use mathlib.Core.List.{List, [], _∷_, _++_, append-assoc}
-use Prim.Native.Nat.{ℕ, zero, suc, _+_, _-_, _≤_}
-use native.Mathlib.Omega.{arith}
-use lib.Dec.{eqb}
-use lib.ListN.{length, drop, length-append, length-drop}
+use Rattle.wire.proofs.Basics.{_∙_, sym, _≡_, ap, refl, subst, ℕ, _≤_, _+_, _-_, suc, zero, List, [], _∷_, _++_, append-assoc, true, false, Bool, inl, inr, length, drop, length-append, length-drop}
+use Rattle.wire.proofs.Basics.{eqb, arith}
 use Rattle.wire.proofs.Choices.{zero-is-one}
 use Rattle.wire.specs.Bytes.{Bytes}
 use Rattle.wire.specs.Choice.{pick}

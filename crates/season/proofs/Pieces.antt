@@ -1,12 +1,5 @@
 -- GOING ON IN PIECES IS GOING THROUGH AT ONCE. Assumes nothing.
-use mathlib.Core.Path.{_≡_, refl, sym, ap, _∙_, subst}
-use mathlib.Core.Logic.{inl, inr}
-use mathlib.Core.Bool.{Bool, true, false}
-use mathlib.Core.List.{List, [], _∷_, _++_}
-use Prim.Native.Nat.{ℕ, zero, suc, _+_}
-use native.Mathlib.Omega.{arith}
-use lib.Dec.{eqb}
-use lib.ListN.{length-append}
+use Rattle.wire.proofs.Basics.{_∙_, sym, _≡_, ap, refl, subst, ℕ, _+_, suc, zero, List, [], _∷_, _++_, true, false, Bool, inl, inr, length-append, eqb, arith}
 use Rattle.wire.proofs.Choices.{zero-is-one}
 use Rattle.wire.specs.Choice.{pick}
 use Rattle.words.specs.Builds.{build}

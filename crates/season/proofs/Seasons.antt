@@ -1,10 +1,6 @@
 -- A FLIGHT AND A SEASON against which nothing stood: what the map holds, and its tile lines. Assumes nothing.
-use mathlib.Core.Path.{_≡_, refl, sym, ap, _∙_, subst, subst₂}
-use mathlib.Core.Logic.{_⊎_, inl, inr}
-use mathlib.Core.Bool.{true}
-use mathlib.Core.List.{List, [], _∷_, _++_, map, map-id}
-use Prim.Native.Nat.{ℕ, suc}
-use lib.ListN.{length}
+use Rattle.wire.proofs.Basics.{_∙_, sym, _≡_, ap, refl, subst, subst₂, ℕ, suc, List, [], _∷_, _++_, map, true, inl, inr, _⊎_, length}
+use mathlib.Core.List.{map-id}
 use Rattle.wire.specs.Bytes.{Bytes}
 use Rattle.wire.specs.Overlay.{overlay}
 use Rattle.wire.specs.Slices.{Buffer}

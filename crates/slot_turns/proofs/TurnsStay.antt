@@ -1,13 +1,5 @@
 -- Turns that stay. Assumes nothing.
-use mathlib.Core.Path.{_≡_, refl, _∙_, ap}
-use mathlib.Core.Bool.{not}
-use mathlib.Core.List.{List, [], _∷_}
-use Prim.Native.Nat.{ℕ, zero, suc, _+_, _≤_, _<_}
-use native.Mathlib.Decide.{decLe}
-use native.Mathlib.Omega.{arith}
-use borrow.Author.Tests.{le-ltb}
-use lib.Dec.{eqb}
-use lib.ListN.{getD, set}
+use Rattle.wire.proofs.Basics.{_∙_, _≡_, ap, refl, ℕ, _≤_, _+_, _<_, suc, zero, List, [], _∷_, not, getD, set, eqb, le-ltb, decLe, arith}
 use Rattle.wire.proofs.Choices.{and-false}
 use Rattle.ranks.specs.declared.Ranked.{Ranked}
 use Rattle.ranks.specs.Ranks.{placeAt, markOf, rankOf, lowerRank, ranksLowered}

@@ -1,10 +1,5 @@
 -- Laws of the definitions of specs/Words.antt, one turn at a time, as the loops use them.
-use mathlib.Core.Path.{_≡_}
-use mathlib.Core.Bool.{Bool, true, false}
-use Prim.Native.Nat.{ℕ, zero, suc, _+_, _<_}
-use native.Mathlib.Numerals.{add-one}
-use native.Mathlib.Decide.{ℕ-discrete}
-use native.Mathlib.Omega.{arith}
+use Rattle.wire.proofs.Basics.{_≡_, ℕ, _+_, _<_, suc, zero, true, false, Bool, ℕ-discrete, add-one, arith}
 use Rattle.steps.specs.Search.{count}
 use Rattle.slots.specs.declared.Found.the-variants.{At, Nothing}
 use Rattle.slots.specs.Words.{firstBelow}

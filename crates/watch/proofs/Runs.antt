@@ -1,13 +1,8 @@
 -- A run of one sender's numbers: s+1, s+2, .. misses nothing, for as long as one likes and across the wrap, and what any run of Forwards
 -- reports missing is the distance gone less the arrivals. Assumes nothing.
-use mathlib.Core.Path.{_≡_, refl, ap, sym, _∙_, subst}
-use mathlib.Core.Bool.{true}
-use mathlib.Core.List.{List, [], _∷_, map}
-use Prim.Native.Nat.{ℕ, zero, suc, _+_, _-_, _%_, _^_, _≤_, _<_}
-use native.Mathlib.Numerals.{add-one}
-use native.Mathlib.Omega.{arith}
-use lib.ListN.{length, take, set, getD, replicate, length-set}
-use lib.Seq.{set-getD, getD-take, getD-set-same, take-suc-set, length-take-le}
+use Rattle.wire.proofs.Basics.{_∙_, sym, _≡_, ap, refl, subst, ℕ, _≤_, _+_, _<_, _-_, suc, zero, _^_, _%_, List, [], _∷_, map, true, length, getD, take, set, replicate, length-set, length-take-le}
+use Rattle.wire.proofs.Basics.{getD-take, getD-set-same, add-one, arith}
+use lib.Seq.{set-getD, take-suc-set}
 use Rattle.wire.specs.Sum.{sum}
 use Rattle.watch.specs.declared.Watch.{Watch}
 use Rattle.watch.specs.Limits.{maxSenders}

@@ -1,7 +1,6 @@
 -- No second answer satisfies a contract of this crate. `new` and `move_to` say `r ≡ definition inputs`: wire's one-answer is their theorem; that of `ask` is
 -- differences' answer-once. Assumes nothing.
-use mathlib.Core.Path.{_≡_}
-use Prim.Native.Nat.{ℕ}
+use Rattle.wire.proofs.Basics.{_≡_, ℕ}
 use Rattle.wire.proofs.Once.{one-answer}
 use Rattle.watch.specs.declared.Watch.{Watch}
 use Rattle.watch.specs.declared.Seen.{Seen}

@@ -1,9 +1,5 @@
 -- The loop that writes the numbers of a list at a place, whatever their width. Assumes nothing.
-use mathlib.Core.Path.{_≡_, refl, sym, _∙_}
-use mathlib.Core.List.{List}
-use Prim.Native.Nat.{ℕ, _+_, _-_, _≤_, _<_, min}
-use native.Mathlib.Omega.{arith}
-use lib.ListN.{length, getD, set, take, length-set}
+use Rattle.wire.proofs.Basics.{_∙_, sym, _≡_, refl, ℕ, _≤_, _+_, _<_, _-_, min, List, length, getD, take, set, length-set, arith}
 use Rattle.wire.specs.Overlay.{overlay}
 use Rattle.wire.proofs.Overlays.{overlay-nil, overlay-turn, overlay-least}
 

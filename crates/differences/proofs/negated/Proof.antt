@@ -5,4 +5,8 @@ use Rattle.differences.proofs.negated.Statement.{statement}
 use Rattle.differences.proofs.negated.Tie as tie
 
 pub negated-spec : {M : Type 1} → statement M
-negated-spec = tie.close (tie.spec (λ c. negates w32 (c .args .d) (c .fits .d) (c .pre) .fits) (λ c. negates w32 (c .args .d) (c .fits .d) (c .pre) .count) (λ c. negates w32 (c .args .d) (c .fits .d) (c .pre) .next) (λ c. negates w32 (c .args .d) (c .fits .d) (c .pre) .size))
+negated-spec = tie.close (tie.spec
+    (λ c. negates w32 (c .args .d) (c .fits .d) (c .pre) .fits)
+    (λ c. negates w32 (c .args .d) (c .fits .d) (c .pre) .count)
+    (λ c. negates w32 (c .args .d) (c .fits .d) (c .pre) .next)
+    (λ c. negates w32 (c .args .d) (c .fits .d) (c .pre) .size))

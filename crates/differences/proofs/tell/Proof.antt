@@ -1,11 +1,6 @@
 -- What a difference says, by its sign. Assumes nothing.
-use mathlib.Core.Path.{_≡_, sym, ap, _∙_, subst}
-use mathlib.Core.Bool.{true, false}
-use Prim.Native.Nat.{_-_}
-use native.Mathlib.Omega.{arith}
-use lib.IntN.{ℤ, pos, natAbs}
+use Rattle.wire.proofs.Basics.{_∙_, sym, _≡_, ap, subst, _-_, true, false, ℤ, pos, natAbs, arith, needs}
 use lib.Signed.{ltZ}
-use borrow.Author.Needs.{needs}
 use mir.Syntax.{w32}
 use mir.Val.{toZ, ofZ}
 use mir.ValLaws.{toZ-ofZ}

@@ -1,13 +1,9 @@
 -- Entry by entry. The loop's invariant: the entries passed have their lines. Assumes nothing.
-use mathlib.Core.Path.{_≡_, refl, sym, _∙_}
-use Prim.Native.Nat.{_-_}
-use native.Mathlib.Omega.{arith}
-use lib.ListN.{length}
+use Rattle.wire.proofs.Basics.{_∙_, sym, _≡_, refl, _-_, length, arith, needs}
 use Rattle.wire.specs.Bytes.{Bytes}
 use Rattle.log.proofs.EntriesPassed.{no-entry, ahead}
 use Rattle.output.proofs.Sending.{finishes-shut}
 use Rattle.log_list.proofs.Listing.{Going, going-none, going-more, going-end, going-shut}
-use borrow.Author.Needs.{needs}
 use Rattle.log_list.proofs.listed.Statement.{statement}
 use Rattle.log_list.proofs.listed.Tie as tie
 
@@ -81,16 +77,11 @@ returns-2 c =
     finishes-shut (c .loop-test .left) (going-shut b (l .loop .inv .1) (c .loop-test .left))
 
 pub listed-spec : {M : Type 1} → statement M
-listed-spec =
-    tie.close
-    (tie.spec
+listed-spec = tie.close (tie.spec
     Inv-loop
     μ-loop
     loop-holds
-    (λ c κs. search needs)
-    (λ c. search needs)
-    (λ c κs. search needs)
-    (λ c. search needs)
+    (λ c κs. search needs) (λ c. search needs) (λ c κs. search needs) (λ c. search needs)
     returns
     add-n
     (λ c κs. search needs)

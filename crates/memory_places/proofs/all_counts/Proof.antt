@@ -1,9 +1,5 @@
 -- `memory::all_counts` meets its contract. The loop's invariant: none of the i counts passed is above. Assumes nothing.
-use mathlib.Core.Path.{refl}
-use Prim.Native.Nat.{ℕ, _-_, _≤_, _<_}
-use native.Mathlib.Omega.{arith}
-use lib.ListN.{getD}
-use borrow.Author.Needs.{needs}
+use Rattle.wire.proofs.Basics.{refl, ℕ, _≤_, _<_, _-_, getD, arith, needs}
 use Rattle.steps.specs.Limits.{sendersMost}
 use Rattle.memory.specs.Words.{usedAt}
 use Rattle.memory_places.proofs.Places.{above-more}
@@ -15,9 +11,6 @@ Inv-loop memory all₀ i₀ all i = (i ≤ sendersMost) × ((j : ℕ) → j < i 
 
 abbrev μ-loop : tie.MeasureT-loop
 μ-loop memory all₀ i₀ all i = sendersMost - i
-
-loop-holds : tie.Need-loop-holds Inv-loop μ-loop
-loop-holds c = (omega arith, λ j h. absurd (omega arith))
 
 loop-again : tie.Need-loop-again Inv-loop μ-loop
 loop-again c =
@@ -31,16 +24,10 @@ returns c =
     λ i h. l .inv .1 i (omega (arith, l .inv .0))
 
 pub all-counts-spec : {M : Type 1} → statement M
-all-counts-spec =
-    tie.close
-    (tie.spec
+all-counts-spec = tie.close (tie.spec
     Inv-loop
     μ-loop
-    loop-holds
-    (λ c. search needs)
-    (λ c. search needs)
-    (λ c. search needs)
-    (λ c. search needs)
-    (λ c. search needs)
+    (λ c. (omega arith, λ j h. absurd (omega arith)))
+    (λ c. search needs) (λ c. search needs) (λ c. search needs) (λ c. search needs) (λ c. search needs)
     loop-again
     returns)

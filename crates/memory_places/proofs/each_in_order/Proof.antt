@@ -1,10 +1,5 @@
 -- `memory::each_in_order` meets its contract. The loop's invariant: the i places passed have not over 32 sequences. Assumes nothing.
-use mathlib.Core.Path.{_≡_, refl, sym, _∙_}
-use mathlib.Core.Bool.{true}
-use Prim.Native.Nat.{_-_, _≤_}
-use native.Mathlib.Omega.{arith}
-use borrow.Author.Needs.{needs}
-use borrow.Author.Tests.{lt-leb, le-leb}
+use Rattle.wire.proofs.Basics.{_∙_, sym, _≡_, refl, _≤_, _-_, true, le-leb, lt-leb, arith, needs}
 use Rattle.steps.specs.Limits.{sendersMost}
 use Rattle.steps.specs.Search.{allBelow}
 use Rattle.steps.proofs.Tables.{all-not}
@@ -17,9 +12,6 @@ Inv-loop memory i₀ i = (i ≤ sendersMost) × (allBelow i (fewAt memory) ≡ t
 
 abbrev μ-loop : tie.MeasureT-loop
 μ-loop memory i₀ i = sendersMost - i
-
-loop-holds : tie.Need-loop-holds Inv-loop μ-loop
-loop-holds c = (omega arith, refl)
 
 returns : tie.Need-returns Inv-loop μ-loop
 returns c =
@@ -41,16 +33,12 @@ returns-2 c =
     sym (ok-is (c .before .before .before .args .memory .now) ∙ (rw e at (c .before .loop .inv .1)))
 
 pub each-in-order-spec : {M : Type 1} → statement M
-each-in-order-spec =
-    tie.close
-    (tie.spec
+each-in-order-spec = tie.close (tie.spec
     Inv-loop
     μ-loop
-    loop-holds
-    (λ c. search needs)
-    (λ c κs. search needs)
+    (λ c. (omega arith, refl))
+    (λ c. search needs) (λ c κs. search needs)
     returns
-    (λ c. search needs)
-    (λ c. search needs)
+    (λ c. search needs) (λ c. search needs)
     loop-again
     returns-2)

@@ -1,9 +1,5 @@
 -- `memory::free_all` meets its contract. The loop's invariant: the i places passed are freed where they are the sender's. Assumes nothing.
-use mathlib.Core.Path.{_≡_, _∙_, ap}
-use Prim.Native.Nat.{_-_, _≤_}
-use native.Mathlib.Omega.{arith}
-use borrow.Author.Needs.{needs}
-use lib.ListN.{length}
+use Rattle.wire.proofs.Basics.{_∙_, _≡_, ap, _≤_, _-_, length, arith, needs}
 use Rattle.steps.specs.Limits.{sendersMost}
 use Rattle.memory_places.specs.Inside.{freedIn}
 use Rattle.memory_places.proofs.Places.{freed-none, freed-more, freed-length}
@@ -15,9 +11,6 @@ Inv-loop memory₀ sender i₀ memory i = (i ≤ sendersMost) × (memory ≡ fre
 
 abbrev μ-loop : tie.MeasureT-loop
 μ-loop memory₀ sender i₀ memory i = sendersMost - i
-
-loop-holds : tie.Need-loop-holds Inv-loop μ-loop
-loop-holds c = (omega arith, freed-none (c .before .args .memory .now) (c .before .args .sender))
 
 loop-again : tie.Need-loop-again Inv-loop μ-loop
 loop-again c =
@@ -39,15 +32,11 @@ returns c =
     rw e at (c .before .loop .inv .1)
 
 pub free-all-spec : {M : Type 1} → statement M
-free-all-spec =
-    tie.close
-    (tie.spec
+free-all-spec = tie.close (tie.spec
     Inv-loop
     μ-loop
-    loop-holds
-    (λ c κs. search needs)
-    (λ c. search needs)
-    (λ c. search needs)
+    (λ c. (omega arith, freed-none (c .before .args .memory .now) (c .before .args .sender)))
+    (λ c κs. search needs) (λ c. search needs) (λ c. search needs)
     loop-again
     same-length
     returns)

@@ -1,12 +1,7 @@
 -- `memory::free_at` meets its contract. Assumes nothing.
-use mathlib.Core.Path.{sym, _∙_}
-use borrow.Author.Needs.{needs}
-use borrow.Author.Tests.{eq-eqb, ne-eqb}
+use Rattle.wire.proofs.Basics.{_∙_, sym, eq-eqb, ne-eqb, needs}
 use Rattle.memory_places.proofs.free_at.Statement.{statement}
 use Rattle.memory_places.proofs.free_at.Tie as tie
-
-returns : tie.Need-returns
-returns c = rw (ne-eqb _ _ (λ q. c .if1 .taken (c .before .word .ensures ∙ q)))
 
 returns-2 : tie.Need-returns-2
 returns-2 c =
@@ -15,13 +10,8 @@ returns-2 c =
     put .put-word .ensures ∙ rw (eq-eqb _ _ (sym (own .before .word .ensures) ∙ own .if1 .left))
 
 pub free-at-spec : {M : Type 1} → statement M
-free-at-spec =
-    tie.close
-    (tie.spec
-    (λ c κs. search needs)
-    (λ c. search needs)
-    returns
-    (λ c. search needs)
-    (λ c κs. search needs)
-    (λ c. search needs)
+free-at-spec = tie.close (tie.spec
+    (λ c κs. search needs) (λ c. search needs)
+    (λ c. rw (ne-eqb _ _ (λ q. c .if1 .taken (c .before .word .ensures ∙ q))))
+    (λ c. search needs) (λ c κs. search needs) (λ c. search needs)
     returns-2)

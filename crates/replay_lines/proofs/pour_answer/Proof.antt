@@ -1,13 +1,9 @@
 -- The answer as text, by its cases. Assumes nothing.
-use mathlib.Core.Path.{sym, ap}
+use Rattle.wire.proofs.Basics.{sym, ap, needs}
 use Rattle.output.proofs.Sending.{pours-is}
 use Rattle.replay_lines.specs.Lines.{answerText}
-use borrow.Author.Needs.{needs}
 use Rattle.replay_lines.proofs.pour_answer.Statement.{statement}
 use Rattle.replay_lines.proofs.pour_answer.Tie as tie
-
-enum-told : tie.Need-enum-told
-enum-told c = search needs
 
 returns : tie.Need-returns
 returns c =
@@ -34,23 +30,11 @@ returns-4 c =
     pours-is (p .pour-counted2 .ensures) (ap answerText (sym (at-answer2 .answer2 .given .1)))
 
 pub pour-answer-spec : {M : Type 1} → statement M
-pour-answer-spec =
-    tie.close
-    (tie.spec
+pour-answer-spec = tie.close (tie.spec
+    (λ c. search needs) (λ c. search needs) (λ c. search needs) (λ c κs. search needs)
     (λ c. search needs)
-    (λ c. search needs)
-    (λ c. search needs)
-    (λ c κs. search needs)
-    enum-told
-    (λ c. search needs)
-    (λ c κs. search needs)
-    (λ c. search needs)
-    (λ c. search needs)
-    (λ c κs. search needs)
-    (λ c. search needs)
-    (λ c. search needs)
-    (λ c κs. search needs)
-    (λ c. search needs)
+    (λ c. search needs) (λ c κs. search needs) (λ c. search needs) (λ c. search needs) (λ c κs. search needs) (λ c. search needs) (λ c. search needs)
+    (λ c κs. search needs) (λ c. search needs)
     returns
     (λ c. search needs)
     returns-2

@@ -1,13 +1,9 @@
 -- The end of a line, by whether a key was emptied. Assumes nothing.
-use mathlib.Core.Path.{sym, ap}
+use Rattle.wire.proofs.Basics.{sym, ap, needs}
 use Rattle.output.proofs.Sending.{pours-then, pours-is}
 use Rattle.replay_lines.specs.Lines.{emptiedText}
-use borrow.Author.Needs.{needs}
 use Rattle.replay_lines.proofs.pour_emptied.Statement.{statement}
 use Rattle.replay_lines.proofs.pour_emptied.Tie as tie
-
-enum-told : tie.Need-enum-told
-enum-told c = search needs
 
 returns : tie.Need-returns
 returns c =
@@ -23,17 +19,9 @@ returns-2 c =
     pours-is (pours-then (q .pour-counted .ensures) (p .pour-counted-line .ensures)) (ap emptiedText (sym (at-emptied .emptied .given .1)))
 
 pub pour-emptied-spec : {M : Type 1} → statement M
-pour-emptied-spec =
-    tie.close
-    (tie.spec
-    enum-told
+pour-emptied-spec = tie.close (tie.spec
     (λ c. search needs)
-    (λ c κs. search needs)
-    (λ c. search needs)
-    (λ c. search needs)
-    (λ c κs. search needs)
-    (λ c. search needs)
-    (λ c κs. search needs)
+    (λ c. search needs) (λ c κs. search needs) (λ c. search needs) (λ c. search needs) (λ c κs. search needs) (λ c. search needs) (λ c κs. search needs)
     (λ c. search needs)
     returns
     (λ c. search needs)

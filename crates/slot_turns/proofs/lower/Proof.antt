@@ -1,11 +1,10 @@
 -- `slot_turns::lower` meets its contract. Assumes nothing.
-use mathlib.Core.Path.{sym, _∙_, ap}
+use Rattle.wire.proofs.Basics.{_∙_, sym, ap, needs}
 use Rattle.steps.specs.Limits.{slotCount}
 use Rattle.ranks.specs.declared.Ranked.{Ranked}
 use Rattle.ranks.specs.Ranks.{ranksLowered}
 use Rattle.slots.specs.Words.{turns}
 use Rattle.slot_turns.proofs.TurnsStay.{lowered-still}
-use borrow.Author.Needs.{needs}
 use Rattle.slot_turns.proofs.lower.Statement.{statement}
 use Rattle.slot_turns.proofs.lower.Tie as tie
 

@@ -1,8 +1,5 @@
 -- `slot_turns::none_above` meets its contract. The loop's invariant: none of the i turns passed is above. Assumes nothing.
-use mathlib.Core.Path.{_≡_}
-use Prim.Native.Nat.{ℕ, _-_, _≤_, _<_}
-use native.Mathlib.Omega.{arith}
-use borrow.Author.Needs.{needs}
+use Rattle.wire.proofs.Basics.{_≡_, ℕ, _≤_, _<_, _-_, arith, needs}
 use Rattle.steps.specs.Limits.{slotCount}
 use Rattle.slots.specs.Words.{turnWord, at}
 use Rattle.slot_turns.proofs.TurnsStay.{above-more}
@@ -14,12 +11,6 @@ Inv-loop state t i₀ i = (i ≤ slotCount) × ((j : ℕ) → j < i → at state
 
 abbrev μ-loop : tie.MeasureT-loop
 μ-loop state t i₀ i = slotCount - i
-
-loop-holds : tie.Need-loop-holds Inv-loop μ-loop
-loop-holds c = (omega arith, λ j h. absurd (omega arith))
-
-returns : tie.Need-returns Inv-loop μ-loop
-returns c = λ e. absurd (let z : _≡_ {A = ℕ} 0 1 = cc in omega arith)
 
 loop-again : tie.Need-loop-again Inv-loop μ-loop
 loop-again c =
@@ -34,15 +25,12 @@ returns-2 c =
     λ e i h. l .inv .1 i (omega (arith, l .inv .0))
 
 pub none-above-spec : {M : Type 1} → statement M
-none-above-spec =
-    tie.close
-    (tie.spec
+none-above-spec = tie.close (tie.spec
     Inv-loop
     μ-loop
-    loop-holds
+    (λ c. (omega arith, λ j h. absurd (omega arith)))
     (λ c κs. search needs)
-    returns
-    (λ c. search needs)
-    (λ c. search needs)
+    (λ c. λ e. absurd (let z : _≡_ {A = ℕ} 0 1 = cc in omega arith))
+    (λ c. search needs) (λ c. search needs)
     loop-again
     returns-2)

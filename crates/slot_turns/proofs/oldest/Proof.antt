@@ -1,9 +1,8 @@
 -- `slot_turns::oldest` meets its contract. Assumes nothing.
-use mathlib.Core.Path.{_∙_, ap}
+use Rattle.wire.proofs.Basics.{_∙_, ap, needs}
 use Rattle.steps.specs.Limits.{slotCount}
 use Rattle.ranks.specs.declared.Ranked.{Ranked}
 use Rattle.ranks.specs.Ranks.{lowestRanked}
-use borrow.Author.Needs.{needs}
 use Rattle.slot_turns.proofs.oldest.Statement.{statement}
 use Rattle.slot_turns.proofs.oldest.Tie as tie
 

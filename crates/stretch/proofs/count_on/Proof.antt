@@ -1,10 +1,5 @@
 -- The loop's invariant: the whole stretch is what was taken so far, and then the rest of it. Assumes nothing.
-use mathlib.Core.Path.{_≡_, refl, sym, ap, _∙_}
-use mathlib.Core.List.{List}
-use Prim.Native.Nat.{ℕ, _-_}
-use native.Mathlib.Omega.{arith}
-use lib.IntN.{ℤ}
-use lib.ListN.{length}
+use Rattle.wire.proofs.Basics.{_∙_, sym, _≡_, ap, refl, ℕ, _-_, List, length, ℤ, arith, needs}
 use Rattle.log.proofs.EntriesPassed.{no-entry}
 use Rattle.log.specs.declared.reader.Step.the-variants as step
 use Rattle.receiver.specs.Lent.{lent}
@@ -16,7 +11,6 @@ use Rattle.stretch.specs.declared.Ran.{Ran}
 use Rattle.stretch.specs.Inside.{ran, noTotals, stoppedAt}
 use Rattle.stretch.specs.Stretch.{Desk, desk}
 use Rattle.stretch.proofs.MidStretch.{Going, going-first, going-few, all-taken, log-stops, going-more, going-ends, as-told}
-use borrow.Author.Needs.{needs}
 use Rattle.stretch.proofs.count_on.Statement.{statement}
 use Rattle.stretch.proofs.count_on.Tie as tie
 
@@ -216,27 +210,13 @@ returns-3 c =
     (l .loop .at) (l .loop .taken) (l .loop .done) (l .loop .inv .0) (own .limits-in .ensures) (a .sizes) (ap (λ (x : Ran). x .sizes) (first .nothing .ensures) ∙ first .before .held .ensures) (λ o. search needs))
 
 pub count-on-spec : {M : Type 1} → statement M
-count-on-spec =
-    tie.close
-    (tie.spec
+count-on-spec = tie.close (tie.spec
     Inv-loop
     μ-loop
-    (λ c κs. search needs)
-    (λ c κs. search needs)
-    (λ c κs. search needs)
+    (λ c κs. search needs) (λ c κs. search needs) (λ c κs. search needs)
     loop-holds
-    (λ c κs. search needs)
-    (λ c. search needs)
-    (λ c κs. search needs)
-    (λ c κs. search needs)
-    (λ c. search needs)
-    (λ c. search needs)
-    (λ c. search needs)
-    (λ c. search needs)
-    (λ c. search needs)
-    (λ c. search needs)
-    (λ c. search needs)
-    (λ c. search needs)
+    (λ c κs. search needs) (λ c. search needs) (λ c κs. search needs) (λ c κs. search needs) (λ c. search needs) (λ c. search needs) (λ c. search needs)
+    (λ c. search needs) (λ c. search needs) (λ c. search needs) (λ c. search needs) (λ c. search needs)
     returns
     add-taken
     one-entry-requires
@@ -252,13 +232,6 @@ count-on-spec =
     returns-2
     loop-less
     loop-again
-    (λ c κs. search needs)
-    (λ c. search needs)
-    (λ c. search needs)
-    (λ c. search needs)
-    (λ c. search needs)
-    (λ c. search needs)
-    (λ c. search needs)
-    (λ c. search needs)
-    (λ c. search needs)
+    (λ c κs. search needs) (λ c. search needs) (λ c. search needs) (λ c. search needs) (λ c. search needs) (λ c. search needs) (λ c. search needs)
+    (λ c. search needs) (λ c. search needs)
     returns-3)

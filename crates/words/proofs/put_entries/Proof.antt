@@ -1,7 +1,5 @@
 -- `words::put_entries` meets its contract. The loop's invariant: the i numbers passed are written. Assumes nothing.
-use Prim.Native.Nat.{_-_}
-use native.Mathlib.Omega.{arith}
-use borrow.Author.Needs.{needs}
+use Rattle.wire.proofs.Basics.{_-_, arith, needs}
 use Rattle.words.proofs.Copies.{Copied, copied-none, copied-more, copied-all}
 use Rattle.words.proofs.put_entries.Statement.{statement}
 use Rattle.words.proofs.put_entries.Tie as tie
@@ -13,21 +11,12 @@ abbrev μ-loop : tie.MeasureT-loop
 μ-loop d at src n i₀ d′ i = n - i
 
 pub put-entries-spec : {M : Type 1} → statement M
-put-entries-spec =
-    tie.close
-    (tie.spec
+put-entries-spec = tie.close (tie.spec
     Inv-loop
     μ-loop
-    (λ c κs. search needs)
-    (λ c κs. search needs)
+    (λ c κs. search needs) (λ c κs. search needs)
     (λ c. copied-none (omega arith))
-    (λ c. search needs)
-    (λ c. search needs)
-    (λ c. search needs)
-    (λ c. search needs)
-    (λ c. search needs)
-    (λ c. search needs)
-    (λ c. search needs)
+    (λ c. search needs) (λ c. search needs) (λ c. search needs) (λ c. search needs) (λ c. search needs) (λ c. search needs) (λ c. search needs)
     (λ c. copied-more (c .before .before .loop .inv) (omega arith))
     (λ c. search needs)
     (λ c. copied-all (c .before .loop .inv) (omega arith)))
