@@ -4,7 +4,6 @@ number, and syncs once for all records that wait; and a full disk, a cut input, 
 is planted is tried with a qm of its own (faults.c)."""
 import bisect
 import fcntl
-import glob
 import os
 import random
 import resource
@@ -16,7 +15,7 @@ import time
 
 from model import built
 from model.called import QM, no_room, qm
-from model.files import ROOT, bytes_of as read, put
+from model.files import bytes_of as read, put
 from model.log import entries_in, entry_bytes, first_log_of, log_of, record, seven
 from model.tally import close, held, side_by_side
 
@@ -386,16 +385,7 @@ def numbered(folder):
 
 
 def with_faults():
-    """The words that run a qm of the same objects with faults.c before its calls."""
-    out, wraps = os.path.join(ROOT, "target", "tests", "keep"), ("flock", "fdatasync", "fsync", "ftruncate", "open", "qm_log_append")
-    os.makedirs(out, exist_ok=True)
-    clang = os.path.join(built.TOOLS, "bin", "clang")
-    planted, program = os.path.join(out, "faults.o"), os.path.join(out, "qm")
-    source = os.path.join(os.path.dirname(os.path.abspath(__file__)), "faults.c")
-    subprocess.run([clang, "--target=x86_64-unknown-linux-gnu", "-ffreestanding", "-fPIE", "-O2", "-Wall", "-Wextra", "-Werror", "-c", source, "-o", planted], check=True)
-    objects, archives = (sorted(glob.glob(os.path.join(ROOT, "target", *x))) for x in (("tools", "*.o"), ("staticlib", "libhost*.a")))
-    subprocess.run(built.linking(program, *(f"--wrap={x}" for x in wraps), *objects, planted, *archives), check=True)
-    return built.RUN + [program]
+    return built.with_faults("keep", "flock", "fdatasync", "fsync", "ftruncate", "open", "qm_log_append")
 
 
 def faulty(folder):

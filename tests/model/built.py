@@ -1,5 +1,6 @@
 """How a test runs what was built. Programs are x86-64: they run with the toolchain's own loader and C library, and on another processor under its
 emulator."""
+import glob
 import os
 import platform
 import subprocess
@@ -38,3 +39,15 @@ def of_c(name, crates, *sources):
     script = f'set -eu; . tests/reference/export.sh; build_x86 "$export_to/{name}" "{crates}" {" ".join(sources)}'
     subprocess.run(["bash", "-c", script], cwd=ROOT, check=True)
     return RUN + [os.path.join(ROOT, "target", "tests", "export", name)]
+
+
+def with_faults(test, *wraps):
+    """The words that run a qm of the same objects with a test's faults.c before these of its calls."""
+    out = os.path.join(ROOT, "target", "tests", test)
+    os.makedirs(out, exist_ok=True)
+    planted, qm, source = os.path.join(out, "faults.o"), os.path.join(out, "qm"), os.path.join(ROOT, "tests", test, "faults.c")
+    clang = os.path.join(TOOLS, "bin", "clang")
+    subprocess.run([clang, "--target=x86_64-unknown-linux-gnu", "-ffreestanding", "-fPIE", "-O2", "-Wall", "-Wextra", "-Werror", "-c", source, "-o", planted], check=True)
+    objects, archives = (sorted(glob.glob(os.path.join(ROOT, "target", *x))) for x in (("tools", "*.o"), ("staticlib", "libhost*.a")))
+    subprocess.run(linking(qm, *(f"--wrap={x}" for x in wraps), *objects, planted, *archives), check=True)
+    return RUN + [qm]

@@ -4,8 +4,8 @@ and to the models in Python, written from the paper, for many senders and for lo
 import os
 import pty
 import random
-import select
 import tempfile
+import threading
 
 from model import kept
 from model.called import MEANING, no_room, program, qm
@@ -138,18 +138,24 @@ def long_ones(folder):
 
 
 def on_terminal(*words, both=False):
-    """Its status, what it printed, and what it said on a terminal; or all on one terminal."""
+    """Its status, what it printed, and what it said on a terminal; or all on one terminal. The terminal is read meanwhile: it holds little, and whoever writes more waits."""
     ours, theirs = pty.openpty()
+    said = []
+
+    def listen():
+        try:
+            while piece := os.read(ours, 65536):
+                said.append(piece)
+        except OSError:  # nobody has the other end any more
+            pass
+
+    listener = threading.Thread(target=listen)
+    listener.start()
     status, got, _ = qm(*words, stderr=theirs, **({"stdout": theirs} if both else {}))
     os.close(theirs)
-    said = b""
-    while select.select([ours], [], [], 0.2)[0]:
-        try:
-            said += os.read(ours, 65536)
-        except OSError:
-            break
+    listener.join()
     os.close(ours)
-    return status, got, said.decode()
+    return status, got, b"".join(said).decode()
 
 
 def progress(folder):
@@ -170,11 +176,12 @@ def progress(folder):
         status, got, said = on_terminal("index", "--print", path)
         good = said.startswith(f"\rqm index: {path}: 1%\r") and f"100%{off}\rqm index: {path}: 18 MB, 0 s" in said and said.endswith(f" s{off}") if told else said == ""
         held(status == 0 and good, f"qm index, {n} long entries, on a terminal", said)
-    # a line that comes meanwhile stands alone, and it is told on below it
-    put(path, log_of([(3, i, bytes(65000)) if i not in (100, 150) else (9, i, small(5, b"T", bytes([i]))) for i in range(300)]))
+    # a line that comes meanwhile stands alone, and it is told on below it; the log is gone over a second time up to the last one
+    put(path, log_of([(3, i, bytes(65000)) if i not in (100, 150, 250) else (9, i, small(5, b"T", bytes([i]))) for i in range(300)]))
     said = on_terminal("strays", path, both=True)[2]
-    line = f"{off}log {path} sender 9 entry 151 tick 150 sequence 5\r\n"
-    held(line + f"\rqm strays: {path}: 50%\r" in said and said.endswith(f"100%{off}end 1\r\n") and said.count(off) == 2, "qm strays, a line meanwhile", said)
+    line = f"{off}log {path} sender 9 entry {{0}} tick {{1}} sequence 5\r\n".format
+    good = f"100%{off}\rqm strays: {path}: 1%\r" in said and line(151, 150) + f"\rqm strays: {path}: 50%\r" in said
+    held(good and said.endswith(line(251, 250) + "end 2\r\n") and said.count(off) == 3, "qm strays, a line meanwhile", said)
 
 
 def failures(folder):

@@ -1,6 +1,6 @@
 """Holds `qm count LOG..` with all its options, and `qm strays LOG..`, to the season of tests/model/season.py: seasons of random logs of both editions, with
-reboots, strangers' lists, copies and repeated flights, cut anywhere and damaged; flights in another order; flights longer than L9's 4,096 entries; both sides
-of what qm lends; each way of calling it wrongly; and that a hostile log costs no more than its length."""
+reboots, strangers' lists, copies and repeated flights, cut anywhere and damaged; repeats that begin alike, and many of them; flights in another order; flights
+longer than L9's 4,096 entries; both sides of what qm lends; each way of calling it wrongly; and that a hostile log costs no more than its length."""
 import os
 import random
 import tempfile
@@ -112,6 +112,16 @@ def tried(folder, seed):
         held(tile_lines(both[0]) == tile_lines(both[1]), f"season {seed}: the tile lines in another order", both[1], both[0])
 
 
+def repeated(folder, seed):
+    """Repeats that only their last bytes tell apart, over one log and over two."""
+    r = random.Random(seed)
+    logs = [season.alike(r) for _ in range(1 + seed % 2)]
+    paths = written(folder, logs)
+    counted(paths, logs, {"only": [7]}, ["--from", "7"])
+    counted(paths, logs, {}, [])
+    listed(paths, logs)
+
+
 def cuts(folder):
     """The second flight of the sample, cut at any place: what stands before the cut is counted."""
     whole = season.SEASON[1]
@@ -200,8 +210,9 @@ with tempfile.TemporaryDirectory() as top:
         return os.path.join(top, f"season-{i}")
 
     side_by_side(lambda i, seed: tried(folder(i), seed), range(90))
+    side_by_side(lambda i, seed: repeated(folder(f"alike-{i}"), seed), range(40))
     cuts(top)
-    for logs in [[LONG], [season.SEASON[0], LONG, LONG]]:
+    for logs in [[LONG], [season.SEASON[0], LONG, LONG], [season.repeats(1), season.repeats(2), season.repeats(7000)]]:
         paths = written(top, logs)
         counted(paths, logs, {"senders": True}, ["--senders"])
         listed(paths, logs)

@@ -1,19 +1,23 @@
 """Holds `qm sums LOG..` to the model in tests/model/sums.py: seasons of random logs of both editions, with losses, copies, reboots, strangers and clocks that step,
-cut anywhere and damaged; more of everything than is told one by one; both sides of what qm lends; names of logs with any bytes; and each way of calling it wrongly."""
+cut anywhere and damaged; repeats that begin alike, and many of them; more of everything than is told one by one; both sides of what qm lends; names of logs with any bytes; each way of calling it wrongly; and a count whose
+process is not given, is ended or goes on alone, by faults that are planted (faults.c)."""
 import math
 import os
 import random
+import resource
+import subprocess
 import tempfile
 
-from model import count as flights, pits, season, sums
+from model import built, count as flights, messages, pits, season, sums
 from model.called import no_room, qm, raw
 from model.count import list_of, pits_message
-from model.files import ROOT, put_logs
+from model.files import ROOT, put, put_logs
 from model.log import as_found, entries_in, log_of
 from model.receiver import cut, fragment, small
 from model.tally import close, held, side_by_side
 
 DAY = 86_400_000
+MEMORY = 150_000_000
 
 
 def tried(what, folder, logs, names=None):
@@ -66,6 +70,14 @@ def random_season(folder, seed):
 
 # ---- more than is told one by one
 
+def repeats(folder):
+    """Which of them are copies: over logs whose datagrams begin alike, and where there are many."""
+    for seed in range(20):
+        r = random.Random(seed)
+        tried(f"alike {seed}", folder, [season.alike(r) for _ in range(1 + seed % 2)])
+    tried("many repeats", folder, [season.repeats(n) for n in (1, 2, 7000)])
+
+
 def many(folder):
     r = random.Random(9)
     # of a pit as many marks as are told, and one more; places on a circle, on a line, at one place; just near and just far
@@ -75,6 +87,9 @@ def many(folder):
         out += [list_of(n, [(1, i % 2, p), (2, 0, (7 * i, 7000 * i, 5)), (3, 1, (5, 5, 5)), (4, 0, None), (5, 0, (r.randrange(9000), r.randrange(9000), 1))], 1 + i % 2) for i, p in enumerate(around)]
     for far in (4495, 4496, 4497):
         out += [list_of(far, [(1, 0, (10, 10, 5)), (1, 0, (10 + far, 10, 5)), (2, 0, (10, -far, 5)), (2, 0, (10, 0, 5)), (3, 0, (2**31 - 1, -2**31, 5)), (3, 0, (-2**31, 2**31 - 1, 5))])]
+    # of a pit many marks anywhere: on a grid, where they are often at one place and in a row; in a field; as far apart as there are numbers
+    for tile, (low, high, step) in enumerate([(0, 5, 2500), (0, 40, 200), (-4000, 4000, 1), (-2**31, 2**31, 1), (0, 2, 9000)]):
+        out += [list_of(tile, [(i % 7, 0, (step * r.randrange(low, high), step * r.randrange(low, high), 5)) for i in range(400)]) for _ in range(3)]
     sent = [(7 + i % 3, d) for i, p in enumerate(out) for d in cut(i, b"TILE", p, 60000)]
     tried("many marks", folder, [log_of([(s, i, d) for i, (s, d) in enumerate(sent)])])
     # senders: of lists, of entries, of strays; messages that never completed; 17 lanes
@@ -112,7 +127,22 @@ def full(folder):
     over = log_of([(s, i, d) for i, (s, d) in enumerate(sent)])
     got = tried("65,537 pits", folder, [log_of([(7, 1, small(1, b"MAST", b""))]), over, season.SEASON[1]])
     held(got.endswith(b"\nseason\nrefused 61\n") and got.count(b"\nlog ") == 2, "65,537 pits", got[-100:].decode())
-    tried("65,536 pits", folder, [log_of([(s, i, d) for i, (s, d) in enumerate(sent[:-1])])])
+    # marks of known pits come behind the last new one
+    tried("65,536 pits", folder, [log_of([(s, i, d) for i, (s, d) in enumerate(sent[:-1] + [(8, d) for d in cut(5, b"TILE", list_of(9, [(3, 1, (1, 1, 1)), (65535, 0, None)]), 60000)])])])
+
+
+def memory(folder):
+    """What is long needs no more memory: half a million pits, of which none is told; a million datagrams, each another."""
+    if "QM" in os.environ or len(built.RUN) > 3:
+        return print("the memory of another qm, or of one under the emulator, is not looked at")
+    lists = [messages.write([1, 5, 9, 4096] + [n for pit in range(at, at + 4096) for n in (4, pit, 1, 0)], True) for at in range(0, 500_000, 4096)]
+    for what, wanted, sent in [("pits", 3, [d for i, p in enumerate(lists) for d in cut(i, b"TILE", p, 60000)]), ("datagrams", 0, [i.to_bytes(4, "big") for i in range(1_100_000)])]:
+        path = os.path.join(folder, f"{what}.log")
+        put(path, log_of([(7, i, d) for i, d in enumerate(sent)]))
+        for command in ("sums", "count", "strays"):
+            # half of this is lent to the proved functions
+            status, _, said = qm(command, path, preexec_fn=lambda: resource.setrlimit(resource.RLIMIT_DATA, (MEMORY, MEMORY)))
+            held(status == (wanted if command != "strays" else 0), f"qm {command}, many {what}, status {status}", said)
 
 
 def called(folder):
@@ -126,14 +156,43 @@ def called(folder):
     no_room("sums", os.path.join(ROOT, "samples", "survey.log"))
 
 
+def faulty():
+    """The count is a process of its own: where there is none, nothing is lost; where it ends early that is said, and so are the flights before."""
+    if "QM" in os.environ:
+        return print("no faults are planted in another qm")
+    program = built.with_faults("sums", "pipe", "fdopen", "fork", "flight_begin", "season_write")
+    paths = [os.path.join(ROOT, name) for name in season.NAMES[:2]]
+    whole, _ = sums.sums(season.SEASON[:2], [os.fsencode(path) for path in paths])
+    first = whole[:whole.index(b"log " + os.fsencode(paths[1]))]
+    both = whole[:whole.index(b"season\n")]
+    ended = "qm sums: {}: the process that counts was ended\n"
+    for fault, printed, says in [("none", whole, ""), ("no pipe", whole, ""), ("nothing is read", whole, ""), ("no process", whole, ""), ("nothing is written", b"", ended.format(paths[0])),
+                                 ("killed", b"", ended.format(paths[0])), ("killed in the second", first, ended.format(paths[1])), ("killed at the end", both, ended.format(paths[1])),
+                                 ("shorter", b"", "qm: the file became shorter while it was read\n")]:
+        done = subprocess.run([*program, "sums", *paths], stdin=subprocess.DEVNULL, stdout=subprocess.PIPE, stderr=subprocess.PIPE, env={**os.environ, "FAULT": fault})
+        held((done.returncode, done.stdout, done.stderr.decode()) == (1 if says else 0, printed, says), f"fault {fault}, status {done.returncode}, {done.stderr!r}", done.stdout.decode(), printed.decode())
+    # whoever kills the one that asks leaves none that counts: it would hold the output open
+    running = subprocess.Popen([*program, "sums", *paths], stdin=subprocess.DEVNULL, stdout=subprocess.PIPE, stderr=subprocess.PIPE, env={**os.environ, "FAULT": "slow"})
+    held(running.stderr.readline() == b"begun\n", "the process that counts")
+    running.kill()
+    try:
+        running.communicate(timeout=60)
+        held(True, "")
+    except subprocess.TimeoutExpired:
+        held(False, "the process that counts has not ended with the one that asks")
+
+
 with tempfile.TemporaryDirectory() as folder:
     side_by_side(lambda _, seed: random_season(folder, seed), range(int(os.environ.get("SEASONS", 60))))
     for i, at in enumerate([0, 1, 4, 5, *random.Random(38).sample(range(6, len(season.SEASON[1])), 8)]):
         tried(f"cut at {at}", folder, [season.SEASON[1][:at]])
     tried("the sample season", folder, season.SEASON)
     tried("one flight twice, and names of any bytes", folder, [season.SEASON[1]] * 2, [b"a b\xe9.log", b"c log d"])
+    repeats(folder)
     many(folder)
     steps(folder)
     full(folder)
+    memory(folder)
     called(folder)
+    faulty()
 close()
