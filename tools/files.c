@@ -3,7 +3,7 @@
 #include "qm.h"
 
 /* A mapped file that another program makes shorter has no bytes any more where we read. */
-static void shortened(int number) {
+_Noreturn void became_shorter(int number) {
     static const char why[] = "qm: the file became shorter while it was read\n";
     (void) number;
     write(2, why, sizeof why - 1);
@@ -26,7 +26,7 @@ int map_open_file(const char *command, const char *path, int file, struct mapped
     void *at = mmap(0, m->length, MAY_READ, OF_A_FILE, file, 0);
     if (at == (void *) -1) return failed(command, path);
     madvise(at, m->length, IN_ORDER);
-    signal(BUS_ERROR, shortened);
+    signal(BUS_ERROR, became_shorter);
     m->bytes = at;
     return DONE;
 }

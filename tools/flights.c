@@ -14,7 +14,8 @@ static void tell_forgets(const struct counting *how, const struct walk *w) {
             fprintf(stderr, "qm %s: %s: --forget-at %s: nothing was forgotten, since %llu entries were read\n", w->command, w->path, how->forgets[i].given, w->entries);
 }
 
-int count_entry(struct counted *c, const struct walk *w, int *repeated) {
+/* The entry at hand, and whether it was answered Repeat. Answers whether there was memory; a refusal of what is lent ends the count. */
+static int count_entry(struct counted *c, const struct walk *w, int *repeated) {
     struct totals told;
     c->refusal = flight_take(w, &told);
     totals_add(&c->totals, &told);
@@ -22,25 +23,26 @@ int count_entry(struct counted *c, const struct walk *w, int *repeated) {
     return told.lists == 0 || tally_add(&c->lists, w->entry[QM_SENDER], w->entries);
 }
 
-int tell_full(const struct walk *w, qm_u32 refusal) {
+int tell_full(const struct walk *w, qm_u32 refusal, qm_u64 entry) {
     worked(w->shown > 0);
-    fprintf(stderr, "qm %s: %s: refused %u at entry %llu: a season has room for %d tiles and %d pits\n", w->command, w->path, refusal, w->entries, SEASON_TILES, SEASON_PITS);
+    fprintf(stderr, "qm %s: %s: refused %u at entry %llu: a season has room for %d tiles and %d pits\n", w->command, w->path, refusal, entry, SEASON_TILES, SEASON_PITS);
     return REFUSED;
 }
 
 /* One flight. Answers DONE, or FAILED with the reason said. */
 static int count_flight(const struct counting *how, struct counted *c, const char *path, struct mapped log) {
-    struct strays strays = {0};
+    static struct strays strays;
     struct walk w;
     int good = 1, repeated;
     walk_over(&w, how->command, path, log);
     flight_begin();
     while (good && c->refusal == 0 && walk_on(&w)) {
         forget_before(how, w.entries);
-        if (from_has(&how->from, w.entry[QM_SENDER])) good = count_entry(c, &w, &repeated) && strays_note(&strays, &w, repeated) != STRAY_FAILED;
+        if (from_has(&how->from, w.entry[QM_SENDER])) good = count_entry(c, &w, &repeated) && strays_note(&strays, &w, repeated);
     }
+    good = good && strays_add(&strays, &w);
     if (good) {
-        if (c->refusal != 0) c->status = tell_full(&w, c->refusal);
+        if (c->refusal != 0) c->status = tell_full(&w, c->refusal, w.entries);
         else if (logs_ended(&w, "counted") != DONE) c->status = REFUSED;
         tell_forgets(how, &w);
         strays_tell(&strays, &w);
@@ -55,12 +57,15 @@ int count_flights(const struct counting *how, const struct logs *logs, struct co
     return DONE;
 }
 
-void counted_print(struct counted *c, int senders) {
-    const struct totals *t = &c->totals;
+void totals_print(const struct totals *t) {
     printf("entries %llu\nkept %llu\nrepeated %llu\ndelivered %llu\n", t->entries, t->kept, t->repeated, t->delivered);
     for (unsigned n = 0; n < QM_REFUSALS; n++)
         if (t->refused[n] > 0) printf("refused %u %llu\n", n, t->refused[n]);
     printf("lists %llu\n", t->lists);
+}
+
+void counted_print(struct counted *c, int senders) {
+    totals_print(&c->totals);
     tally_sort(&c->lists);
     for (qm_size i = 0; senders && i < c->lists.used; i++) printf("sender %llu lists %llu\n", c->lists.rows[i].sender, c->lists.rows[i].times);
     season_print();

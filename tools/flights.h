@@ -30,14 +30,13 @@ struct counted {
     int status;            /* DONE, or REFUSED where a log is not whole or the count ended early */
 };
 
-/* The entry at hand, and whether it was answered Repeat. Answers whether there was memory; a refusal of what is lent ends the count. */
-int count_entry(struct counted *c, const struct walk *w, int *repeated);
-/* Says on standard error that what is lent is full: the count ends at the entry at hand. Answers REFUSED. */
-int tell_full(const struct walk *w, qm_u32 refusal);
+/* Says on standard error that what is lent is full: the count ends at this entry. Answers REFUSED. */
+int tell_full(const struct walk *w, qm_u32 refusal, qm_u64 entry);
 
 /* All flights, up to a refusal of what is lent. Answers DONE, or FAILED with the reason said. */
 int count_flights(const struct counting *how, const struct logs *logs, struct counted *c);
-/* The lines of a count; with `senders` also how many lists each brought. */
+/* The lines of a count: its first ones, and all; with `senders` also how many lists each brought. */
+void totals_print(const struct totals *t);
 void counted_print(struct counted *c, int senders);
 void counted_close(struct counted *c);
 

@@ -5,12 +5,14 @@
 #include "season.h"
 #include "seen.h"
 
-enum { FIRST_ROOM = 1 << 10 };
+/* The slots of so many pits with numbers in a row stand together, since a list often has them all: they come into the processor's cache at once. */
+enum { FIRST_ROOM = 1 << 10, TOGETHER = 16 };
 
 /* ---- tables that grow; at most half of a table by hash is in use */
 
 static qm_u32 *slot_of(const struct marked *t, qm_u64 tile, qm_u64 pit) {
-    qm_size i = hash_of_number(tile << 32 ^ pit) & (t->room - 1);
+    qm_u64 number = tile << 32 ^ pit;
+    qm_size i = (hash_of_number(number / TOGETHER) * TOGETHER + number % TOGETHER) & (t->room - 1);
     while (t->slots[i] != 0 && (t->pits[t->slots[i] - 1].last.tile != tile || t->pits[t->slots[i] - 1].last.pit != pit)) i = (i + 1) & (t->room - 1);
     return &t->slots[i];
 }
@@ -90,7 +92,7 @@ static int note_sender(struct marked *t, qm_u32 pit, qm_u64 sender) {
 
 static int keep_mark(struct marked *t, struct marked_pit *p, const struct mark *m) {
     if (t->kept == t->marks_room && !grow_marks(t)) return 0;
-    t->marks[t->kept++] = (struct first_mark) {.place = {m->lat, m->lon}, .sender = m->sender, .tick = m->tick, .log = m->log, .sure = m->sure, .placed = m->placed};
+    t->marks[t->kept++] = (struct first_mark) {.place = {(int) m->lat, (int) m->lon}, .sender = m->sender, .tick = m->tick, .log = m->log, .sure = m->sure, .placed = m->placed};
     if (p->first == 0) p->first = t->kept;
     else t->marks[p->latest - 1].next = t->kept;
     p->latest = t->kept;
@@ -103,7 +105,7 @@ int marked_note(struct marked *t, const struct mark *m) {
     struct marked_pit *p = &t->pits[number - 1];
     p->last = *m;
     if (p->marks++ < MARKED_FIRST && !keep_mark(t, p, m)) return 0;
-    return !m->placed || outline_add(&p->places, (struct place) {m->lat, m->lon});
+    return !m->placed || outline_add(&p->places, (struct place) {(int) m->lat, (int) m->lon});
 }
 
 void marked_close(struct marked *t) {
@@ -122,12 +124,12 @@ void marked_close(struct marked *t) {
 static void print_wide(const struct marked *t, struct marked_pit *p, char *const *log) {
     outline_trim(&p->places);
     printf("corners");
-    for (qm_size i = 0; i < p->places.many; i++) printf(" %lld %lld", p->places.places[i].lat, p->places.places[i].lon);
+    for (qm_size i = 0; i < p->places.many; i++) printf(" %d %d", p->places.places[i].lat, p->places.places[i].lon);
     printf("\n");
     for (qm_size i = p->first; i != 0; i = t->marks[i - 1].next) {
         const struct first_mark *m = &t->marks[i - 1];
         printf("mark sure %d", m->sure);
-        if (m->placed) printf(" lat %lld lon %lld", m->place.lat, m->place.lon);
+        if (m->placed) printf(" lat %d lon %d", m->place.lat, m->place.lon);
         printf(" sender %llu tick %llu log %s\n", m->sender, m->tick, log[m->log]);
     }
 }
@@ -165,16 +167,16 @@ static void add_pairs(const struct marked *t, struct bringer *bringers) {
 }
 
 /* The lists' senders rise. One that is not among those of marks brought lists without any. */
-static void print_bringers(const struct marked *t, const struct tally *lists, const struct bringer *bringers) {
+static void print_bringers(const struct marked *t, const struct senders *lists, const struct bringer *bringers) {
     printf("brought %llu\n", lists->used);
     for (qm_size i = 0; i < lists->used && i < MARKED_SENDERS; i++) {
-        const struct tally_row *row = &lists->rows[i];
+        const struct sender_row *row = &lists->rows[i];
         const struct bringer *b = &bringers[senders_number(&t->senders, row->sender)];
         printf("brought sender %llu lists %llu pits %llu sure %llu alone %llu\n", row->sender, row->times, b->pits, b->sure, b->alone);
     }
 }
 
-int marked_print(struct marked *t, const struct tally *lists, char *const *log) {
+int marked_print(struct marked *t, struct senders *lists, char *const *log) {
     struct season_tile tile = {0};
     int status = DONE;
     while (status == DONE && season_next(&tile))
@@ -183,6 +185,7 @@ int marked_print(struct marked *t, const struct tally *lists, char *const *log) 
     struct bringer *bringers = status == DONE ? calloc(t->senders.used + 1, sizeof *bringers) : 0;
     if (!bringers) return status == DONE ? failed("sums", "the senders") : status;
     add_pairs(t, bringers);
+    senders_sort(lists);
     print_bringers(t, lists, bringers);
     free(bringers);
     return DONE;

@@ -7,7 +7,6 @@
 #include "marks.h"
 #include "outline.h"
 #include "senders.h"
-#include "tally.h"
 
 /* So many marks of a pit are told one by one, and so many senders. */
 enum { MARKED_FIRST = 20, MARKED_SENDERS = 100 };
@@ -47,7 +46,7 @@ struct marked {
 /* One mark more. Answers whether there was memory. */
 int marked_note(struct marked *t, const struct mark *m);
 /* A line a pit of the counted season, and of each sender that brought lists what it marked. Answers DONE, or FAILED with the reason said. */
-int marked_print(struct marked *t, const struct tally *lists, char *const *log);
+int marked_print(struct marked *t, struct senders *lists, char *const *log);
 void marked_close(struct marked *t);
 
 #endif

@@ -3,7 +3,9 @@
 #include "outline.h"
 
 /* A degree is 111,195 metres to the north, and no more than that to the east: so many ten-millionths are under 50 metres. */
-enum { FIRST_ROOM = 4, NEAR = 4496 };
+enum { NEAR = 4496 };
+
+enum { FIRST_ROOM = 4 };
 
 static int by_place(const void *a, const void *b) {
     const struct place *x = a, *y = b;
@@ -13,7 +15,8 @@ static int by_place(const void *a, const void *b) {
 
 /* Whether the way from a by b to c turns to the other side, or not at all: b is none of the outermost. */
 static int is_within(const struct place *a, const struct place *b, const struct place *c) {
-    return (__int128) (b->lat - a->lat) * (c->lon - a->lon) <= (__int128) (b->lon - a->lon) * (c->lat - a->lat);
+    qm_i64 north = (qm_i64) b->lat - a->lat, east = (qm_i64) b->lon - a->lon;
+    return (__int128) north * ((qm_i64) c->lon - a->lon) <= (__int128) east * ((qm_i64) c->lat - a->lat);
 }
 
 /* One side of the outline, from the first place to the last, by `step` through sorted places; the last is left out. Answers how many it has. */
@@ -33,6 +36,18 @@ static qm_size without_copies(struct place *places, qm_size many) {
     return left;
 }
 
+/* Whether a place is one of those around, or lies among them: where one of them is on each side of it, to north-east, north-west, south-east and south-west,
+   no line parts it from all of them, and it is none of the outermost. */
+static int is_known(const struct outline *o, struct place p) {
+    unsigned sides = 0, same = 0;
+    for (unsigned i = 0; i < AROUND; i++) {
+        struct place a = o->around[i];
+        sides |= 1u << (2 * (a.lat > p.lat) + (a.lon > p.lon));
+        same |= a.lat == p.lat && a.lon == p.lon;
+    }
+    return same || sides == 15;
+}
+
 void outline_trim(struct outline *o) {
     qsort(o->places, o->many, sizeof *o->places, by_place);
     o->many = without_copies(o->places, o->many);
@@ -45,11 +60,11 @@ void outline_trim(struct outline *o) {
     memcpy(o->places, sides, made * sizeof *sides);
     o->many = made;
     free(sides);
+    for (unsigned i = 0; i < AROUND; i++) o->around[i] = o->places[i * o->many / AROUND];
 }
 
 int outline_add(struct outline *o, struct place p) {
-    for (qm_size i = 0; i < o->many && i < FIRST_ROOM; i++)
-        if (by_place(&o->places[i], &p) == 0) return 1;
+    if (o->many > 0 && is_known(o, p)) return 1;
     if (o->many == o->room) {
         outline_trim(o);
         /* it is trimmed again once half of it is new */
@@ -59,6 +74,7 @@ int outline_add(struct outline *o, struct place p) {
         o->places = places;
         o->room = room;
     }
+    for (qm_size i = o->many; i < AROUND; i++) o->around[i] = p;
     o->places[o->many++] = p;
     return 1;
 }
@@ -73,8 +89,8 @@ int outline_is_wide(const struct outline *o) {
         if (p.lon < low.lon) low.lon = p.lon;
         if (p.lon > high.lon) high.lon = p.lon;
     }
-    __int128 north = high.lat - low.lat, east = high.lon - low.lon;
-    return north * north + east * east > (__int128) NEAR * NEAR;
+    __int128 north = (qm_i64) high.lat - low.lat, east = (qm_i64) high.lon - low.lon;
+    return north * north + east * east > NEAR * NEAR;
 }
 
 void outline_close(struct outline *o) {

@@ -5,15 +5,18 @@
 
 #include "qm.h"
 
-/* In ten-millionths of a degree. */
+/* In ten-millionths of a degree: 32 bits each, as a mark has them. */
 struct place {
-    qm_i64 lat, lon;
+    int lat, lon;
 };
+
+enum { AROUND = 8 };
 
 /* The outermost, and some that lie within. Zeros are none; outline_close makes it that again. */
 struct outline {
     struct place *places;
     qm_size many, room;
+    struct place around[AROUND];   /* some of them, all where there are no more: most places are known by these */
 };
 
 /* One place more. Answers whether there was memory. */

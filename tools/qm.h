@@ -46,6 +46,8 @@ struct mapped {
 /* DONE and the file, or FAILED with the reason said. The second takes a file that is open. */
 int map_file(const char *command, const char *path, struct mapped *m);
 int map_open_file(const char *command, const char *path, int file, struct mapped *m);
+/* Says that a mapped file became shorter while it was read, and ends the program. It is called by a signal. */
+_Noreturn void became_shorter(int number);
 
 /* ---- what is said */
 
@@ -92,6 +94,8 @@ void walk_prints(struct walk *w);
 void walk_printed(struct walk *w);
 /* Whether there is one more entry; it is then the one at hand. */
 int walk_on(struct walk *w);
+/* The system may have back what was walked over; walk_on does it too. */
+void walk_give_back(struct walk *w);
 /* The datagram of the entry at hand. */
 const qm_byte *walk_datagram(const struct walk *w);
 /* The last line, `end N` or `refused R after N`, and the status: all that was printed went out, or why not, or what the refusal means. */

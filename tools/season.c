@@ -21,10 +21,11 @@ void flight_forget(qm_u64 sender) {
     qm_forget(state, QM_STATE, names, QM_NAMES, sender);
 }
 
-qm_u32 flight_take(const struct walk *w, struct totals *told) {
+/* From a place on at most so many entries. Answers as flight_take, and where to go on. */
+static qm_u32 count_on(struct mapped log, qm_size *place, qm_u64 most, struct totals *told) {
     qm_u64 said[QM_STRETCH];
     /* the list of numbers is of the header's length: 13 does not come */
-    qm_count_on(w->log.bytes, w->log.length, w->at, 1, state, QM_STATE, names, QM_NAMES, store, QM_STORE, ledger, QM_LEDGER, numbers, QM_NUMBERS, tiles,
+    qm_count_on(log.bytes, log.length, *place, most, state, QM_STATE, names, QM_NAMES, store, QM_STORE, ledger, QM_LEDGER, numbers, QM_NUMBERS, tiles,
                 SEASON_TILES, pits, SEASON_PITS, sure, SEASON_PITS, has_tiles, has_pits, has_sure, said, QM_STRETCH);
     has_tiles = said[QM_ON_TILES];
     has_pits = said[QM_ON_PITS];
@@ -32,7 +33,19 @@ qm_u32 flight_take(const struct walk *w, struct totals *told) {
     *told = (struct totals) {.entries = said[QM_ON_ENTRIES], .kept = said[QM_ON_KEPT], .repeated = said[QM_ON_REPEATED],
                              .delivered = said[QM_ON_DELIVERED], .lists = said[QM_ON_LISTS]};
     for (unsigned n = 0; n < QM_REFUSALS; n++) told->refused[n] = said[QM_ON_REFUSED + n];
+    *place = said[QM_ON_PLACE];
     return said[QM_ON_STOP] == QM_STOP_REFUSED ? (qm_u32) said[QM_ON_NUMBER] : 0;
+}
+
+qm_u32 flight_take(const struct walk *w, struct totals *told) {
+    qm_size place = w->at;
+    return count_on(w->log, &place, 1, told);
+}
+
+qm_u32 flight_stretch(struct walk *w, qm_u64 most, struct totals *told) {
+    qm_u32 refusal = count_on(w->log, &w->at, most, told);
+    walk_give_back(w);
+    return refusal;
 }
 
 void totals_add(struct totals *sum, const struct totals *more) {
@@ -54,6 +67,24 @@ static void tell_tiles(void) {
 void season_print(void) {
     tell_tiles();
     for (qm_size i = 0; i < has_tiles; i++) printf("tile %llu pits %llu sure %llu\n", tile[i], tile_pits[i], tile_sure[i]);
+}
+
+void season_write(FILE *to) {
+    const qm_size has[] = {has_tiles, has_pits, has_sure};
+    fwrite(has, sizeof has, 1, to);
+    fwrite(tiles, sizeof *tiles, has_tiles, to);
+    fwrite(pits, sizeof *pits, has_pits, to);
+    fwrite(sure, sizeof *sure, has_sure, to);
+}
+
+int season_read(FILE *from) {
+    qm_size has[3];
+    if (fread(has, sizeof has, 1, from) != 1) return 0;
+    has_tiles = has[0];
+    has_pits = has[1];
+    has_sure = has[2];
+    return fread(tiles, sizeof *tiles, has_tiles, from) == has_tiles && fread(pits, sizeof *pits, has_pits, from) == has_pits &&
+           fread(sure, sizeof *sure, has_sure, from) == has_sure;
 }
 
 qm_size season_pits(void) {

@@ -20,9 +20,16 @@ void flight_forget(qm_u64 sender);
 /* It takes the entry at hand. Answers 0, or 13, 60 or 61; `told` is of this entry. */
 qm_u32 flight_take(const struct walk *w, struct totals *told);
 
+/* It takes at most so many entries from w->at on, at first from 0, and moves it behind them. Answers as flight_take; `told` is of all of them. */
+qm_u32 flight_stretch(struct walk *w, qm_u64 most, struct totals *told);
+
 void totals_add(struct totals *sum, const struct totals *more);
 /* A line a tile of all flights, rising. */
 void season_print(void);
+
+/* The sets of all flights, from the process that has counted them to another. The second answers whether they came. */
+void season_write(FILE *to);
+int season_read(FILE *from);
 
 /* How many pits all flights have. They stand in one order, by rising tile, then pit. */
 qm_size season_pits(void);

@@ -1,4 +1,4 @@
-/* Which datagrams a log has had of each sender. */
+/* Datagrams of a log that are looked for among the entries before them. */
 
 #include "seen.h"
 
@@ -6,6 +6,9 @@ enum { FIRST_ROOM = 1 << 12, RANDOM_BYTES = 25, CHUNK = 7 };
 
 /* The numbers of the hash are those modulo this prime; it takes seven bytes of a datagram at a time. */
 static const qm_u64 prime = (1ull << 61) - 1, first_bytes = (1ull << 8 * CHUNK) - 1;
+
+/* No datagram has this hash: the row of one that an earlier entry has too. */
+static const qm_u64 struck_out = ~0ull;
 
 /* The system gives each run of a program random bytes. */
 static qm_u64 key_of_run(void) {
@@ -59,8 +62,7 @@ qm_u64 hash_of_number(qm_u64 n) {
     return times(times((n >> 32) + 1, key) + (qm_u32) n, key);
 }
 
-/* Whether the entry at a place has sender and bytes of the one at hand. */
-static int is_copy(const struct walk *w, qm_size place) {
+int is_copy(const struct walk *w, qm_size place) {
     qm_u64 other[QM_ENTRY];
     if (qm_log_next(w->log.bytes, w->log.length, place, other, QM_ENTRY) != 0) return 0;
     if (other[QM_SENDER] != w->entry[QM_SENDER] || other[QM_ENTRY_LENGTH] != w->entry[QM_ENTRY_LENGTH]) return 0;
@@ -74,9 +76,9 @@ static qm_size row_of(const struct seen *s, qm_u64 hash, qm_size from) {
     return i;
 }
 
-/* At most half of the rows are in use. */
+/* At most three of four rows are in use. */
 static int grow(struct seen *s) {
-    struct seen wider = {.room = s->room ? 2 * s->room : FIRST_ROOM, .used = s->used, .power = {key_of_run()}};
+    struct seen wider = {.room = s->room ? 2 * s->room : FIRST_ROOM, .used = s->used, .open = s->open, .power = {key_of_run()}};
     wider.rows = calloc(wider.room, sizeof *wider.rows);
     if (!wider.rows) return 0;
     for (unsigned i = 1; i < POWERS; i++) wider.power[i] = times(wider.power[i - 1], wider.power[0]);
@@ -91,15 +93,33 @@ static int grow(struct seen *s) {
     return 1;
 }
 
-int seen_note(struct seen *s, const struct walk *w) {
-    if (2 * s->used >= s->room && !grow(s)) return SEEN_FAILED;
-    qm_u64 hash = hash_of(w, s->power);
+/* The row of the datagram at hand, or the free one where it would stand. */
+static struct seen_row *find(struct seen *s, const struct walk *w, qm_u64 hash) {
     qm_size i = row_of(s, hash, hash);
-    for (; s->rows[i].place != 0; i = row_of(s, hash, i + 1))
-        if (is_copy(w, s->rows[i].place)) return SEEN_BEFORE;
-    s->rows[i] = (struct seen_row) {hash, w->at};
+    while (s->rows[i].place != 0 && !is_copy(w, s->rows[i].place)) i = row_of(s, hash, i + 1);
+    return &s->rows[i];
+}
+
+int seen_note(struct seen *s, const struct walk *w) {
+    if (4 * s->used >= 3 * s->room && !grow(s)) return 0;
+    qm_u64 hash = hash_of(w, s->power);
+    struct seen_row *row = find(s, w, hash);
+    if (row->place != 0) return 1;
+    *row = (struct seen_row) {hash, w->at};
     s->used++;
-    return SEEN_FIRST;
+    s->open++;
+    return 1;
+}
+
+/* A row is known once an entry with its bytes is met: at its own place it is the first of them. */
+int seen_look(struct seen *s, const struct walk *w) {
+    if (s->open == 0) return 0;
+    struct seen_row *row = find(s, w, hash_of(w, s->power));
+    if (row->place < w->at) return 0;
+    int first = row->place == w->at;
+    if (!first) row->hash = struck_out;
+    s->open--;
+    return first;
 }
 
 void seen_close(struct seen *s) {

@@ -10,6 +10,7 @@ typedef struct file FILE;
 extern FILE *stdin, *stdout, *stderr;
 
 FILE *fopen(const char *path, const char *how);
+FILE *fdopen(int file, const char *how);
 int fclose(FILE *file);
 unsigned long fread(void *to, unsigned long size, unsigned long n, FILE *file);
 unsigned long fwrite(const void *from, unsigned long size, unsigned long n, FILE *file);
@@ -85,6 +86,7 @@ int flock(int file, int how);
 int fcntl(int file, int what, ...);
 int isatty(int file);
 int close(int file);
+int pipe(int ends[2]);
 enum { TO_READ = 0, TO_READ_AND_WRITE = 2, CREATED = 0100, NOT_THERE_YET = 0200, FOR_ALL_TO_READ = 0644, FROM_END = 2, ALONE = 2, AT_ONCE = 4, PIPE_SIZE = 1031 };
 
 struct folder;
@@ -98,17 +100,22 @@ struct folder *opendir(const char *path);
 struct folder_entry *readdir(struct folder *folder);
 int closedir(struct folder *folder);
 
-/* ---- the process: its end, its errors, signals and the time */
+/* ---- the process: its end, another one, its errors, signals and the time */
 
 _Noreturn void exit(int status);
 _Noreturn void _exit(int status);
+int fork(void);
+int waitpid(int process, int *status, int how);
+int kill(int process, int number);
+int prctl(int what, ...);
+enum { ENDS_WITH_PARENT = 1 };
 int *__errno_location(void);
 char *strerror(int number);
 enum { INTERRUPTED = 4, WOULD_WAIT = 11, IS_THERE = 17 };
 
 void (*signal(int number, void (*handler)(int)))(int);
 unsigned alarm(unsigned seconds);
-enum { INTERRUPT = 2, BUS_ERROR = 7, NO_SUCH_MEMORY = 11, NO_LISTENER = 13, ALARM = 14, TERMINATE = 15, FILE_TOO_LARGE = 25 };
+enum { INTERRUPT = 2, BUS_ERROR = 7, KILLED = 9, NO_SUCH_MEMORY = 11, NO_LISTENER = 13, ALARM = 14, TERMINATE = 15, FILE_TOO_LARGE = 25 };
 #define PASSED_OVER ((void (*)(int)) 1)
 
 struct signals {

@@ -17,7 +17,7 @@ static void wipe(void) {
 /* What was walked over is given back in such pieces, so that a long log does not fill the memory. Who looks back has it from the disk again, until the next piece. */
 enum { PIECE = 1 << 24 };
 
-static void give_back(struct walk *w) {
+void walk_give_back(struct walk *w) {
     qm_size whole = w->at / PIECE * PIECE;
     if (whole == w->given) return;
     madvise((void *) w->log.bytes, whole, NOT_NEEDED);
@@ -66,7 +66,7 @@ int walk_on(struct walk *w) {
     w->entries++;
     w->at = w->next;
     w->next = w->entry[QM_NEXT_PLACE];
-    give_back(w);
+    walk_give_back(w);
     if (w->shown >= 0) show(w);
     return 1;
 }

@@ -2,11 +2,9 @@
 A case whose edit stands where a definition is used says so by a line `rule: NAME`."""
 import os
 import re
-import sys
 
-ROOT = os.path.realpath(os.path.join(os.path.dirname(os.path.abspath(__file__)), "..", ".."))
-sys.path.insert(0, os.path.join(ROOT, "tools"))
-from specs import Project  # noqa: E402
+from model.files import ROOT
+from specs import Project
 
 LEAST = 2
 PROMISE = "a promise's statement, which has no code: cases/promises.txt weakens it"

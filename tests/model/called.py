@@ -2,13 +2,13 @@
 import os
 import subprocess
 import sys
-import threading
-from concurrent.futures import ThreadPoolExecutor
 
 from . import built
-from .built import ROOT
+from .files import ROOT
+from .tally import held
 
-passed = failed = 0
+# what qm says of the refusals of a log
+MEANING = {40: "not a log", 41: "not in its shortest form", 42: "over 65,535 bytes", 43: "cut off", 45: "limit is over 1,048,576"}
 
 
 def build():
@@ -21,11 +21,27 @@ def build():
 QM = os.environ["QM"].split() if "QM" in os.environ else build()
 
 
-def qm(*words, **how):
-    """Its status, what it printed and what it said on standard error."""
+def raw(*words, **how):
+    """Its status, what it printed and what it said on standard error, as bytes."""
     given = {"input": b"", "stdout": subprocess.PIPE, "stderr": subprocess.PIPE}
     done = subprocess.run(QM + list(words), **{**given, **how})
-    return done.returncode, (done.stdout or b"").decode(), (done.stderr or b"").decode()
+    return done.returncode, done.stdout or b"", done.stderr or b""
+
+
+def qm(*words, **how):
+    """The same as text."""
+    status, printed, said = raw(*words, **how)
+    return status, printed.decode(), said.decode()
+
+
+def no_room(*words, **how):
+    """A call whose lines find no room on the disk fails, and says so. Answers whether that could be tried."""
+    if not os.path.exists("/dev/full"):
+        return False
+    with open("/dev/full", "w") as disk:
+        got = qm(*words, stdout=disk, **how)
+    held(got[0] == 1 and "standard output: No space left on device" in got[2], f"qm {' '.join(words)}, the disk full", str(got))
+    return True
 
 
 def program(name, *words):
@@ -33,25 +49,3 @@ def program(name, *words):
     subprocess.run([os.path.join(ROOT, "run"), name, *words], input=b"", stdout=subprocess.DEVNULL, check=True)
     run = built.program(name)
     return lambda b, *words: subprocess.run(run + list(words), input=b, stdout=subprocess.PIPE, check=True).stdout.decode()
-
-
-one_at_a_time = threading.Lock()
-
-
-def held(good, what, got="", expected=""):
-    global passed, failed
-    with one_at_a_time:
-        passed, failed = passed + bool(good), failed + (not good)
-        if not good and failed < 20:
-            print(f"{what}: {got[-200:]!r} and not {expected[-200:]!r}")
-
-
-def side_by_side(do, things):
-    """Does something with each thing and its number, as many at a time as there are processors: a program under the emulator takes long to start."""
-    with ThreadPoolExecutor(os.cpu_count()) as pool:
-        list(pool.map(do, range(len(things)), things))
-
-
-def close():
-    print(f"{passed} passed, {failed} failed")
-    sys.exit(1 if failed else 0)

@@ -118,6 +118,11 @@ def pits_message(tile, marks, version=1, calculate=True, place=lambda pit: pit %
     return messages.write(l, calculate)
 
 
+def list_of(tile, marks, version=1):
+    """A list whose marks are a pit, sure, and a place or none."""
+    return messages.write([version, PIT_LIST, tile, len(marks)] + [n for pit, sure, at in marks for n in [4, pit, sure] + ([2, *at] if at else [0]) + [7] * (version == 2)], True)
+
+
 NULL = (None, None)
 
 

@@ -5,13 +5,10 @@ from functools import lru_cache
 from . import acks
 from .log import Refused, entries_in, entry_bytes, first_log_of, head_in, limits_in, log_of
 from .receiver import MAX_PAYLOAD, Receiver, read, small
+from .season import text
 
 STORE = 8 * MAX_PAYLOAD
 WATCHED = 16
-
-
-def text(lines):
-    return "".join(line + "\n" for line in lines)
 
 
 def placed(b):

@@ -1,8 +1,8 @@
 """The index of document 02, L11, written from the paper alone, in plain Python, and what the programs over it write."""
-import os
 import random
 
-from .log import HOLDS, Refused, entry_bytes, first_log_of, head_in, log_of, number_at
+from .files import bytes_of
+from .log import HOLDS, Refused, first_log_of, head_in, log_of, number_at
 from .receiver import cut, fragment, read, small
 
 MOST = 4096
@@ -96,8 +96,7 @@ FILES = {
     "crates/find/stdin": LISTED,
     "crates/find/stdout": find(LISTED, 7, 500).encode(),
 }
-with open(os.path.join(os.path.dirname(os.path.abspath(__file__)), "..", "..", "samples", "flight.log"), "rb") as f:
-    FILES["samples/flight-index.txt"] = index_list(f.read()).encode()
+FILES["samples/flight-index.txt"] = index_list(bytes_of("samples", "flight.log")).encode()
 assert FILES["crates/find/stdout"].startswith(b"place ")
 assert any(a[:2] == b[:2] for a, b in zip(index_of(LISTED), index_of(LISTED)[1:]))
 assert index_list(first_log_of([])) == "end 0\n"

@@ -139,6 +139,28 @@ def log_write(stream):
 
 # ---- logs for every program over a log
 
+def hurt(r, b, share):
+    """A log as it is found, by random numbers: in a share of cases cut anywhere, and sometimes damaged."""
+    if r.random() < share:
+        b = b[:r.randrange(len(b) + 1)]
+    if r.random() < 0.1:
+        at = r.randrange(len(b) + 1)
+        b = b[:at] + bytes(r.choice([0, 1, 128, 255]) for _ in range(r.randrange(3))) + b[at + r.randrange(2):]
+    return b
+
+
+def as_found(r, entries):
+    """The same of these entries, of either edition."""
+    return hurt(r, r.choice([first_log_of(entries), log_of(entries), log_of(entries, r.choice([0, 150, 262144]))]), 0.15)
+
+
+def filled(b, length):
+    """A good log with more entries, of just that length."""
+    while length - len(b) > 20000:
+        b += entry_bytes(4, 1, bytes(9000))
+    return next(b + e for e in (entry_bytes(4, 1, bytes(n)) for n in range(length - len(b))) if len(b) + len(e) == length)
+
+
 def each_number():
     """Logs in which each of the numbers, a log's limit and an entry's three, is refused for each reason, cut before that would be known, and just good: not in
     its shortest form by one group and by more, a tenth byte of 0, 2, 129; the limit one over the most, a length one over."""

@@ -4,9 +4,9 @@ refused counts up to there, and all lists go into the same sets."""
 import random
 
 from . import messages
-from .count import pits_message, read_payload, strangers
+from .count import pits_message, read_payload, strangers, ticked
 from .log import entries_in, first_log_of, limits_in, log_of
-from .receiver import MAX_PAYLOAD, Receiver, cut, read
+from .receiver import MAX_PAYLOAD, Receiver, cut, fragment, read, small
 
 TILES = PITS = 65536  # what qm lends
 STORE = 8 * MAX_PAYLOAD
@@ -94,6 +94,25 @@ def strays(logs, names):
     found = [(name, *stray) for log, name in zip(logs, names) for stray in Season().fly(log)]
     lines = [f"log {name} sender {s} entry {i} tick {t} sequence {q}" for name, s, i, t, q in found]
     return text(lines + [f"end {len(found)}"]), 3 if broken(logs) else 0
+
+
+# ---- logs of repeats
+
+BEGIN = b"all of them begin with these words"
+
+
+def alike(r, most=200):
+    """Two senders' datagrams that begin alike and come again and again in any order: their last bytes and their sender alone tell which is a copy. A small one of
+    an open key is refused, and is a repeat later."""
+    tails = [BEGIN + b"%d" % i for i in range(r.choice([1, 2, 5, 60]))]
+    some = [d for q in (5, 6) for t in tails for d in (small(q, b"TILE", t), fragment(q, 2 * len(t), 0, 0, 2, t, b"TILE"), fragment(q, 2 * len(t), len(t), 1, 2, t))]
+    return log_of(ticked([(r.choice([7, 7, 8]), r.choice(some)) for _ in range(r.randrange(1, most))]))
+
+
+def repeats(n):
+    """So many repeats that are no copies, and each of them once more; and before them, of the other sender, the same bytes."""
+    some = [small(5, b"TILE", b"%09d" % i) for i in range(n)]
+    return log_of(ticked([(8, some[-1]), (7, some[0])] + [(7, d) for d in some[:0:-1] + some]))
 
 
 # ---- the sample: three flights by two cameras over eighteen tiles

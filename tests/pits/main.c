@@ -136,8 +136,11 @@ static void try_others(void) {
     list[1] = 5;
     blank();
     u32 got = qm_marks(list, listed, rows, MARKS * QM_MARK, told, QM_MARKS);
-    hold(got == 0 ? told[QM_MARKS_LIST] == 1 && untouched(rows + told[QM_MARKS_COUNT] * QM_MARK, sizeof rows - told[QM_MARKS_COUNT] * QM_MARK * 8) : got == QM_TOO_SHORT && untouched(rows, sizeof rows),
-         "numbers that are no message");
+    /* what is told here no model says: before it is a place, it must be one of what was lent */
+    u64 some = got == 0 ? told[QM_MARKS_COUNT] : 0;
+    hold(some <= MARKS, "qm_marks tells more marks than there is room for, of numbers that are no message");
+    hold(got == 0 ? told[QM_MARKS_LIST] == 1 : got == QM_TOO_SHORT && untouched(told, sizeof told), "qm_marks tells otherwise, of numbers that are no message");
+    if (some <= MARKS) hold(untouched(rows + some * QM_MARK, sizeof rows - some * QM_MARK * 8), "written behind the rows, of numbers that are no message");
 }
 
 /* ---- qm_pits */

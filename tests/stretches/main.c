@@ -47,11 +47,11 @@ static qm_size behind_number(int log, qm_size place, qm_u64 *number) {
     return place;
 }
 
-/* The place behind so many entries from a place on, at 0 behind the head too: each is sender, tick, length and as many bytes. */
+/* The place behind so many entries from a place on, at 0 behind the head too: each is sender, tick, length and as many bytes. The log's end where it has fewer. */
 static qm_size behind(int log, qm_size place, qm_u64 entries) {
     qm_u64 number;
     if (place == 0) place = log_bytes[log][0] == 1 ? 1 : behind_number(log, 1, &number);
-    for (; entries > 0; entries--) {
+    for (; entries > 0 && place < log_length[log]; entries--) {
         for (int i = 0; i < 3; i++) place = behind_number(log, place, &number);
         place += number;
     }
@@ -69,6 +69,10 @@ static qm_u64 fly(int log, qm_u64 most, struct map *m, qm_size tiles, qm_size pi
                                  m->tiles, tiles, m->pits, pits, m->sure, sure, m->had[0], m->had[1], m->had[2], told, QM_STRETCH + 1);
         hold(got == 0 && told[QM_STRETCH] == 77, "told beyond its numbers, or refused", log, most);
         for (int i = QM_ON_ENTRIES; i < QM_ON_TILES; i++) sum[i] += told[i];
+        /* what is told is read by below, and must be of what was lent */
+        int sound = told[QM_ON_TILES] <= tiles && told[QM_ON_PITS] <= pits && told[QM_ON_SURE] <= sure;
+        hold(sound, "told more tiles or pits than were lent", log, most);
+        if (!sound) return ~0ull;
         memcpy(m->had, told + QM_ON_TILES, sizeof m->had);
         place = behind(log, place, told[QM_ON_ENTRIES]);
         hold(told[QM_ON_PLACE] == place, "another place", log, most);
@@ -122,7 +126,7 @@ static void season(int logs) {
     /* one word too few: of tiles, of pits, of sure pits */
     for (int k = 0; k < 3; k++) {
         qm_size room[3] = {WORDS, WORDS, WORDS};
-        room[k] = one.had[k] - 1;
+        room[k] = one.had[k] > 0 ? one.had[k] - 1 : 0;
         empty(&other);
         qm_u64 why = QM_STOP_END;
         for (int i = 0; i < logs && why == QM_STOP_END; i++) {

@@ -1,15 +1,7 @@
 -- One block by its cases: its size, what it says, what is wrong with it. Assumes nothing.
-use mathlib.Core.Path.{_≡_, refl, ap, sym, _∙_}
-use mathlib.Core.Bool.{false}
-use mathlib.Core.List.{List}
-use Prim.Native.Nat.{ℕ, _+_, _-_, _*_, _%_, _^_, _≤_, _<_}
-use native.Mathlib.Omega.{arith}
-use native.Mathlib.Nat.{one-mul}
+use Rattle.wire.proofs.Basics.{_∙_, sym, _≡_, ap, refl, ℕ, _≤_, _+_, _<_, _-_, _*_, _^_, _%_, List, false, length, drop, getD, getD-drop, getD-take, eqb, eq-eqb, le-ltb, ne-eqb, lt-ltb, le-leb}
+use Rattle.wire.proofs.Basics.{lt-leb, one-mul, arith}
 use lib.Pow.{shl-exact, pow-pos}
-use lib.Dec.{eqb}
-use lib.ListN.{length, getD, drop}
-use lib.Seq.{getD-drop, getD-take}
-use borrow.Author.Tests.{eq-eqb, ne-eqb, lt-ltb, le-ltb, lt-leb, le-leb}
 use Rattle.wire.specs.Bytes.{be}
 use Rattle.wire.proofs.Choices.{pick-all}
 use Rattle.ack_blocks.specs.Limits.{largest, kindSingle, kindRun, kindMap, singleLength, runLength, mapHead}

@@ -1,12 +1,6 @@
 -- The walk over the blocks, a turn at a time. Assumes nothing.
-use mathlib.Core.Path.{_≡_, refl, ap, _∙_}
-use mathlib.Core.Bool.{Bool, true, false, _||_}
-use mathlib.Core.List.{List, [], _∷_}
-use Prim.Native.Nat.{ℕ, zero, suc, _+_, _-_, _≤_, _<_}
-use native.Mathlib.Omega.{arith}
-use lib.ListN.{length, drop, length-drop, drop-of-length-le}
-use lib.Seq.{drop-drop}
-use borrow.Author.Tests.{eq-eqb, ne-eqb, lt-ltb, le-ltb}
+use Rattle.wire.proofs.Basics.{_∙_, _≡_, ap, refl, ℕ, _≤_, _+_, _<_, _-_, suc, zero, List, [], _∷_, true, false, Bool, _||_, length, drop, length-drop, drop-of-length-le, drop-drop, eq-eqb, le-ltb}
+use Rattle.wire.proofs.Basics.{ne-eqb, lt-ltb, arith}
 use Rattle.wire.proofs.Choices.{or-false}
 use Rattle.ack_blocks.specs.Limits.{maxBlocks}
 use Rattle.ack_blocks.specs.Blocks.{Block, has, acknowledges}

@@ -1,6 +1,5 @@
 -- No second answer satisfies a contract of this crate. Assumes nothing.
-use mathlib.Core.Path.{_≡_, refl, ap, sym, _∙_}
-use mathlib.Core.Bool.{Bool, true, false}
+use Rattle.wire.proofs.Basics.{_∙_, sym, _≡_, ap, refl, true, false, Bool}
 use Rattle.wire.proofs.Once.{one-answer}
 use Rattle.ack_blocks.specs.Read.{Given, gives, refuses, answers}
 use Rattle.ack_blocks.specs.declared.Answer.{Answer}

@@ -1,8 +1,5 @@
 -- The largest number, worked out byte by byte. Assumes nothing.
-use mathlib.Core.Path.{_≡_, refl}
-use mathlib.Core.Bool.{true, false}
-use mathlib.Core.List.{List, [], _∷_, _++_}
-use Prim.Native.Nat.{ℕ}
+use Rattle.wire.proofs.Basics.{_≡_, refl, ℕ, List, [], _∷_, _++_, true, false}
 use Rattle.wire.specs.Bytes.{be}
 use Rattle.ack_blocks.specs.Limits.{largest}
 use Rattle.ack_blocks.specs.Read.{gives, refuses, asked, blocksWithin, faultIn, sizeIn, blockIn, mapFault}

@@ -1,10 +1,5 @@
 -- The line of a record by its cases. Assumes nothing.
-use mathlib.Core.Path.{_≡_, refl, ap, sym, _∙_, subst}
-use mathlib.Core.List.{List, [], _∷_, _++_}
-use Prim.Native.Nat.{ℕ, _/_, _%_, _≤_, _<_}
-use native.Mathlib.Omega.{arith}
-use lib.ListN.{length}
-use borrow.Author.Tests.{lt-ltb, le-ltb, eq-eqb, ne-eqb}
+use Rattle.wire.proofs.Basics.{_∙_, sym, _≡_, ap, refl, subst, ℕ, _≤_, _<_, _%_, _/_, List, [], _∷_, _++_, length, eq-eqb, le-ltb, ne-eqb, lt-ltb, arith}
 use Rattle.ack_blocks.specs.Limits.{maxBlocks}
 use Rattle.ack_blocks.specs.Read.{Given, refuses}
 use Rattle.ack_writer.specs.Write.{bytesOf, writtenOf, writes, WritesBlocks}

@@ -1,11 +1,5 @@
 -- What follows a number, and the block of a run, by their cases. Assumes nothing.
-use mathlib.Core.Path.{_≡_, refl, sym}
-use mathlib.Core.Bool.{Bool, true, false}
-use Prim.Native.Nat.{ℕ, _+_, _-_}
-use native.Mathlib.Omega.{arith}
-use lib.Dec.{eqb}
-use lib.ListN.{length, length-append}
-use borrow.Author.Tests.{eq-eqb, ne-eqb, eqb-true, eqb-false}
+use Rattle.wire.proofs.Basics.{sym, _≡_, refl, ℕ, _+_, _-_, true, false, Bool, length, length-append, eqb, eq-eqb, ne-eqb, eqb-true, eqb-false, arith}
 use Rattle.wire.proofs.Numbers.{length-bytes}
 use Rattle.ack_blocks.specs.Limits.{singleLength, runLength}
 use Rattle.ack_blocks.specs.Blocks.{single, run, blockBytes}

@@ -1,11 +1,5 @@
 -- One pass over the list, a turn at a time: what is laid and what is left are the whole. Assumes nothing.
-use mathlib.Core.Path.{_≡_, refl, ap, sym, _∙_}
-use mathlib.Core.Bool.{Bool, true, false, _&&_}
-use mathlib.Core.List.{List}
-use Prim.Native.Nat.{ℕ, _+_, _≤_, _<_}
-use native.Mathlib.Omega.{arith}
-use native.Mathlib.Decide.{decLe}
-use lib.ListN.{length, getD, take, drop, length-take, drop-of-length-le}
+use Rattle.wire.proofs.Basics.{_∙_, sym, _≡_, ap, refl, ℕ, _≤_, _+_, _<_, List, true, false, Bool, _&&_, length, drop, getD, take, length-take, drop-of-length-le, decLe, arith}
 use Rattle.wire.specs.Overlay.{overlay}
 use Rattle.wire.proofs.Overlays.{overlay-nil, overlay-at, length-overlay}
 use Rattle.ack_blocks.specs.Limits.{maxBlocks}

@@ -1,7 +1,5 @@
 -- No second answer satisfies a contract of this crate. Assumes nothing.
-use mathlib.Core.Path.{_≡_, refl, ap, sym, _∙_}
-use mathlib.Core.List.{List}
-use Prim.Native.Nat.{ℕ}
+use Rattle.wire.proofs.Basics.{_∙_, sym, _≡_, ap, refl, ℕ, List}
 use Rattle.wire.proofs.Once.{one-answer}
 use Rattle.ack_blocks.specs.Read.{Given, gives, refuses}
 use Rattle.ack_writer.specs.Write.{writes, WritesBlocks}

@@ -1,14 +1,6 @@
 -- No shorter output of singles and runs acknowledges the numbers of a rising list and no others. Assumes nothing.
-use mathlib.Core.Path.{_≡_, refl, ap, sym, _∙_}
-use mathlib.Core.Logic.{⊎-elim}
-use mathlib.Core.Bool.{Bool, true, false, _&&_, _||_}
-use mathlib.Core.List.{List, [], _∷_}
-use Prim.Native.Nat.{ℕ, _+_, _-_, _≤_, _<_}
-use native.Mathlib.Omega.{arith}
-use native.Mathlib.Decide.{decLe}
-use lib.Dec.{eqb, ltb, leb}
-use lib.ListN.{length, length-append}
-use borrow.Author.Tests.{eqb-true, eqb-false, ltb-true, leb-true, le-leb, lt-leb, lt-ltb, le-ltb, ne-eqb}
+use Rattle.wire.proofs.Basics.{_∙_, sym, _≡_, ap, refl, ℕ, _≤_, _+_, _<_, _-_, List, [], _∷_, true, false, Bool, _&&_, _||_, ⊎-elim, length, length-append, eqb, ltb, leb, le-ltb, ne-eqb, lt-ltb}
+use Rattle.wire.proofs.Basics.{eqb-true, le-leb, ltb-true, lt-leb, eqb-false, leb-true, decLe, arith}
 use Rattle.wire.specs.Choice.{pick}
 use Rattle.wire.proofs.Choices.{either, never, and-l, and-r, or-l, or-r, pick-all}
 use Rattle.ack_blocks.specs.Blocks.{Block, single, run, map, between, has, acknowledges, blockBytes, laid}

@@ -1,14 +1,6 @@
 -- What is written acknowledges the numbers of the list and no others. Assumes nothing.
-use mathlib.Core.Path.{_≡_, refl, ap, sym, _∙_}
-use mathlib.Core.Bool.{Bool, true, false, _||_}
-use mathlib.Core.List.{List, [], _∷_, _++_, append-assoc}
-use Prim.Native.Nat.{ℕ, suc, _+_, _≤_, _<_}
-use native.Mathlib.Omega.{arith}
-use native.Mathlib.Decide.{decLe}
-use lib.Dec.{eqb}
-use lib.ListN.{length, getD, take, drop, length-append}
-use lib.Seq.{take-at, drop-at}
-use borrow.Author.Tests.{eq-eqb, ne-eqb, eqb-true, le-ltb, lt-leb, le-leb}
+use Rattle.wire.proofs.Basics.{_∙_, sym, _≡_, ap, refl, ℕ, _≤_, _+_, _<_, suc, List, [], _∷_, _++_, append-assoc, true, false, Bool, _||_, length, drop, getD, take, length-append, drop-at, take-at}
+use Rattle.wire.proofs.Basics.{eqb, eq-eqb, le-ltb, ne-eqb, eqb-true, le-leb, lt-leb, decLe, arith}
 use Rattle.wire.specs.Choice.{pick}
 use Rattle.wire.specs.Bytes.{be, bytes}
 use Rattle.wire.proofs.Choices.{pick-all}

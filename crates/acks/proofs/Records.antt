@@ -1,9 +1,5 @@
 -- A record's answer by its cases. Assumes nothing.
-use mathlib.Core.Path.{_≡_}
-use mathlib.Core.List.{List}
-use Prim.Native.Nat.{ℕ, _≤_, _<_}
-use lib.ListN.{length, drop}
-use borrow.Author.Tests.{lt-ltb, le-ltb}
+use Rattle.wire.proofs.Basics.{_≡_, ℕ, _≤_, _<_, List, length, drop, le-ltb, lt-ltb}
 use Rattle.wire.specs.Bytes.{be}
 use Rattle.ack_blocks.specs.Read.{refuses, asked}
 use Rattle.acks.specs.Lines.{numberLength, recordAnswer}

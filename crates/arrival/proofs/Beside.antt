@@ -1,13 +1,6 @@
 -- One message in its slot, and what a call or a forgetting beside it leaves of it.
-use mathlib.Core.Path.{_≡_, refl, sym, ap, _∙_, subst}
-use mathlib.Core.Logic.{_≢_, inl, inr}
-use mathlib.Core.Bool.{Bool, true, false}
-use mathlib.Core.List.{List}
-use Prim.Native.Nat.{ℕ, suc, _+_, _*_, _≤_, _<_, suc-le-suc}
-use native.Mathlib.Nat.{le-trans, le-of-eq}
-use native.Mathlib.Omega.{arith}
-use lib.ListN.{length, set, length-set}
-use lib.Seq.{getD-set-other}
+use Rattle.wire.proofs.Basics.{_∙_, sym, _≡_, ap, refl, subst, ℕ, _≤_, _+_, _<_, suc, _*_, suc-le-suc, List, true, false, Bool, inl, inr, _≢_, length, set, length-set, getD-set-other, le-trans, arith}
+use native.Mathlib.Nat.{le-of-eq}
 use Rattle.wire.proofs.Choices.{either, never}
 use Rattle.datagram.specs.Limits.{maxFragments}
 use Rattle.datagram.specs.Said.{Fragment}

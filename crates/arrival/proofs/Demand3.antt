@@ -1,13 +1,5 @@
 -- DEMAND 3, proved.
-use mathlib.Core.Path.{_≡_, refl, sym, ap, _∙_, subst}
-use mathlib.Core.Logic.{inl, inr}
-use mathlib.Core.Bool.{Bool, true}
-use mathlib.Core.Option.{Option, none, some, Option·map}
-use mathlib.Core.List.{List, [], _∷_, map}
-use Prim.Native.Nat.{ℕ, _+_, _<_}
-use native.Mathlib.Decide.{ℕ-discrete}
-use lib.Dec.{eqb}
-use borrow.Author.Tests.{eq-eqb, ne-eqb}
+use Rattle.wire.proofs.Basics.{_∙_, sym, _≡_, ap, refl, subst, ℕ, _+_, _<_, List, [], _∷_, map, true, Bool, inl, inr, some, none, Option, Option·map, eqb, eq-eqb, ne-eqb, ℕ-discrete}
 use Rattle.wire.proofs.Choices.{never, either}
 use Rattle.steps.specs.Search.{one}
 use Rattle.steps.specs.Memory.{sameKey, rememberAll}

@@ -1,16 +1,7 @@
 -- One message and the slot that it is joined in. Nothing here supposes anything of the other slots or of what else arrives.
-use mathlib.Core.Path.{_≡_, refl, sym, ap, _∙_, subst}
-use mathlib.Core.Logic.{_≢_, inl, inr}
-use mathlib.Core.Bool.{Bool, true, false, not, _&&_, _||_}
-use mathlib.Core.List.{List}
-use Prim.Native.Nat.{ℕ, suc, _+_, _*_, _≤_, _<_}
+use Rattle.wire.proofs.Basics.{_∙_, sym, _≡_, ap, refl, subst, ℕ, _≤_, _+_, _<_, suc, _*_, List, true, false, Bool, _&&_, _||_, not, inl, inr, _≢_, length, drop, getD, take, length-drop}
+use Rattle.wire.proofs.Basics.{length-take-le, getD-drop, getD-take, ext-getD, eqb, eq-eqb, le-ltb, ne-eqb, lt-ltb, le-leb, ℕ-discrete, decLe, arith}
 use native.Mathlib.Nat.{add-assoc}
-use native.Mathlib.Omega.{arith}
-use native.Mathlib.Decide.{decLe, ℕ-discrete}
-use lib.Dec.{eqb}
-use lib.ListN.{length, getD, take, drop, length-drop}
-use lib.Seq.{ext-getD, getD-take, getD-drop, length-take-le}
-use borrow.Author.Tests.{eq-eqb, ne-eqb, lt-ltb, le-ltb, le-leb}
 use Rattle.wire.specs.Choice.{pick}
 use Rattle.wire.specs.Same.{same}
 use Rattle.wire.proofs.Choices.{either, never, and-of}

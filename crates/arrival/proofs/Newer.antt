@@ -1,16 +1,7 @@
 -- How many open slots were opened after a given one: by that number the promise with strangers about counts.
-use mathlib.Core.Path.{_≡_, refl, sym, ap, _∙_, subst}
-use mathlib.Core.Logic.{_≢_, inl, inr}
-use mathlib.Core.Bool.{Bool, true, false, _&&_}
-use mathlib.Core.List.{List}
-use Prim.Native.Nat.{ℕ, suc, _≤_, _<_}
-use native.Mathlib.Nat.{le-refl, le-of-eq}
-use native.Mathlib.Omega.{arith}
-use native.Mathlib.Decide.{ℕ-discrete}
-use lib.Dec.{ltb}
-use lib.ListN.{length, set}
-use lib.Seq.{getD-set-other}
-use borrow.Author.Tests.{lt-ltb, le-ltb, ltb-true}
+use Rattle.wire.proofs.Basics.{_∙_, sym, _≡_, ap, refl, subst, ℕ, _≤_, _<_, suc, List, true, false, Bool, _&&_, inl, inr, _≢_, length, set, getD-set-other, ltb, le-ltb, lt-ltb, ltb-true, le-refl}
+use Rattle.wire.proofs.Basics.{ℕ-discrete, arith}
+use native.Mathlib.Nat.{le-of-eq}
 use Rattle.wire.proofs.Choices.{either, never, and-l, and-r, and-of}
 use Rattle.datagram.specs.Said.{Fragment}
 use Rattle.steps.specs.Limits.{slotCount}

@@ -1,17 +1,7 @@
 -- The invariant between the receiver and the feed, and that every arrival keeps it and is answered as demanded.
-use mathlib.Core.Path.{_≡_, refl, sym, ap, _∙_, subst}
-use mathlib.Core.Logic.{inl, inr}
-use mathlib.Core.Bool.{Bool, true, false, not, _&&_}
-use mathlib.Core.Option.{Option, none, some, Option·map}
-use mathlib.Core.List.{List, [], _∷_, _++_, append-nil}
-use Prim.Native.Nat.{ℕ, zero, suc, _+_, _-_, _*_, _≤_, _<_}
+use Rattle.wire.proofs.Basics.{_∙_, sym, _≡_, ap, refl, subst, ℕ, _≤_, _+_, _<_, _-_, suc, zero, _*_, List, [], _∷_, _++_, append-nil, true, false, Bool, _&&_, not, inl, inr, some, none, Option}
+use Rattle.wire.proofs.Basics.{Option·map, length, drop, take, set, replicate, length-replicate, getD-replicate, take-length, take-append-seam, eqb, eq-eqb, le-leb, ℕ-discrete, arith}
 use native.Mathlib.Nat.{suc-inj}
-use native.Mathlib.Omega.{arith}
-use native.Mathlib.Decide.{ℕ-discrete}
-use lib.Dec.{eqb}
-use lib.ListN.{length, set, take, drop, replicate, length-replicate, getD-replicate}
-use lib.Seq.{take-length, take-append-seam}
-use borrow.Author.Tests.{eq-eqb, le-leb}
 use Rattle.wire.specs.Choice.{pick}
 use Rattle.wire.proofs.Choices.{either, never, and-five}
 use Rattle.datagram.specs.Limits.{maxFragments, maxName, maxPayload}

@@ -1,13 +1,6 @@
 -- A message that is lawfully cut: its fragments lie side by side and make up its payload.
-use mathlib.Core.Path.{_≡_, refl, sym, ap, _∙_, subst}
-use mathlib.Core.List.{List, [], _++_}
-use Prim.Native.Nat.{ℕ, zero, suc, _+_, _≤_, _<_}
-use native.Mathlib.Nat.{le-refl, not-suc-le-zero}
-use native.Mathlib.Numerals.{add-one}
-use native.Mathlib.Omega.{arith}
-use native.Mathlib.Decide.{ℕ-discrete}
-use lib.ListN.{length, getD, take, drop, length-append, length-drop}
-use lib.Seq.{ext-getD, getD-take, getD-drop, length-take-le, take-add, take-length}
+use Rattle.wire.proofs.Basics.{_∙_, sym, _≡_, ap, refl, subst, ℕ, _≤_, _+_, _<_, suc, zero, List, [], _++_, length, drop, getD, take, length-append, length-drop, length-take-le, getD-drop, getD-take}
+use Rattle.wire.proofs.Basics.{take-add, take-length, ext-getD, not-suc-le-zero, le-refl, ℕ-discrete, add-one, arith}
 use Rattle.datagram.specs.Limits.{maxPayload, maxFragments}
 use Rattle.datagram.specs.Said.{Fragment, Said, refused, small, fragment, said}
 use Rattle.datagram.specs.Lawful.{LawfullyCut}

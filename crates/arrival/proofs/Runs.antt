@@ -1,10 +1,6 @@
 -- A run of calls is a run of `step`: demand 3 for the code.
-use mathlib.Core.Path.{_≡_, refl, sym, ap, _∙_, subst}
-use mathlib.Core.Bool.{Bool, true, false}
-use mathlib.Core.Option.{Option, none, some, Option·some-ne-none}
-use mathlib.Core.List.{List}
-use Prim.Native.Nat.{ℕ}
-use lib.ListN.{length}
+use Rattle.wire.proofs.Basics.{_∙_, sym, _≡_, ap, refl, subst, ℕ, List, true, false, Bool, some, none, Option, length}
+use mathlib.Core.Option.{Option·some-ne-none}
 use Rattle.wire.specs.Choice.{pick}
 use Rattle.steps.specs.Receive.{After, opened, step}
 use Rattle.steps.specs.Answers.{reply}

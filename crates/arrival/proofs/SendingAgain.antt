@@ -1,9 +1,5 @@
 -- A message whose key is neither open nor remembered is accepted, and so promised: an emptied message that is sent again is delivered.
-use mathlib.Core.Path.{_≡_, refl, sym, ap, _∙_, subst}
-use mathlib.Core.Bool.{true, false}
-use mathlib.Core.Option.{Option, none, some}
-use Prim.Native.Nat.{ℕ}
-use lib.ListN.{length}
+use Rattle.wire.proofs.Basics.{_∙_, sym, _≡_, ap, refl, subst, ℕ, true, false, some, none, Option, length}
 use Rattle.wire.proofs.Choices.{never}
 use Rattle.datagram.specs.Limits.{maxFragments}
 use Rattle.datagram.specs.Said.{Fragment, said}

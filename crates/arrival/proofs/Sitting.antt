@@ -1,12 +1,6 @@
 -- The slots against the messages that are open: the invariant, and the one way in which it moves.
-use mathlib.Core.Path.{_≡_, refl, sym, ap, _∙_, subst}
-use mathlib.Core.Logic.{_≢_}
-use mathlib.Core.Bool.{Bool, true, false}
-use mathlib.Core.List.{List}
-use Prim.Native.Nat.{ℕ, suc, _+_, _*_, _<_}
+use Rattle.wire.proofs.Basics.{_∙_, sym, _≡_, ap, refl, subst, ℕ, _+_, _<_, suc, _*_, List, true, false, Bool, _≢_, length, getD, ℕ-discrete}
 use native.Mathlib.Nat.{suc-inj}
-use native.Mathlib.Decide.{ℕ-discrete}
-use lib.ListN.{length, getD}
 use Rattle.datagram.specs.Limits.{maxFragments}
 use Rattle.steps.specs.Limits.{slotCount, ledgerLength}
 use Rattle.steps.specs.Search.{count}

@@ -1,16 +1,7 @@
 -- L12, proved: its first fragment, then the run.
-use mathlib.Core.Path.{_≡_, refl, sym, ap, _∙_, subst}
-use mathlib.Core.Logic.{inl, inr}
-use mathlib.Core.Bool.{Bool, true, false, not, _||_}
-use mathlib.Core.Option.{Option, none, some}
-use mathlib.Core.List.{List}
-use Prim.Native.Nat.{ℕ, _+_, _*_, _≤_, _<_}
-use native.Mathlib.Nat.{le-trans, le-of-eq}
-use native.Mathlib.Omega.{arith}
-use native.Mathlib.Decide.{ℕ-discrete}
-use lib.Dec.{eqb}
-use lib.ListN.{length, set}
-use borrow.Author.Tests.{eqb-true, eqb-false, eq-eqb, ne-eqb}
+use Rattle.wire.proofs.Basics.{_∙_, sym, _≡_, ap, refl, subst, ℕ, _≤_, _+_, _<_, _*_, List, true, false, Bool, _||_, not, inl, inr, some, none, Option, length, set, eqb, eq-eqb, ne-eqb, eqb-true}
+use Rattle.wire.proofs.Basics.{eqb-false, le-trans, ℕ-discrete, arith}
+use native.Mathlib.Nat.{le-of-eq}
 use Rattle.wire.specs.Same.{same}
 use Rattle.wire.proofs.Choices.{either, never, and-l, and-r, and-of, or-of-right}
 use Rattle.wire.proofs.Parts.{same-refl, same-true}

@@ -1,8 +1,5 @@
 -- The promise with strangers about, for calls of the code: each is the step list's, by its contract.
-use mathlib.Core.Path.{_≡_, refl, sym, ap, _∙_, subst}
-use mathlib.Core.Bool.{Bool, true}
-use mathlib.Core.List.{List}
-use Prim.Native.Nat.{ℕ}
+use Rattle.wire.proofs.Basics.{_∙_, sym, _≡_, ap, refl, subst, ℕ, List, true, Bool}
 use Rattle.wire.specs.Choice.{pick}
 use Rattle.steps.specs.Receive.{After, opened, step, stepWithin, forget}
 use Rattle.steps.proofs.Limited.{within-reached}

@@ -1,14 +1,6 @@
 -- The premises of demand 3 as tests that compute, and that a scene and a feed that pass them meet the premises.
-use mathlib.Core.Path.{_≡_, refl, sym, ap, _∙_, subst}
-use mathlib.Core.Logic.{inl, inr}
-use mathlib.Core.Bool.{Bool, true, false, not, _&&_, _||_}
-use mathlib.Core.List.{List, [], _∷_, map}
-use Prim.Native.Nat.{ℕ, _+_, _<_}
-use native.Mathlib.Omega.{arith}
-use native.Mathlib.Decide.{decLe, ℕ-discrete}
-use lib.Dec.{eqb, leb, ltb}
-use lib.ListN.{length}
-use borrow.Author.Tests.{ltb-true, leb-true, eqb-true, lt-ltb}
+use Rattle.wire.proofs.Basics.{_∙_, sym, _≡_, ap, refl, subst, ℕ, _+_, _<_, List, [], _∷_, map, true, false, Bool, _&&_, _||_, not, inl, inr, length, eqb, ltb, leb, lt-ltb, eqb-true, ltb-true}
+use Rattle.wire.proofs.Basics.{leb-true, ℕ-discrete, decLe, arith}
 use Rattle.wire.specs.Choice.{pick}
 use Rattle.wire.specs.Same.{same}
 use Rattle.wire.proofs.Choices.{either, never, and-l, and-r}

@@ -1,16 +1,6 @@
 -- What an arrival does to the book-keeping of a feed: what has come, what is done, in which order. Nothing here knows of the receiver.
-use mathlib.Core.Path.{_≡_, refl, sym, ap, _∙_, subst}
-use mathlib.Core.Logic.{_≢_, inl, inr}
-use mathlib.Core.Bool.{Bool, true, false, not, _&&_, _||_, or-true}
-use mathlib.Core.Option.{Option, none, some}
-use mathlib.Core.List.{List, [], _∷_, map}
-use Prim.Native.Nat.{ℕ, zero, suc, _+_, _≤_, _<_}
-use native.Mathlib.Nat.{not-suc-le-zero, le-of-suc-le-suc}
-use native.Mathlib.Omega.{arith}
-use native.Mathlib.Decide.{ℕ-discrete}
-use lib.Dec.{eqb}
-use lib.ListN.{length, getD}
-use borrow.Author.Tests.{eq-eqb, ne-eqb}
+use Rattle.wire.proofs.Basics.{_∙_, sym, _≡_, ap, refl, subst, ℕ, _≤_, _+_, _<_, suc, zero, List, [], _∷_, map, true, false, Bool, _&&_, _||_, not, or-true, inl, inr, _≢_, some, none, Option, length}
+use Rattle.wire.proofs.Basics.{getD, eqb, eq-eqb, ne-eqb, not-suc-le-zero, le-of-suc-le-suc, ℕ-discrete, arith}
 use Rattle.wire.specs.Choice.{pick}
 use Rattle.wire.proofs.Choices.{either, never, or-of-right}
 use Rattle.steps.specs.declared.Key.{Key}

@@ -1,16 +1,7 @@
 -- While a fragment of the message is missing: what every call, its own and any other, and every forgetting leave of it.
-use mathlib.Core.Path.{_≡_, refl, sym, ap, _∙_, subst}
-use mathlib.Core.Logic.{_≢_, inl, inr}
-use mathlib.Core.Bool.{Bool, true, false, not, _&&_, _||_}
-use mathlib.Core.Option.{Option, none, some}
-use mathlib.Core.List.{List}
-use Prim.Native.Nat.{ℕ, suc, _+_, _*_, _≤_, _<_}
-use native.Mathlib.Nat.{le-trans, le-of-eq}
-use native.Mathlib.Omega.{arith}
-use native.Mathlib.Decide.{ℕ-discrete}
-use lib.Dec.{eqb}
-use lib.ListN.{length, set, take, drop}
-use borrow.Author.Tests.{eq-eqb, ne-eqb}
+use Rattle.wire.proofs.Basics.{_∙_, sym, _≡_, ap, refl, subst, ℕ, _≤_, _+_, _<_, suc, _*_, List, true, false, Bool, _&&_, _||_, not, inl, inr, _≢_, some, none, Option, length, drop, take, set, eqb}
+use Rattle.wire.proofs.Basics.{eq-eqb, ne-eqb, le-trans, ℕ-discrete, arith}
+use native.Mathlib.Nat.{le-of-eq}
 use Rattle.wire.proofs.Choices.{either, never, and-of}
 use Rattle.wire.proofs.Overlays.{length-overlay}
 use Rattle.datagram.specs.Limits.{maxFragments}

@@ -1,14 +1,6 @@
 -- Messages fed whole, one after another, are a fair feed too, and are completed in that order.
-use mathlib.Core.Path.{_≡_, refl, sym, ap, _∙_, subst}
-use mathlib.Core.Logic.{_≢_}
-use mathlib.Core.Bool.{Bool, true, false, not, _&&_, _||_}
-use mathlib.Core.List.{List, [], _∷_}
-use Prim.Native.Nat.{ℕ, zero, suc, _<_, zero-le}
-use native.Mathlib.Nat.{le-refl, le-trans}
-use native.Mathlib.Omega.{arith}
-use native.Mathlib.Decide.{decLe, ℕ-discrete}
-use lib.Dec.{eqb, ltb}
-use borrow.Author.Tests.{eq-eqb, ne-eqb, lt-ltb, le-ltb}
+use Rattle.wire.proofs.Basics.{_∙_, sym, _≡_, ap, refl, subst, ℕ, _<_, suc, zero, zero-le, List, [], _∷_, true, false, Bool, _&&_, _||_, not, _≢_, eqb, ltb, eq-eqb, le-ltb, ne-eqb, lt-ltb, le-refl}
+use Rattle.wire.proofs.Basics.{le-trans, ℕ-discrete, decLe, arith}
 use Rattle.wire.proofs.Choices.{never}
 use Rattle.steps.specs.Search.{one}
 use Rattle.steps.proofs.Tables.{or-not, or-yes, all-of, all-not, count-one}

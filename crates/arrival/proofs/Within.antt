@@ -1,12 +1,5 @@
 -- A reader with another limit for payloads reads the same, where the payload is within both.
-use mathlib.Core.Path.{_≡_, refl, sym, ap, subst}
-use mathlib.Core.Bool.{Bool, true, false, _||_}
-use mathlib.Core.List.{List}
-use Prim.Native.Nat.{ℕ, _+_, _≤_}
-use native.Mathlib.Omega.{arith}
-use lib.Dec.{eqb, leb, ltb}
-use lib.ListN.{length, drop}
-use borrow.Author.Tests.{le-ltb}
+use Rattle.wire.proofs.Basics.{sym, _≡_, ap, refl, subst, ℕ, _≤_, _+_, List, true, false, Bool, _||_, length, drop, eqb, ltb, leb, le-ltb, arith}
 use Rattle.wire.specs.Choice.{pick}
 use Rattle.wire.proofs.Choices.{never, pick-all}
 use Rattle.datagram.specs.Limits.{maxDatagram}

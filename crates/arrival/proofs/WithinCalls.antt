@@ -1,6 +1,5 @@
 -- A call of `receive_within` whose limits let the datagram through is a call of `receive`; one that refuses leaves all as it was.
-use mathlib.Core.Path.{_≡_, ap, subst}
-use Prim.Native.Nat.{ℕ}
+use Rattle.wire.proofs.Basics.{_≡_, ap, subst, ℕ}
 use Rattle.wire.specs.Choice.{pick}
 use Rattle.steps.specs.declared.Answer.the-variants.{Refused}
 use Rattle.steps.specs.Receive.{After, stay}

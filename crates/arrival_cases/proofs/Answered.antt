@@ -1,9 +1,5 @@
 -- The answers themselves, computed: place, length and name of what is delivered, what store and ledger then hold, and who is remembered.
-use mathlib.Core.Path.{_≡_, refl, _∙_}
-use mathlib.Core.Bool.{true, false}
-use mathlib.Core.List.{List, [], _∷_, map}
-use Prim.Native.Nat.{ℕ}
-use lib.ListN.{length-replicate}
+use Rattle.wire.proofs.Basics.{_∙_, _≡_, refl, ℕ, List, [], _∷_, map, true, false, length-replicate}
 use Rattle.wire.specs.Bytes.{be}
 use Rattle.wire.specs.Overlay.{overlay}
 use Rattle.names.specs.Name.{goodName}

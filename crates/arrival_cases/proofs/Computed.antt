@@ -1,10 +1,7 @@
 -- The statement of demand 3 held to worked feeds, by computation and without the theorem: what it promises of the paper's B, A, B is so,
 -- and its premises shut out the feeds that break it.
-use mathlib.Core.Path.{_≡_, refl, ap, _∙_}
-use mathlib.Core.List.{[], _∷_, zipWith}
-use Prim.Native.Nat.{ℕ, _≤_, _<_}
-use native.Mathlib.Omega.{arith}
-use lib.Dec.{lit<}
+use Rattle.wire.proofs.Basics.{_∙_, _≡_, ap, refl, ℕ, _≤_, _<_, [], _∷_, lit<, arith}
+use mathlib.Core.List.{zipWith}
 use Rattle.wire.specs.Bytes.{be}
 use Rattle.wire.specs.Overlay.{overlay}
 use Rattle.names.specs.Name.{goodName}

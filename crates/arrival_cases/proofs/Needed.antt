@@ -1,9 +1,6 @@
 -- Each premise of demand 3 is needed: a scene and a feed that pass every other test, and of which the promise does not hold. All by computation.
-use mathlib.Core.Path.{_≡_, refl}
-use mathlib.Core.Bool.{true, false}
-use mathlib.Core.Option.{Option, none, some, Option·none-ne-some, Option·some-ne-none}
-use mathlib.Core.List.{[], _∷_}
-use lib.Dec.{lit<}
+use Rattle.wire.proofs.Basics.{_≡_, refl, [], _∷_, true, false, some, none, Option, lit<}
+use mathlib.Core.Option.{Option·none-ne-some, Option·some-ne-none}
 use Rattle.wire.specs.Bytes.{be}
 use Rattle.wire.specs.Overlay.{overlay}
 use Rattle.wire.proofs.Choices.{never}

@@ -1,7 +1,6 @@
 -- The step list's worked cases of many messages, computed in one statement; slot sizes, and what is remembered and forgotten, in two more.
-use mathlib.Core.Path.{_≡_, refl, _∙_}
-use mathlib.Core.Bool.{true, false}
-use mathlib.Core.List.{[], _∷_, map, zipWith}
+use Rattle.wire.proofs.Basics.{_∙_, _≡_, refl, [], _∷_, map, true, false}
+use mathlib.Core.List.{zipWith}
 use Rattle.wire.specs.Bytes.{be}
 use Rattle.wire.specs.Overlay.{overlay}
 use Rattle.names.specs.Name.{goodName}

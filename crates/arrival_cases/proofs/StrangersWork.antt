@@ -1,12 +1,5 @@
 -- The premises of the promise with strangers about: met by worked feeds, and each needed. All by computation.
-use mathlib.Core.Path.{_≡_, refl, ap}
-use mathlib.Core.Bool.{Bool, true, false, not}
-use mathlib.Core.Option.{some}
-use mathlib.Core.List.{List, [], _∷_, map}
-use Prim.Native.Nat.{ℕ, _≤_, _<_}
-use native.Mathlib.Omega.{arith}
-use lib.Dec.{lit<}
-use lib.ListN.{length, getD}
+use Rattle.wire.proofs.Basics.{_≡_, ap, refl, ℕ, _≤_, _<_, List, [], _∷_, map, true, false, Bool, not, some, length, getD, lit<, ltb-true, arith}
 use Rattle.wire.specs.Bytes.{be}
 use Rattle.wire.specs.Overlay.{overlay}
 use Rattle.names.specs.Name.{goodName}
@@ -22,7 +15,6 @@ use Rattle.steps.specs.Limits.{ledgerLength, slotSizeOf}
 use Rattle.steps.specs.Answers.{emptiedKey}
 use Rattle.steps.specs.Reach.{Reached, opens, receives, forgets, isOpen, isAccepted, opensSlot}
 use Rattle.steps.specs.Worked.{inFours, A-of, B-of, begunBelow}
-use borrow.Author.Tests.{ltb-true}
 use Rattle.steps.proofs.Tables.{not-true}
 use Rattle.steps.proofs.Reaches.{reached-in-order}
 use Rattle.arrival.specs.Demand.{InFragments, key, parts}

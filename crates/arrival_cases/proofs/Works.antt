@@ -1,8 +1,5 @@
 -- The premises of demand 3 can be met: worked scenes and feeds that meet them, by computation.
-use mathlib.Core.Path.{_≡_, refl}
-use mathlib.Core.Bool.{false}
-use mathlib.Core.Option.{none}
-use lib.Dec.{lit<}
+use Rattle.wire.proofs.Basics.{_≡_, refl, false, none, lit<}
 use Rattle.wire.specs.Bytes.{be}
 use Rattle.names.specs.Name.{goodName}
 use Rattle.datagram.specs.Name.{untilZero, nameLength}

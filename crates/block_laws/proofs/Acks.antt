@@ -1,18 +1,13 @@
 -- Acknowledge blocks and their bytes determine each other. Assumes nothing.
-use mathlib.Core.Path.{_≡_, refl, sym, ap, _∙_, subst}
-use mathlib.Core.Bool.{Bool, true, false, _||_}
-use mathlib.Core.List.{List, [], _∷_, _++_, append-assoc}
-use Prim.Native.Nat.{ℕ, zero, suc, _+_, _-_, _*_, _/_, _%_, _^_, _≤_, _<_}
-use native.Mathlib.Omega.{arith}
-use native.Mathlib.Decide.{ℕ-discrete}
-use lib.Dec.{eqb, ltb}
-use lib.ListN.{length, getD, take, drop, length-append, length-drop, take-append-drop, List·getD-append}
-use lib.Seq.{take-at, drop-at, take-add, getD-drop, getD-append-add, length-take-le}
-use borrow.Author.Tests.{eq-eqb, ne-eqb, eqb-true, ltb-false}
+use Rattle.wire.proofs.Basics.{_∙_, sym, _≡_, ap, refl, subst, ℕ, _≤_, _+_, _<_, _-_, suc, zero, _*_, _^_, _%_, _/_, List, [], _∷_, _++_, append-assoc, true, false, Bool, _||_, length, drop, getD}
+use Rattle.wire.proofs.Basics.{take, length-append, length-drop, take-append-drop, length-take-le, drop-at, getD-drop, take-at, take-add, eqb, ltb, eq-eqb, ne-eqb, eqb-true, ltb-false, ℕ-discrete}
+use Rattle.wire.proofs.Basics.{arith}
+use lib.ListN.{List·getD-append}
+use lib.Seq.{getD-append-add}
 use Rattle.wire.specs.Choice.{pick}
 use Rattle.wire.specs.Bytes.{be, bytes, Bytes}
 use Rattle.wire.proofs.Choices.{never, or-l, or-r}
-use Rattle.wire.proofs.Numbers.{be-bytes, bytes-be, be-lt, length-bytes, drop-bytes}
+use Rattle.wire.proofs.Numbers.{be-bytes, bytes-be, be-lt, length-bytes, drop-bytes, take-bytes}
 use Rattle.ack_blocks.specs.Limits.{largest, kindSingle, kindRun, kindMap, mapHead}
 use Rattle.ack_blocks.specs.Blocks.{Block, single, run, map, bitOf, blockBytes, laid}
 use Rattle.ack_blocks.specs.Read.{Given, gives, refuses, kindIn, firstIn, lastIn, bitsIn, mapBytes, mapIn, sizeIn, blockIn, runFault, padding, mapFault, faultIn, before, blocksWithin, blocksIn, told}
@@ -169,12 +164,6 @@ fine b e = go (ltb kindMap (kindIn b)) refl (ltb (length b) (sizeIn b)) refl e
           subst (λ (t : Bool). _≡_ {A = ℕ} (pick t (mapFault b) 0) 0) (eq-eqb (kindIn b) kindMap k)
           (subst (λ (t : Bool). _≡_ {A = ℕ} (pick t (runFault b) (pick (eqb (kindIn b) kindMap) (mapFault b) 0)) 0) (ne-eqb (kindIn b) kindRun (λ r. let z : ⊥ = omega arith in z)) f);
     }
-
-take-bytes : (k : ℕ) (l : List ℕ) → Bytes l → Bytes (take k l)
-take-bytes zero l h i = omega arith
-take-bytes (suc k) [] h i = omega arith
-take-bytes (suc k) (x ∷ l) h zero = h 0
-take-bytes (suc k) (x ∷ l) h (suc i) = take-bytes k l (λ j. h (suc j)) i
 
 record Front (b : List ℕ) : Type 0 where
   written : blockBytes (blockIn b) ≡ take (sizeIn b) b

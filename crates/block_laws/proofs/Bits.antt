@@ -1,9 +1,5 @@
 -- The low bits of a number: it is a multiple of a power of two exactly when they are 0. Assumes nothing.
-use mathlib.Core.Path.{_≡_, sym, ap, _∙_}
-use Prim.Native.Nat.{ℕ, zero, suc, _+_, _*_, _/_, _%_, _^_, _<_}
-use native.Mathlib.Nat.{one-mul, zero-mul}
-use native.Mathlib.Omega.{arith}
-use native.Mathlib.Decide.{ℕ-discrete}
+use Rattle.wire.proofs.Basics.{_∙_, sym, _≡_, ap, ℕ, _+_, _<_, suc, zero, _*_, _^_, _%_, _/_, one-mul, zero-mul, ℕ-discrete, arith}
 use lib.Pow.{mod-pow-add, pow-pos}
 
 -- one bit more

@@ -1,10 +1,5 @@
 -- The sum of a run of bytes, a stride at a time. Assumes nothing.
-use mathlib.Core.Path.{_≡_, refl, ap, _∙_}
-use mathlib.Core.List.{List}
-use Prim.Native.Nat.{ℕ, _+_, _%_, _^_, _≤_, _<_}
-use native.Mathlib.Omega.{arith}
-use lib.ListN.{length, getD, take, drop}
-use lib.Seq.{take-add, drop-cons, drop-drop, take-all}
+use Rattle.wire.proofs.Basics.{_∙_, _≡_, ap, refl, ℕ, _≤_, _+_, _<_, _^_, _%_, List, length, drop, getD, take, drop-drop, take-all, drop-cons, take-add, arith}
 use Rattle.wire.specs.Sum.{sum}
 use Rattle.wire.proofs.Sums.{sum-append}
 use Rattle.checksum.specs.InsideStrides.{Summed}

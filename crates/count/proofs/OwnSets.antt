@@ -1,12 +1,5 @@
 -- In sets of the count's own words, what stands against a payload is what the count says. Assumes nothing.
-use mathlib.Core.Path.{_≡_, sym, ap, _∙_, subst}
-use mathlib.Core.Logic.{inl, inr}
-use mathlib.Core.List.{List, _++_, map}
-use Prim.Native.Nat.{ℕ, _≤_}
-use native.Mathlib.Omega.{arith}
-use lib.Dec.{ltb}
-use lib.ListN.{length}
-use borrow.Author.Tests.{ltb-false, le-ltb}
+use Rattle.wire.proofs.Basics.{_∙_, sym, _≡_, ap, subst, ℕ, _≤_, List, _++_, map, inl, inr, length, ltb, le-ltb, ltb-false, arith}
 use Rattle.wire.specs.Bytes.{Bytes}
 use Rattle.wire.specs.Choice.{pick}
 use Rattle.wire.proofs.Choices.{either}

@@ -1,10 +1,7 @@
 -- The report in the struct is the report of the lists seen. Assumes nothing.
-use mathlib.Core.Path.{_≡_, refl, sym, ap, _∙_}
-use mathlib.Core.List.{List, _++_, map, map-id}
-use Prim.Native.Nat.{ℕ, zero, suc, _+_, _-_, _≤_}
+use Rattle.wire.proofs.Basics.{_∙_, sym, _≡_, ap, refl, ℕ, _≤_, _+_, _-_, suc, zero, List, _++_, map, length, drop, length-replicate, length-map, arith}
+use mathlib.Core.List.{map-id}
 use native.Mathlib.Nat.{sub-zero, suc-sub-suc, zero-sub}
-use native.Mathlib.Omega.{arith}
-use lib.ListN.{length, drop, length-map, length-replicate}
 use Rattle.wire.specs.Overlay.{overlay}
 use Rattle.wire.proofs.Overlays.{overlay-eq}
 use Rattle.wire.proofs.Parts.{map-both}

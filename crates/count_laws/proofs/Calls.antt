@@ -1,15 +1,6 @@
 -- Two calls on two logs of the same messages tell the same. Assumes nothing.
-use mathlib.Core.Path.{_≡_, refl, sym, ap, _∙_, subst}
-use mathlib.Core.Logic.{inl, inr}
-use mathlib.Core.Bool.{Bool, true, false}
-use mathlib.Core.Option.{none, some, Option·map}
-use mathlib.Core.List.{List, [], _∷_, _++_, map, append-assoc}
-use Prim.Native.Nat.{ℕ, _+_, _-_, _≤_}
-use native.Mathlib.Omega.{arith}
-use lib.Dec.{eqb, ltb}
-use lib.ListN.{length, take, drop, length-append, length-replicate, length-map}
-use lib.Seq.{drop-at, take-at}
-use borrow.Author.Tests.{eqb-true, eq-eqb, ltb-false}
+use Rattle.wire.proofs.Basics.{_∙_, sym, _≡_, ap, refl, subst, ℕ, _≤_, _+_, _-_, List, [], _∷_, _++_, append-assoc, map, true, false, Bool, inl, inr, some, none, Option·map, length, drop, take}
+use Rattle.wire.proofs.Basics.{length-append, length-replicate, length-map, drop-at, take-at, eqb, ltb, eq-eqb, eqb-true, ltb-false, arith}
 use Rattle.wire.specs.Choice.{pick}
 use Rattle.wire.specs.Slices.{short}
 use Rattle.wire.specs.Overlay.{overlay}

@@ -1,8 +1,5 @@
 -- OF EVERY LOG the lines are those of the delivered lists, and of no others. Assumes nothing.
-use mathlib.Core.Path.{_≡_, refl, sym, ap, _∙_, subst}
-use mathlib.Core.Logic.{inl, inr}
-use mathlib.Core.List.{List, [], _∷_, _++_}
-use Prim.Native.Nat.{ℕ}
+use Rattle.wire.proofs.Basics.{_∙_, sym, _≡_, ap, refl, subst, ℕ, List, [], _∷_, _++_, inl, inr}
 use Rattle.steps.specs.Answers.{Reply, refusedBy, kept, repeat, delivered}
 use Rattle.steps.specs.Runs.{World, fresh}
 use Rattle.log.specs.declared.reader.Limits.{Limits}

@@ -1,13 +1,5 @@
 -- WITH LOSSES the count is that of the messages that came whole. Assumes nothing.
-use mathlib.Core.Path.{_≡_, refl, sym, ap, _∙_, subst}
-use mathlib.Core.Logic.{inl, inr}
-use mathlib.Core.Bool.{Bool, true, false}
-use mathlib.Core.Option.{Option, none, some}
-use mathlib.Core.List.{List, [], _∷_, map}
-use Prim.Native.Nat.{ℕ, zero, suc, _+_, _*_, _<_}
-use native.Mathlib.Omega.{arith}
-use native.Mathlib.Decide.{ℕ-discrete}
-use lib.Dec.{eqb}
+use Rattle.wire.proofs.Basics.{_∙_, sym, _≡_, ap, refl, subst, ℕ, _+_, _<_, suc, zero, _*_, List, [], _∷_, map, true, false, Bool, inl, inr, some, none, Option, eqb, ℕ-discrete, arith}
 use Rattle.wire.specs.Choice.{pick}
 use Rattle.wire.specs.Sum.{sum}
 use Rattle.steps.specs.Search.{one}

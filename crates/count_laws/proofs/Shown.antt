@@ -1,13 +1,5 @@
 -- What is shown of a log that is read whole, by the payloads that its entries deliver. Assumes nothing.
-use mathlib.Core.Path.{_≡_, refl, sym, ap, _∙_}
-use mathlib.Core.Bool.{Bool, true, false}
-use mathlib.Core.Option.{none, some}
-use mathlib.Core.List.{List, []}
-use Prim.Native.Nat.{ℕ, _≤_}
-use native.Mathlib.Omega.{arith}
-use lib.Dec.{eqb, ltb}
-use lib.ListN.{length}
-use borrow.Author.Tests.{le-ltb, ltb-false, eqb-true, eq-eqb}
+use Rattle.wire.proofs.Basics.{_∙_, sym, _≡_, ap, refl, ℕ, _≤_, List, [], true, false, Bool, some, none, length, eqb, ltb, eq-eqb, le-ltb, eqb-true, ltb-false, arith}
 use Rattle.wire.specs.Choice.{pick}
 use Rattle.wire.proofs.Choices.{never, zero-is-one}
 use Rattle.steps.specs.Answers.{Reply}

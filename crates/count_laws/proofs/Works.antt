@@ -1,11 +1,5 @@
 -- The worked logs are logs of their messages, from their bytes; both promises, that with losses and L12's are applied to them. Assumes nothing.
-use mathlib.Core.Path.{_≡_, refl, sym, ap, _∙_, subst}
-use mathlib.Core.Logic.{inr}
-use mathlib.Core.Option.{some, none}
-use mathlib.Core.List.{List, [], _∷_}
-use Prim.Native.Nat.{ℕ, zero, suc}
-use native.Mathlib.Omega.{arith}
-use lib.Dec.{eqb, lit<, lit≤}
+use Rattle.wire.proofs.Basics.{_∙_, sym, _≡_, ap, refl, subst, ℕ, suc, zero, List, [], _∷_, inr, some, none, eqb, lit<, lit≤, arith}
 use Rattle.wire.specs.Choice.{pick}
 use Rattle.wire.specs.Bytes.{be}
 use Rattle.wire.specs.Sum.{sum}

@@ -1,11 +1,5 @@
 -- One line more. Assumes nothing.
-use mathlib.Core.Path.{_≡_, ap, sym}
-use mathlib.Core.Bool.{Bool}
-use mathlib.Core.List.{List, [], _∷_, _++_}
-use Prim.Native.Nat.{ℕ, suc, _+_}
-use native.Mathlib.Omega.{arith}
-use lib.ListN.{getD}
-use borrow.Author.Tests.{eq-eqb, ne-eqb}
+use Rattle.wire.proofs.Basics.{sym, _≡_, ap, ℕ, _+_, suc, List, [], _∷_, _++_, Bool, getD, eq-eqb, ne-eqb, arith}
 use Rattle.wire.specs.Choice.{pick}
 use Rattle.text.specs.Text.{decimal}
 use Rattle.count_lines.specs.Lines.{refusedWord, refusedLine, refusedLines, tileLine, tileLines}

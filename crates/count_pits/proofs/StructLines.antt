@@ -1,8 +1,5 @@
 -- The struct's lines are the outcome's: the zeros past the last tile are not written. Assumes nothing.
-use mathlib.Core.Path.{_≡_, refl, ap}
-use mathlib.Core.List.{List, [], _∷_, _++_, map}
-use Prim.Native.Nat.{ℕ, zero, suc}
-use lib.ListN.{length, getD}
+use Rattle.wire.proofs.Basics.{_≡_, ap, refl, ℕ, suc, zero, List, [], _∷_, _++_, map, length, getD}
 use Rattle.count_rules.specs.Count.{Outcome, reported, noReport}
 use Rattle.count.specs.Counts.{zeros, padded, counted}
 use Rattle.count_lines.specs.Lines.{totalLines, refusedLines, listsLine, tileLines}

@@ -1,10 +1,5 @@
 -- Limits that admit the messages admit each arrival of a fair feed, noise too; those of the receiver admit all messages. Assumes nothing.
-use mathlib.Core.Path.{_≡_, refl, sym, subst}
-use mathlib.Core.Bool.{Bool, true, false}
-use mathlib.Core.List.{List, [], _∷_, _++_}
-use Prim.Native.Nat.{ℕ, _≤_, _<_}
-use native.Mathlib.Omega.{arith}
-use lib.ListN.{length}
+use Rattle.wire.proofs.Basics.{sym, _≡_, refl, subst, ℕ, _≤_, _<_, List, [], _∷_, _++_, true, false, Bool, length, arith}
 use Rattle.wire.specs.Choice.{pick}
 use Rattle.datagram.specs.Limits.{maxPayload, maxFragments}
 use Rattle.steps.specs.Runs.{Arrival}

@@ -1,12 +1,5 @@
 -- For the code: what the reader's answer, and the numbers that it left, say of a payload. Assumes nothing.
-use mathlib.Core.Path.{_≡_, sym, ap, _∙_}
-use mathlib.Core.Bool.{false}
-use mathlib.Core.List.{List}
-use Prim.Native.Nat.{ℕ, _≤_}
-use native.Mathlib.Omega.{arith}
-use lib.IntN.{ℤ}
-use lib.ListN.{length, take}
-use borrow.Author.Tests.{le-ltb}
+use Rattle.wire.proofs.Basics.{_∙_, sym, _≡_, ap, ℕ, _≤_, List, false, length, take, ℤ, le-ltb, arith}
 use Rattle.lmcp.specs.declared.Found.the-variants.{Numbers}
 use Rattle.lmcp.specs.Lists.{readList}
 use Rattle.lmcp.specs.Message.{ReadTo}

@@ -1,11 +1,5 @@
 -- Every list that is read of bytes has a tile and pits below 2 ^ 32. Assumes nothing.
-use mathlib.Core.Path.{_≡_, refl, sym, ap, _∙_, subst}
-use mathlib.Core.Logic.{inl, inr}
-use mathlib.Core.List.{List, [], _∷_}
-use Prim.Native.Nat.{ℕ, _<_}
-use native.Mathlib.Decide.{ℕ-discrete}
-use lib.IntN.{ℤ, pos}
-use lib.ListN.{getD}
+use Rattle.wire.proofs.Basics.{_∙_, sym, _≡_, ap, refl, subst, ℕ, _<_, List, [], _∷_, inl, inr, getD, ℤ, pos, ℕ-discrete}
 use Rattle.wire.specs.Bytes.{Bytes}
 use Rattle.lmcp.specs.Run.{got, refused}
 use Rattle.lmcp.specs.Read.{Read}

@@ -1,9 +1,5 @@
 -- The worked payloads are read as written, the worked flight is counted as worked, and a log's limits bind by 5 and 6. Assumes nothing.
-use mathlib.Core.Path.{_≡_, refl, ap, _∙_}
-use mathlib.Core.List.{List, [], _∷_}
-use Prim.Native.Nat.{ℕ, _-_}
-use native.Mathlib.Omega.{arith}
-use lib.ListN.{length}
+use Rattle.wire.proofs.Basics.{_∙_, _≡_, ap, refl, ℕ, _-_, List, [], _∷_, length, arith}
 use Rattle.wire.specs.Bytes.{be}
 use Rattle.wire.specs.Sum.{sum}
 use Rattle.varint.specs.Seven.{groups, groupsIn}

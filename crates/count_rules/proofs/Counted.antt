@@ -1,8 +1,5 @@
 -- THE PROMISE: the count of a log is that of the messages, each once. Assumes nothing.
-use mathlib.Core.Path.{_≡_, sym, ap, _∙_}
-use mathlib.Core.List.{List}
-use Prim.Native.Nat.{ℕ}
-use lib.ListN.{length}
+use Rattle.wire.proofs.Basics.{_∙_, sym, _≡_, ap, ℕ, List, length}
 use Rattle.arrival.specs.Demand.{Scene, Feed, Delivery, inOrderOfCompletion, Supposed}
 use Rattle.arrival.proofs.Demand3.{demand3}
 use Rattle.log.specs.declared.reader.Limits.{Limits}

@@ -1,11 +1,5 @@
 -- Under demand 3's suppositions, and where the limits admit the messages, the delivered payloads are the messages', each once: as members, and in every sum. Assumes nothing.
-use mathlib.Core.Path.{_≡_, refl, sym, ap, _∙_, subst}
-use mathlib.Core.Logic.{inl, inr}
-use mathlib.Core.List.{List, [], _∷_, map}
-use Prim.Native.Nat.{ℕ, _+_, _<_}
-use native.Mathlib.Omega.{arith}
-use native.Mathlib.Decide.{ℕ-discrete}
-use borrow.Author.Tests.{ne-eqb}
+use Rattle.wire.proofs.Basics.{_∙_, sym, _≡_, ap, refl, subst, ℕ, _+_, _<_, List, [], _∷_, map, inl, inr, ne-eqb, ℕ-discrete, arith}
 use Rattle.steps.specs.Search.{one}
 use Rattle.steps.proofs.Tables.{all-of}
 use Rattle.arrival.specs.Demand.{Scene, nobody, parts, size, Message, message, Feed, got, done, completed, own, inOrderOfCompletion, Supposed}

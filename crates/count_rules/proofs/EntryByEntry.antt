@@ -1,13 +1,5 @@
 -- The walk entry by entry finds what the count says of the payloads, and with nothing found it has gone through all entries. Assumes nothing.
-use mathlib.Core.Path.{_≡_, refl, sym, _∙_}
-use mathlib.Core.Logic.{inl, inr}
-use mathlib.Core.Bool.{Bool, true, false}
-use mathlib.Core.List.{List, [], _∷_, _++_}
-use Prim.Native.Nat.{ℕ}
-use lib.Dec.{eqb}
-use lib.IntN.{ℤ}
-use lib.ListN.{length}
-use borrow.Author.Tests.{eq-eqb}
+use Rattle.wire.proofs.Basics.{_∙_, sym, _≡_, refl, ℕ, List, [], _∷_, _++_, true, false, Bool, inl, inr, length, eqb, ℤ, eq-eqb}
 use Rattle.wire.specs.Choice.{pick}
 use Rattle.wire.proofs.Choices.{either, never}
 use Rattle.steps.specs.Answers.{Reply, refusedBy, kept, repeat, delivered}

@@ -1,9 +1,5 @@
 -- A log is counted within the limits of its own edition. Assumes nothing.
-use mathlib.Core.Path.{_≡_, refl, ap, _∙_}
-use mathlib.Core.Option.{Option, some}
-use mathlib.Core.List.{List}
-use Prim.Native.Nat.{ℕ}
-use lib.ListN.{length}
+use Rattle.wire.proofs.Basics.{_∙_, _≡_, ap, refl, ℕ, List, some, Option, length}
 use Rattle.log.specs.Editions.{Edition, Lawful, editionIn, limitsOf, limitsOr}
 use Rattle.log.specs.Entries.{Entry, AllKeep, bodyOf, logOf}
 use Rattle.log.specs.Listed.{Listed, whole, listBy, entriesAfter, entriesIn}

@@ -1,10 +1,6 @@
 -- One rising list of keys holds the pits of all tiles: a tile's part of it is as long as the tile has pits, and the whole is as long as there are
 -- pits in all. Assumes nothing.
-use mathlib.Core.Path.{_≡_, refl, sym, ap, _∙_, subst}
-use mathlib.Core.List.{List, [], _∷_, map}
-use Prim.Native.Nat.{ℕ, suc, _+_, _≤_, _<_}
-use native.Mathlib.Omega.{arith}
-use lib.ListN.{length, length-map}
+use Rattle.wire.proofs.Basics.{_∙_, sym, _≡_, ap, refl, subst, ℕ, _≤_, _+_, _<_, suc, List, [], _∷_, map, length, length-map, arith}
 use Rattle.sorted_set.specs.Lists.{In, gather, total, rising, Rising, below}
 use Rattle.sorted_set.proofs.Members.{gather-in, gather-from, Source, map-in, map-from, Origin}
 use Rattle.sorted_set.proofs.Sums.{length-gather}

@@ -1,9 +1,5 @@
 -- P 262,145 is refused by 6 in an edition 1 log, and kept in one of edition 2, over any store whose slots hold it. Assumes nothing.
-use mathlib.Core.Path.{_≡_, refl, ap}
-use mathlib.Core.Bool.{true}
-use mathlib.Core.List.{List}
-use Prim.Native.Nat.{ℕ}
-use lib.ListN.{length}
+use Rattle.wire.proofs.Basics.{_≡_, ap, refl, ℕ, List, true, length}
 use Rattle.wire.specs.Bytes.{be}
 use Rattle.datagram.specs.Limits.{maxPayload}
 use Rattle.datagram.specs.Read.{goodForm, formed, readFragment, readDatagram}

@@ -1,9 +1,5 @@
 -- WHATEVER STORE AND LEDGER HELD: what a log's entries are answered, and with it the count of a log, depends on how long they are, and on nothing else of them. Assumes nothing.
-use mathlib.Core.Path.{_≡_, refl, sym, ap, _∙_, subst₂}
-use mathlib.Core.List.{List, [], _∷_}
-use Prim.Native.Nat.{ℕ}
-use lib.Dec.{ltb}
-use lib.ListN.{length}
+use Rattle.wire.proofs.Basics.{_∙_, sym, _≡_, ap, refl, subst₂, ℕ, List, [], _∷_, length, ltb}
 use Rattle.wire.specs.Choice.{pick}
 use Rattle.steps.specs.Receive.{Machine, After, opened}
 use Rattle.steps.specs.Answers.{Reply}

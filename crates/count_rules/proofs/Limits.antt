@@ -1,13 +1,5 @@
 -- Whether a limit is passed depends only on which payloads are delivered, not on their order, nor on how often each is. Assumes nothing.
-use mathlib.Core.Path.{_≡_, refl, sym, _∙_, subst}
-use mathlib.Core.Logic.{inl, inr}
-use mathlib.Core.Bool.{Bool, true, false}
-use mathlib.Core.List.{List, [], _∷_, _++_}
-use Prim.Native.Nat.{ℕ, _≤_, zero-le}
-use native.Mathlib.Omega.{arith}
-use lib.Dec.{eqb, ltb}
-use lib.ListN.{length}
-use borrow.Author.Tests.{ltb-false, le-ltb, eqb-true, eq-eqb}
+use Rattle.wire.proofs.Basics.{_∙_, sym, _≡_, refl, subst, ℕ, _≤_, zero-le, List, [], _∷_, _++_, true, false, Bool, inl, inr, length, eqb, ltb, eq-eqb, le-ltb, eqb-true, ltb-false, arith}
 use Rattle.wire.specs.Choice.{pick}
 use Rattle.wire.proofs.Choices.{never, either}
 use Rattle.lmcp.specs.Lists.{readList}

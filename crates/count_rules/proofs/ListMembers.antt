@@ -1,11 +1,5 @@
 -- The members of `tiles` and of `distinct`: which list, and which of its marks, a number comes from. Assumes nothing.
-use mathlib.Core.Path.{_≡_, refl, sym}
-use mathlib.Core.Logic.{inl, inr}
-use mathlib.Core.Bool.{Bool, true, false}
-use mathlib.Core.List.{List, [], _∷_}
-use Prim.Native.Nat.{ℕ}
-use lib.Dec.{eqb}
-use borrow.Author.Tests.{eqb-true, eq-eqb}
+use Rattle.wire.proofs.Basics.{sym, _≡_, refl, ℕ, List, [], _∷_, true, false, Bool, inl, inr, eqb, eq-eqb, eqb-true}
 use Rattle.wire.specs.Choice.{pick}
 use Rattle.sorted_set.specs.Lists.{In, gather}
 use Rattle.sorted_set.proofs.Members.{gather-in, gather-from, Source}

@@ -1,10 +1,5 @@
 -- The entries that keep a feed, within limits that admit its messages, deliver what the feed delivers, the first first. Assumes nothing.
-use mathlib.Core.Path.{_≡_, refl, sym, ap, subst, _∙_}
-use mathlib.Core.Logic.{inl, inr}
-use mathlib.Core.List.{List, [], _∷_, _++_, map, append-nil}
-use Prim.Native.Nat.{ℕ}
-use native.Mathlib.Omega.{arith}
-use lib.ListN.{length}
+use Rattle.wire.proofs.Basics.{_∙_, sym, _≡_, ap, refl, subst, ℕ, List, [], _∷_, _++_, map, append-nil, inl, inr, length, arith}
 use Rattle.datagram.specs.declared.Read.the-variants.{Refused}
 use Rattle.steps.specs.Limits.{slotSizeOf}
 use Rattle.steps.specs.declared.Key.{Key}

@@ -1,9 +1,5 @@
 -- The tile lines mean what the request says. Assumes nothing.
-use mathlib.Core.Path.{_≡_, refl, sym}
-use mathlib.Core.Logic.{inl}
-use mathlib.Core.Bool.{Bool, true, false}
-use mathlib.Core.List.{List, [], _∷_}
-use Prim.Native.Nat.{ℕ}
+use Rattle.wire.proofs.Basics.{sym, _≡_, refl, ℕ, List, [], _∷_, true, false, Bool, inl}
 use Rattle.wire.specs.Choice.{pick}
 use Rattle.sorted_set.specs.Lists.{In}
 use Rattle.sorted_set.proofs.Rises.{rising-rises, rising-members, distinct-fewer}

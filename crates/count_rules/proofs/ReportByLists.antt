@@ -1,8 +1,5 @@
 -- The report depends only on which lists there are. Assumes nothing.
-use mathlib.Core.Path.{_≡_}
-use mathlib.Core.List.{List, [], _∷_, map}
-use Prim.Native.Nat.{ℕ}
-use lib.ListN.{length}
+use Rattle.wire.proofs.Basics.{_≡_, ℕ, List, [], _∷_, map, length}
 use Rattle.sorted_set.specs.Lists.{SameMembers, gather, rising}
 use Rattle.sorted_set.proofs.Members.{gather-same}
 use Rattle.sorted_set.proofs.Rises.{rising-same}

@@ -1,8 +1,5 @@
 -- The walk in the middle of a log; and the lists seen by then, the latest first, report as the lists read. Assumes nothing.
-use mathlib.Core.Path.{_≡_}
-use mathlib.Core.Logic.{_⊎_, inl, inr}
-use mathlib.Core.List.{List, [], _∷_, _++_}
-use Prim.Native.Nat.{ℕ}
+use Rattle.wire.proofs.Basics.{_≡_, ℕ, List, [], _∷_, _++_, inl, inr, _⊎_}
 use Rattle.sorted_set.specs.Lists.{In, SameMembers}
 use Rattle.sorted_set.proofs.Members.{in-left, in-right, in-either}
 use Rattle.count_rules.specs.Marks.{PitList, listIn}

@@ -1,13 +1,5 @@
 -- TWO LOGS OF THE SAME MESSAGES COUNT THE SAME, or neither is counted. Assumes nothing.
-use mathlib.Core.Path.{_≡_, refl, sym, ap, _∙_, subst}
-use mathlib.Core.Bool.{Bool, true, false}
-use mathlib.Core.Option.{Option, none, some}
-use mathlib.Core.List.{List, []}
-use Prim.Native.Nat.{ℕ, _+_, _≤_}
-use native.Mathlib.Omega.{arith}
-use lib.Dec.{eqb, ltb}
-use lib.ListN.{length}
-use borrow.Author.Tests.{le-ltb, ltb-false}
+use Rattle.wire.proofs.Basics.{_∙_, sym, _≡_, ap, refl, subst, ℕ, _≤_, _+_, List, [], true, false, Bool, some, none, Option, length, eqb, ltb, le-ltb, ltb-false, arith}
 use Rattle.wire.specs.Choice.{pick}
 use Rattle.wire.specs.Sum.{sum}
 use Rattle.steps.specs.Runs.{fresh}

@@ -1,12 +1,6 @@
 -- An accepted PitList is read as it is spelled, in either version, and no other message is a list. Assumes nothing.
-use mathlib.Core.Path.{_≡_, refl, sym, ap, _∙_}
-use mathlib.Core.Bool.{Bool, true, false}
-use mathlib.Core.List.{List, [], _∷_, _++_}
-use Prim.Native.Nat.{_+_}
-use lib.IntN.{ℤ, pos}
-use lib.ListN.{length, drop}
+use Rattle.wire.proofs.Basics.{_∙_, sym, _≡_, ap, refl, _+_, List, [], _∷_, _++_, true, false, Bool, length, drop, ℤ, pos, ne-eqb}
 use lib.Signed.{mag}
-use borrow.Author.Tests.{ne-eqb}
 use Rattle.wire.specs.Choice.{pick}
 use Rattle.lmcp.specs.Table.{second}
 use Rattle.lmcp.specs.Spelled.{nowhere, spot, Element, null, marked, spellElement, spellAll, Spelled}

@@ -1,12 +1,7 @@
 -- For the code: what one more mark, one more list and one more answer does to the sets and to the counts. Assumes nothing.
-use mathlib.Core.Path.{_≡_, refl, sym, ap, _∙_, subst}
-use mathlib.Core.Logic.{inl, inr, _≢_}
-use mathlib.Core.Bool.{Bool, true, false}
-use mathlib.Core.List.{List, [], _∷_, _++_, map, map-append, append-assoc}
-use Prim.Native.Nat.{ℕ, zero, suc, _+_, _≤_, _<_}
-use native.Mathlib.Omega.{arith}
-use lib.ListN.{length, getD, set}
-use borrow.Author.Tests.{eq-eqb, ne-eqb}
+use Rattle.wire.proofs.Basics.{_∙_, sym, _≡_, ap, refl, subst, ℕ, _≤_, _+_, _<_, suc, zero, List, [], _∷_, _++_, append-assoc, map, true, false, Bool, inl, inr, _≢_, length, getD, set, eq-eqb, ne-eqb}
+use Rattle.wire.proofs.Basics.{arith}
+use mathlib.Core.List.{map-append}
 use Rattle.words.specs.Builds.{build}
 use Rattle.words.proofs.Builds.{getD-build}
 use Rattle.steps.specs.Search.{one}

@@ -1,13 +1,6 @@
 -- Sums of numbers that are built, and of a list by how often each number stands there. Assumes nothing.
-use mathlib.Core.Path.{_≡_, refl, sym, ap, _∙_}
-use mathlib.Core.Logic.{inl, inr, _≢_}
-use mathlib.Core.List.{List, [], _∷_}
-use Prim.Native.Nat.{ℕ, zero, suc, _+_, _*_, _<_}
-use native.Mathlib.Nat.{add-mul, one-mul, zero-mul}
-use native.Mathlib.Omega.{arith}
-use lib.Dec.{eqb}
-use lib.ListN.{length, getD}
-use borrow.Author.Tests.{eq-eqb, ne-eqb}
+use Rattle.wire.proofs.Basics.{_∙_, sym, _≡_, ap, refl, ℕ, _+_, _<_, suc, zero, _*_, List, [], _∷_, inl, inr, _≢_, length, getD, eqb, eq-eqb, ne-eqb, one-mul, zero-mul, arith}
+use native.Mathlib.Nat.{add-mul}
 use Rattle.wire.specs.Sum.{sum}
 use Rattle.words.specs.Builds.{build}
 use Rattle.steps.specs.Search.{one}

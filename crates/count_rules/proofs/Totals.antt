@@ -1,11 +1,5 @@
 -- Entries equal the sum over the answers. Assumes nothing.
-use mathlib.Core.Path.{_≡_, refl, sym}
-use mathlib.Core.List.{List, [], _∷_}
-use Prim.Native.Nat.{ℕ, _+_, _≤_}
-use native.Mathlib.Omega.{arith}
-use lib.Dec.{eqb}
-use lib.ListN.{length, length-append}
-use borrow.Author.Tests.{eq-eqb, ne-eqb}
+use Rattle.wire.proofs.Basics.{sym, _≡_, refl, ℕ, _≤_, _+_, List, [], _∷_, length, length-append, eqb, eq-eqb, ne-eqb, arith}
 use Rattle.wire.specs.Sum.{sum}
 use Rattle.steps.specs.Search.{one}
 use Rattle.steps.specs.declared.Answer.{Answer}

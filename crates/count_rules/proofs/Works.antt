@@ -1,9 +1,5 @@
 -- Two worked logs of the same messages, one of them with late copies, meet the suppositions and show the same lines. Assumes nothing.
-use mathlib.Core.Path.{_≡_, refl, _∙_}
-use mathlib.Core.List.{List, [], _∷_, map}
-use Prim.Native.Nat.{ℕ, zero, suc}
-use native.Mathlib.Omega.{arith}
-use lib.Dec.{lit≤}
+use Rattle.wire.proofs.Basics.{_∙_, _≡_, refl, ℕ, suc, zero, List, [], _∷_, map, lit≤, arith}
 use Rattle.wire.specs.Bytes.{be, bytes}
 use Rattle.wire.specs.Sum.{sum}
 use Rattle.datagram.specs.Limits.{maxPayload}

@@ -1,16 +1,9 @@
 -- Fragments begin where the one before ends, reach the end of the payload, and no fewer would. Assumes nothing.
-use mathlib.Core.Path.{_≡_, refl, ap, sym, _∙_}
-use mathlib.Core.Bool.{false}
-use mathlib.Core.List.{List, _++_}
-use Prim.Native.Nat.{ℕ, zero, suc, _+_, _*_, _-_, _/_, _≤_, _<_, min}
-use native.Mathlib.Nat.{suc-mul, zero-mul, mul-le-mul-right, div-mul-le-self, lt-div-mul-add}
-use native.Mathlib.Numerals.{add-one, one-add}
-use native.Mathlib.Omega.{arith}
-use native.Mathlib.Decide.{decLe}
+use Rattle.wire.proofs.Basics.{_∙_, sym, _≡_, ap, refl, ℕ, _≤_, _+_, _<_, _-_, suc, zero, _*_, min, _/_, List, _++_, false, length, drop, take, length-drop, length-take, take-all, take-add, leb-false}
+use Rattle.wire.proofs.Basics.{suc-mul, zero-mul, decLe, add-one, arith}
+use native.Mathlib.Nat.{mul-le-mul-right, div-mul-le-self, lt-div-mul-add}
+use native.Mathlib.Numerals.{one-add}
 use lib.Dec.{eqb·suc-zero}
-use lib.ListN.{length, take, drop, length-take, length-drop}
-use lib.Seq.{take-add, take-all}
-use borrow.Author.Tests.{leb-false}
 use Rattle.cutter.specs.Cut.{Sized, isSmall, carries, beginsAt, countOf, pieceOf}
 use Rattle.cutter.specs.Trip.{joined}
 

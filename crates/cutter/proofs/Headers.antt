@@ -1,12 +1,5 @@
 -- What the datagram reader finds in bytes with a given header. Assumes nothing.
-use mathlib.Core.Path.{_≡_, refl, ap, _∙_}
-use mathlib.Core.Bool.{true, false}
-use mathlib.Core.List.{List, [], _++_, append-assoc}
-use Prim.Native.Nat.{ℕ, _+_, _-_, _^_, _≤_, _<_}
-use native.Mathlib.Omega.{arith}
-use lib.ListN.{length, drop, length-append}
-use lib.Seq.{drop-at}
-use borrow.Author.Tests.{eq-eqb, ne-eqb, lt-leb, le-ltb}
+use Rattle.wire.proofs.Basics.{_∙_, _≡_, ap, refl, ℕ, _≤_, _+_, _<_, _-_, _^_, List, [], _++_, append-assoc, true, false, length, drop, length-append, drop-at, eq-eqb, le-ltb, ne-eqb, lt-leb, arith}
 use Rattle.wire.specs.Bytes.{be, bytes}
 use Rattle.wire.proofs.Numbers.{be-bytes, length-bytes}
 use Rattle.datagram.specs.Limits.{maxDatagram}

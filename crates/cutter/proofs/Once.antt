@@ -1,7 +1,5 @@
 -- No second answer and no second output satisfy the cutter's contract. Assumes nothing.
-use mathlib.Core.Path.{_≡_, ap, sym, _∙_}
-use mathlib.Core.List.{List}
-use Prim.Native.Nat.{ℕ}
+use Rattle.wire.proofs.Basics.{_∙_, sym, _≡_, ap, ℕ, List}
 use Rattle.wire.proofs.Once.{one-answer}
 use Rattle.cutter.specs.Cut.{Answer, says, datagramOf, cutOutput, CutTo}
 use Rattle.cutter.specs.declared.Cut.{Cut}

@@ -1,13 +1,6 @@
 -- How a message is cut: places and lengths. Assumes nothing.
-use mathlib.Core.Path.{_≡_, refl, subst}
-use mathlib.Core.Bool.{Bool, true, false, _||_}
-use mathlib.Core.List.{List}
-use Prim.Native.Nat.{ℕ, _+_, _*_, _-_, _≤_, _<_, min}
+use Rattle.wire.proofs.Basics.{_≡_, refl, subst, ℕ, _≤_, _+_, _<_, _-_, _*_, min, List, true, false, Bool, _||_, length, eqb, ltb, leb, le-ltb, ltb-false, leb-true, leb-false, arith}
 use native.Mathlib.Nat.{mul-le-mul}
-use native.Mathlib.Omega.{arith}
-use lib.Dec.{eqb, leb, ltb}
-use lib.ListN.{length}
-use borrow.Author.Tests.{leb-true, leb-false, ltb-false, le-ltb}
 use Rattle.datagram.specs.Limits.{maxPayload, maxFragments}
 use Rattle.wire.specs.Choice.{pick}
 use Rattle.names.specs.Name.{goodName}

@@ -1,14 +1,6 @@
 -- Each cut datagram reads back as what it was cut from, and the fragments of a message are lawfully cut. Assumes nothing.
-use mathlib.Core.Path.{_≡_, refl, ap, sym, _∙_}
-use mathlib.Core.Bool.{Bool, true, false}
-use mathlib.Core.List.{List, [], _∷_, _++_, append-assoc}
-use Prim.Native.Nat.{ℕ, _+_, _-_, _≤_, _<_}
-use native.Mathlib.Omega.{arith}
-use native.Mathlib.Decide.{ℕ-discrete}
-use lib.Dec.{eqb, leb}
-use lib.ListN.{length, take, drop, length-append}
-use lib.Seq.{drop-at, take-length, take-append-seam}
-use borrow.Author.Tests.{eq-eqb, ne-eqb, le-leb, le-ltb, leb-true}
+use Rattle.wire.proofs.Basics.{_∙_, sym, _≡_, ap, refl, ℕ, _≤_, _+_, _<_, _-_, List, [], _∷_, _++_, append-assoc, true, false, Bool, length, drop, take, length-append, drop-at, take-length}
+use Rattle.wire.proofs.Basics.{take-append-seam, eqb, leb, eq-eqb, le-ltb, ne-eqb, le-leb, leb-true, ℕ-discrete, arith}
 use Rattle.wire.specs.Bytes.{bytes}
 use Rattle.wire.specs.Choice.{pick}
 use Rattle.wire.proofs.Choices.{and-of}

@@ -1,6 +1,5 @@
 -- The worked cases, computed in one statement. Assumes nothing.
-use mathlib.Core.Path.{_≡_, refl}
-use mathlib.Core.List.{map}
+use Rattle.wire.proofs.Basics.{_≡_, refl, map}
 use Rattle.names.specs.Name.{goodName}
 use Rattle.cutter.specs.Cut.{countOf, lengthOf, planOf, cutAnswer}
 use Rattle.cutter.specs.Worked.{Case, cases}

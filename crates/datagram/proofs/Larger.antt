@@ -1,12 +1,5 @@
 -- What the datagram reader accepts within smaller limits it accepts within larger ones, and says the same. Assumes nothing.
-use mathlib.Core.Path.{_≡_, refl}
-use mathlib.Core.Bool.{Bool, true, false, _||_}
-use mathlib.Core.List.{List}
-use Prim.Native.Nat.{ℕ, _≤_}
-use native.Mathlib.Omega.{arith}
-use lib.Dec.{eqb, leb, ltb}
-use lib.ListN.{length}
-use borrow.Author.Tests.{ltb-false, le-ltb}
+use Rattle.wire.proofs.Basics.{_≡_, refl, ℕ, _≤_, List, true, false, Bool, _||_, length, eqb, ltb, leb, le-ltb, ltb-false, arith}
 use Rattle.wire.specs.Choice.{pick}
 use Rattle.wire.proofs.Choices.{or-l, or-r}
 use Rattle.datagram.specs.Limits.{maxDatagram}

@@ -1,15 +1,6 @@
 -- Laws of the name that a datagram begins with, and of the numbers in its header. Assumes nothing.
-use mathlib.Core.Path.{_≡_, refl, ap, sym, _∙_}
-use mathlib.Core.Bool.{Bool, true, false, not, _&&_}
-use mathlib.Core.List.{List, [], _∷_, _++_}
-use Prim.Native.Nat.{ℕ, suc, _+_, _-_, _≤_, _<_, min}
-use native.Mathlib.Numerals.{add-one}
-use native.Mathlib.Omega.{arith}
-use native.Mathlib.Decide.{decLe}
-use lib.Dec.{eqb, ltb}
-use lib.ListN.{length, getD, take, drop, length-take, length-append, drop-of-length-le}
-use lib.Seq.{drop-cons, take-append-seam, length-take-le}
-use borrow.Author.Tests.{eq-eqb, ne-eqb, le-ltb, lt-ltb, ltb-true, not-true}
+use Rattle.wire.proofs.Basics.{_∙_, sym, _≡_, ap, refl, ℕ, _≤_, _+_, _<_, _-_, suc, min, List, [], _∷_, _++_, true, false, Bool, _&&_, not, length, drop, getD, take, length-append, length-take}
+use Rattle.wire.proofs.Basics.{drop-of-length-le, length-take-le, drop-cons, take-append-seam, eqb, ltb, eq-eqb, le-ltb, ne-eqb, lt-ltb, ltb-true, not-true, decLe, add-one, arith}
 use Rattle.wire.specs.Choice.{pick}
 use Rattle.wire.proofs.Choices.{never, and-false, and-l, and-r}
 use Rattle.wire.proofs.Parts.{part-rest}

@@ -1,7 +1,5 @@
 -- No second answer satisfies the reader's contract. Assumes nothing.
-use mathlib.Core.Path.{_≡_}
-use mathlib.Core.List.{List}
-use Prim.Native.Nat.{ℕ}
+use Rattle.wire.proofs.Basics.{_≡_, ℕ, List}
 use Rattle.wire.proofs.Once.{one-answer}
 use Rattle.datagram.specs.Said.{Reads}
 use Rattle.datagram.specs.declared.Read.{Read}

@@ -1,14 +1,5 @@
 -- What is known of a datagram that the reader accepts: its header keeps document 01's rules, and its name and payload lie inside it. Assumes nothing.
-use mathlib.Core.Path.{_≡_, refl, subst}
-use mathlib.Core.Logic.{_≢_}
-use mathlib.Core.Bool.{true, _||_}
-use mathlib.Core.List.{List}
-use Prim.Native.Nat.{ℕ, _+_, _≤_, _<_}
-use native.Mathlib.Omega.{arith}
-use lib.Dec.{eqb, leb, ltb}
-use lib.ListN.{length, drop, length-drop}
-use lib.Seq.{length-take-le}
-use borrow.Author.Tests.{ltb-false, leb-false, eqb-true, eqb-false}
+use Rattle.wire.proofs.Basics.{_≡_, refl, subst, ℕ, _≤_, _+_, _<_, List, true, _||_, _≢_, length, drop, length-drop, length-take-le, eqb, ltb, leb, eqb-true, ltb-false, eqb-false, leb-false, arith}
 use Rattle.wire.specs.Choice.{pick}
 use Rattle.wire.proofs.Choices.{pick-all, or-l, or-r}
 use Rattle.datagram.specs.Limits.{maxDatagram}

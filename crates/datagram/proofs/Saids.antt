@@ -1,14 +1,6 @@
 -- Laws of what a datagram says in document 01's values. The crates above cite these and not the reader's text. Assumes nothing.
-use mathlib.Core.Path.{_≡_, refl, sym, ap, _∙_, subst}
-use mathlib.Core.Logic.{_≢_}
-use mathlib.Core.Bool.{Bool, true, false, _&&_}
-use mathlib.Core.List.{List, []}
-use Prim.Native.Nat.{ℕ, _+_, _≤_, _<_}
-use native.Mathlib.Omega.{arith}
-use lib.Dec.{eqb, leb}
-use lib.ListN.{length, take, drop, length-drop}
-use lib.Seq.{take-all}
-use borrow.Author.Tests.{eq-eqb, ne-eqb, eqb-true, leb-true}
+use Rattle.wire.proofs.Basics.{_∙_, sym, _≡_, ap, refl, subst, ℕ, _≤_, _+_, _<_, List, [], true, false, Bool, _&&_, _≢_, length, drop, take, length-drop, take-all, eqb, leb, eq-eqb, ne-eqb, eqb-true}
+use Rattle.wire.proofs.Basics.{leb-true, arith}
 use Rattle.wire.specs.Choice.{pick}
 use Rattle.wire.proofs.Choices.{and-l, and-r}
 use Rattle.datagram.specs.Limits.{maxDatagram}

@@ -1,14 +1,5 @@
 -- The worked cases, computed in one statement; and refusal 3 exactly for datagrams over 65,535 bytes. Assumes nothing.
-use mathlib.Core.Path.{_≡_, refl}
-use mathlib.Core.Logic.{_≢_}
-use mathlib.Core.Bool.{Bool, true, false, _||_}
-use mathlib.Core.List.{List, map}
-use Prim.Native.Nat.{ℕ, _+_, _≤_, _<_}
-use native.Mathlib.Omega.{arith}
-use native.Mathlib.Decide.{decLe}
-use lib.Dec.{eqb, leb, ltb}
-use lib.ListN.{length, drop}
-use borrow.Author.Tests.{lt-ltb, le-ltb}
+use Rattle.wire.proofs.Basics.{_≡_, refl, ℕ, _≤_, _+_, _<_, List, map, true, false, Bool, _||_, _≢_, length, drop, eqb, ltb, leb, le-ltb, lt-ltb, decLe, arith}
 use Rattle.wire.specs.Bytes.{be, bytes}
 use Rattle.wire.specs.Choice.{pick}
 use Rattle.wire.proofs.Choices.{pick-all}

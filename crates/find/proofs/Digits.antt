@@ -1,13 +1,5 @@
 -- A number, digit by digit. Assumes nothing.
-use mathlib.Core.Path.{_≡_, refl, sym, ap, _∙_}
-use mathlib.Core.Option.{none, some}
-use mathlib.Core.List.{List, [], _∷_}
-use Prim.Native.Nat.{ℕ, _+_, _-_, _*_, _≤_, _<_}
-use native.Mathlib.Omega.{arith}
-use native.Mathlib.Numerals.{add-one}
-use lib.ListN.{length, getD, drop, drop-of-length-le}
-use lib.Seq.{drop-cons}
-use borrow.Author.Tests.{le-leb, lt-leb}
+use Rattle.wire.proofs.Basics.{_∙_, sym, _≡_, ap, refl, ℕ, _≤_, _+_, _<_, _-_, _*_, List, [], _∷_, some, none, length, drop, getD, drop-of-length-le, drop-cons, le-leb, lt-leb, add-one, arith}
 use Rattle.find.specs.Numbers.{withDigit, onward, digitsFrom, numberIn}
 
 module _ (most v x : ℕ) where

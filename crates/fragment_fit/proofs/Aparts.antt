@@ -1,16 +1,7 @@
 -- Laws of `fits_all`: one fragment after the other; a run of fragments whose bits stand in one word; and what decides. Assumes nothing.
-use mathlib.Core.Path.{_≡_, refl, sym, _∙_, ap}
-use mathlib.Core.Logic.{inl, inr}
-use mathlib.Core.Bool.{Bool, true, false, not, _&&_, _||_}
-use mathlib.Core.List.{List}
-use Prim.Native.Nat.{ℕ, suc, _+_, _-_, _*_, _/_, _%_, _^_, _≤_, _<_}
+use Rattle.wire.proofs.Basics.{_∙_, sym, _≡_, ap, refl, ℕ, _≤_, _+_, _<_, _-_, suc, _*_, _^_, _%_, _/_, List, true, false, Bool, _&&_, _||_, not, inl, inr, getD, eqb, ltb, leb, eq-eqb, le-ltb, ne-eqb}
+use Rattle.wire.proofs.Basics.{lt-ltb, eqb-true, le-leb, lt-leb, leb-false, ℕ-discrete, decLe, add-one, arith}
 use native.Mathlib.Nat.{zero-div}
-use native.Mathlib.Numerals.{add-one}
-use native.Mathlib.Decide.{ℕ-discrete, decLe}
-use native.Mathlib.Omega.{arith}
-use lib.Dec.{eqb, leb, ltb}
-use lib.ListN.{getD}
-use borrow.Author.Tests.{eq-eqb, ne-eqb, lt-ltb, le-ltb, lt-leb, le-leb, eqb-true, leb-false}
 use Rattle.wire.proofs.Choices.{either, and-l, and-r, and-true, or-l, or-r}
 use Rattle.steps.specs.Search.{allBelow}
 use Rattle.steps.specs.Held.{isHeld}

@@ -9,7 +9,7 @@ use Rattle.datagram.specs.Limits.{maxPayload, maxFragments}
 use Rattle.datagram.specs.Read.{readDatagram}
 use Rattle.watch.specs.declared.Watch.{Watch}
 use Rattle.watch.specs.declared.Seen.{Seen}
-use Rattle.watch.specs.Noted.{Noted, first, forward, same, late, restarted, refused, notes}
+use Rattle.differences.specs.Noted.{Noted, first, forward, same, late, restarted, refused, notes}
 use Rattle.watch.specs.Watching.{asked, after}
 use Rattle.watch.specs.Senders.{empty}
 use Rattle.text.specs.Text.{decimal}

@@ -6,13 +6,13 @@ ghost use Rattle.wire.specs.Slices.{buffer};
 ghost use Rattle.stream.specs.declared.Kind.the-variants.{Bytes2};
 ghost use Rattle.output.specs.Output.{Pours, lineLimit};
 ghost use Rattle.record_lines.specs.Lines.{Tells};
-ghost use Rattle.watch.specs.Noted.{notes};
+ghost use Rattle.differences.specs.Noted.{notes};
 ghost use Rattle.gaps.specs.Lines.{answerText, line, lines, Judged};
 use datagram::Read;
+use differences::Answer;
 use stream::Input;
 use stream::Kind;
 use stream::Next;
-use watch::Answer;
 use watch::Seen;
 use watch::Watch;
 

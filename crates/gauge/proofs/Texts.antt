@@ -1,15 +1,9 @@
 -- Laws of the lines. Assumes nothing.
-use mathlib.Core.Path.{_≡_, refl, sym, ap, _∙_}
-use mathlib.Core.Option.{Option, none, some}
-use mathlib.Core.List.{List, [], _∷_, _++_, append-assoc}
-use Prim.Native.Nat.{ℕ, _+_, _≤_, _<_}
+use Rattle.wire.proofs.Basics.{_∙_, sym, _≡_, ap, refl, ℕ, _≤_, _+_, _<_, List, [], _∷_, _++_, append-assoc, some, none, Option, length, drop, take, length-drop, drop-of-length-le, length-take-le}
+use Rattle.wire.proofs.Basics.{drop-drop, drop-cons, eq-eqb, arith}
 use native.Mathlib.Decide.{decLt}
-use native.Mathlib.Omega.{arith}
-use lib.ListN.{length, take, drop, length-drop, drop-of-length-le}
-use lib.Seq.{drop-cons, drop-drop, length-take-le}
-use borrow.Author.Tests.{eq-eqb}
 use Rattle.wire.specs.Bytes.{be}
-use Rattle.watch.specs.Noted.{Noted}
+use Rattle.differences.specs.Noted.{Noted}
 use Rattle.moss.specs.Limits.{headLength, letterU}
 use Rattle.moss.specs.Blocks.{firstMessage, before, messagesIn}
 use Rattle.moss.specs.Packet.{Given, gives, refuses, Packet, kindIn, carried, fillFault, packetOf}

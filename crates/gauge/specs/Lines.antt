@@ -6,7 +6,7 @@ use lib.Dec.{eqb}
 use lib.ListN.{length}
 use Rattle.wire.specs.Text.{ascii}
 use Rattle.wire.specs.Choice.{pick}
-use Rattle.watch.specs.Noted.{Noted, first, forward, same, late, restarted, refused}
+use Rattle.differences.specs.Noted.{Noted, first, forward, same, late, restarted, refused}
 use Rattle.moss.specs.Limits.{letterU}
 use Rattle.moss.specs.Packet.{Given, gives, refuses, Packet, packetOf}
 use Rattle.gauge_watch.specs.declared.Gauge.{Gauge}

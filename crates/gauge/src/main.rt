@@ -3,7 +3,7 @@
 ghost use Prim.Native.Nat.{_≤_};
 ghost use lib.ListN.{length, drop};
 ghost use mathlib.Core.Path.{_≡_};
-ghost use Rattle.watch.specs.Noted.{notes};
+ghost use Rattle.differences.specs.Noted.{notes};
 ghost use Rattle.moss.specs.Blocks.{messagesIn};
 ghost use Rattle.moss.specs.Packet.{gives, packetOf, fillFault};
 ghost use Rattle.moss.specs.Answers.{headersOf};
@@ -13,13 +13,13 @@ ghost use Rattle.output.specs.Output.{Pours, lineLimit};
 ghost use Rattle.record_lines.specs.Lines.{Tells};
 ghost use Rattle.gauge.specs.Lines.{notedText, spaced, messagesText, line, lines, Told};
 ghost use Rattle.gauge.specs.Inside.{lengthsIn, lengthsOf};
+use differences::Answer;
 use gauge_watch::Gauge;
 use moss::Header;
 use moss::Read;
 use stream::Input;
 use stream::Kind;
 use stream::Next;
-use watch::Answer;
 
 // The type is the last byte of the header.
 const KIND_AT: usize = moss::HEAD - 1;

@@ -1,17 +1,11 @@
 -- The gauge by its cases. Assumes nothing.
-use mathlib.Core.Path.{_≡_, refl, ap, sym, _∙_}
-use mathlib.Core.Bool.{true, false}
-use mathlib.Core.List.{List}
-use Prim.Native.Nat.{ℕ}
-use native.Mathlib.Omega.{arith}
-use lib.ListN.{length, take, drop, replicate, length-drop}
+use Rattle.wire.proofs.Basics.{_∙_, sym, _≡_, ap, refl, ℕ, List, true, false, length, drop, take, length-drop, replicate, arith}
 use Rattle.wire.specs.Same.{same}
 use Rattle.wire.specs.Overlay.{overlay}
 use Rattle.wire.proofs.Choices.{and-false}
 use Rattle.wire.proofs.Overlays.{overlay-all}
-use Rattle.watch.specs.Noted.{first}
-use Rattle.watch.specs.Difference.{difference, told}
-use Rattle.watch.specs.Watching.{moves}
+use Rattle.differences.specs.Noted.{first, moves}
+use Rattle.differences.specs.Difference.{difference, told}
 use Rattle.moss.specs.Limits.{sessionLength}
 use Rattle.moss.specs.Packet.{Given, gives, refuses, Packet, sessionPlace, sessionIn, packetOf}
 use Rattle.moss.specs.Answers.{headerOf, headersOf}

@@ -1,9 +1,7 @@
 -- No second answer satisfies a contract of this crate; `new` says `r ≡ definition`: wire's one-answer is its theorem. Assumes nothing.
-use mathlib.Core.Path.{_≡_}
-use mathlib.Core.List.{List}
-use Prim.Native.Nat.{ℕ}
+use Rattle.wire.proofs.Basics.{_≡_, ℕ, List}
 use Rattle.wire.proofs.Once.{one-answer}
-use Rattle.watch.proofs.Unique.{answer-once}
+use Rattle.differences.proofs.Once.{answer-once}
 use Rattle.gauge_watch.specs.declared.Gauge.{Gauge}
 use Rattle.gauge_watch.specs.declared.Heard.{Heard}
 use Rattle.gauge_watch.specs.Heard.{Hears}

@@ -1,18 +1,11 @@
 -- Runs of packets of one session: nothing is missing where nothing was left out, and what is missing is what was left out. Assumes nothing.
-use mathlib.Core.Path.{_≡_, refl, ap, sym, _∙_, subst}
-use mathlib.Core.Bool.{true}
-use mathlib.Core.List.{List, [], _∷_, map}
-use Prim.Native.Nat.{ℕ, zero, suc, _+_, _%_, _^_}
-use native.Mathlib.Omega.{arith}
-use lib.ListN.{length, replicate}
+use Rattle.wire.proofs.Basics.{_∙_, sym, _≡_, ap, refl, subst, ℕ, _+_, suc, zero, _^_, _%_, List, [], _∷_, map, true, length, replicate, arith}
 use Rattle.wire.specs.Same.{same}
 use Rattle.wire.specs.Sum.{sum}
 use Rattle.wire.proofs.Parts.{same-refl}
-use Rattle.watch.specs.Noted.{Noted, first, forward, restarted}
-use Rattle.watch.specs.Watching.{moves}
-use Rattle.watch.specs.Difference.{difference, told}
-use Rattle.watch.proofs.Differences.{restarted-number}
-use Rattle.watch.proofs.Runs.{step-told, forward-distance, cons-eq}
+use Rattle.differences.specs.Noted.{Noted, first, forward, restarted, moves}
+use Rattle.differences.specs.Difference.{difference, told}
+use Rattle.differences.proofs.Differences.{restarted-number, step-told, forward-distance, cons-eq}
 use Rattle.moss.specs.Packet.{gives, Packet, packetOf}
 use Rattle.gauge_watch.specs.declared.Gauge.{Gauge}
 use Rattle.gauge_watch.specs.Heard.{notedOf, movedTo, asked, after}

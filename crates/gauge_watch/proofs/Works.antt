@@ -1,5 +1,5 @@
 -- The worked packets are noted as the papers say, computed in one statement. Assumes nothing.
-use mathlib.Core.Path.{_≡_, refl}
+use Rattle.wire.proofs.Basics.{_≡_, refl}
 use Rattle.wire.specs.Bytes.{be}
 use Rattle.moss.specs.Blocks.{messagesWithin}
 use Rattle.moss.specs.Packet.{packetOf}

@@ -6,9 +6,8 @@ use Prim.Native.Nat.{ℕ, _+_, _-_, _%_, _^_}
 use lib.ListN.{length, replicate}
 use Rattle.wire.specs.Choice.{pick}
 use Rattle.wire.specs.Same.{same}
-use Rattle.watch.specs.Noted.{Noted, first, refused, notes}
-use Rattle.watch.specs.Difference.{difference, told}
-use Rattle.watch.specs.Watching.{moves}
+use Rattle.differences.specs.Noted.{Noted, first, refused, notes, moves}
+use Rattle.differences.specs.Difference.{difference, told}
 use Rattle.moss.specs.Limits.{sessionLength}
 use Rattle.moss.specs.Packet.{Given, gives, refuses, Packet, packetOf}
 use Rattle.gauge_watch.specs.declared.Gauge.{Gauge}

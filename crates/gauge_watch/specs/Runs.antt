@@ -4,7 +4,7 @@ use mathlib.Core.Bool.{true}
 use mathlib.Core.List.{List, [], _∷_}
 use Prim.Native.Nat.{ℕ, _+_, _-_, _%_, _^_, _<_}
 use lib.ListN.{length}
-use Rattle.watch.specs.Noted.{Noted}
+use Rattle.differences.specs.Noted.{Noted}
 use Rattle.moss.specs.Packet.{gives, Packet, packetOf}
 use Rattle.gauge_watch.specs.declared.Gauge.{Gauge}
 use Rattle.gauge_watch.specs.Heard.{asked, after}

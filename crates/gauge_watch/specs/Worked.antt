@@ -2,7 +2,7 @@
 use mathlib.Core.List.{List, [], _∷_, _++_}
 use Prim.Native.Nat.{ℕ}
 use lib.ListN.{replicate}
-use Rattle.watch.specs.Noted.{Noted, first, forward, same, late, restarted, refused}
+use Rattle.differences.specs.Noted.{Noted, first, forward, same, late, restarted, refused}
 
 -- a packet of 19 + n bytes: its length field, ten session bytes s, the low byte of its sequence, its type, its blocks
 abbrev packet : ℕ → ℕ → ℕ → ℕ → List ℕ → List ℕ

@@ -2,15 +2,15 @@
 // moves, the last number becomes that of the packet's last message, so that what is missing counts messages.
 ghost use mathlib.Core.Path.{_≡_};
 ghost use Prim.Native.Nat.{_≤_};
-ghost use Rattle.watch.specs.Noted.{notes};
+ghost use Rattle.differences.specs.Noted.{notes};
 ghost use Rattle.moss.specs.Limits.{maxPacket};
 ghost use Rattle.moss.specs.Packet.{packetOf};
 ghost use Rattle.moss.specs.Packet.{gives};
 ghost use Rattle.moss.specs.Answers.{headersOf};
 ghost use Rattle.gauge_watch.specs.Heard.{silent, asked, lastOf, Hears};
+use differences::Answer;
 use moss::Header;
 use moss::Read;
-use watch::Answer;
 
 // The session that goes on, if one was heard, and the number of its last message.
 pub struct Gauge {
@@ -58,7 +58,7 @@ fn ask(g: Gauge, p: &[u8], header: Header) -> Answer
         return Answer::First;
     }
     let number = header.sequence;
-    watch::tell(number, watch::sequence_difference(number, g.last))
+    differences::tell(number, differences::sequence_difference(number, g.last))
 }
 
 // Asks, and moves the gauge where the watch moves.
@@ -67,7 +67,7 @@ fn see_header(g: Gauge, p: &[u8], header: Header) -> Heard
     ensures { λ r. ⌜ Hears g (now (p .entry)) r ⌝ }
 {
     let answer = ask(g, p, header);
-    if watch::does_move(answer) {
+    if differences::does_move(answer) {
         let gauge = Gauge {
             session: moss::session_at(p, header.session),
             last: last_of(header.sequence, header.count),

@@ -1,9 +1,5 @@
 -- Laws of a test on every number below a bound: one number more, and a run of numbers more. Assumes nothing.
-use mathlib.Core.Path.{_≡_, refl}
-use mathlib.Core.Bool.{Bool, true, false, _&&_}
-use Prim.Native.Nat.{ℕ, zero, suc, _+_}
-use native.Mathlib.Numerals.{add-one}
-use native.Mathlib.Omega.{arith}
+use Rattle.wire.proofs.Basics.{_≡_, refl, ℕ, _+_, suc, zero, true, false, Bool, _&&_, add-one, arith}
 use Rattle.steps.specs.Search.{allBelow}
 
 and-and : (a b c : Bool) → (a && (b && c)) ≡ ((a && b) && c)

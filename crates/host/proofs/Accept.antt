@@ -1,8 +1,5 @@
 -- The places of an accepted datagram fit the host's fields; a cut told as one number; no second answer. Assumes nothing.
-use mathlib.Core.Path.{_≡_, ap, _∙_}
-use mathlib.Core.List.{List}
-use Prim.Native.Nat.{ℕ}
-use native.Mathlib.Omega.{arith}
+use Rattle.wire.proofs.Basics.{_∙_, _≡_, ap, ℕ, List, arith}
 use Rattle.wire.proofs.Once.{one-answer}
 use Rattle.datagram.specs.Read.{readDatagram}
 use Rattle.datagram.specs.declared.Header.{Header}

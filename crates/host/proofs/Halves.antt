@@ -1,11 +1,5 @@
 -- The two macros of the C header give back what the cutter answered, and no refusal is taken for a datagram. Assumes nothing.
-use mathlib.Core.Path.{_≡_, refl}
-use mathlib.Core.Bool.{_||_}
-use mathlib.Core.List.{List}
-use Prim.Native.Nat.{ℕ, _^_, _≤_, _<_}
-use native.Mathlib.Omega.{arith}
-use lib.Dec.{leb, ltb}
-use lib.ListN.{length}
+use Rattle.wire.proofs.Basics.{_≡_, refl, ℕ, _≤_, _<_, _^_, List, _||_, length, ltb, leb, arith}
 use Rattle.wire.proofs.Choices.{pick-all}
 use Rattle.datagram.specs.Limits.{maxPayload, maxFragments}
 use Rattle.names.specs.Name.{goodName}

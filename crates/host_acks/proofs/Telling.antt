@@ -1,10 +1,5 @@
 -- The ways in which acknowledge blocks are told; no second answer. Assumes nothing.
-use mathlib.Core.Path.{_≡_, sym, ap, _∙_}
-use mathlib.Core.Bool.{Bool}
-use mathlib.Core.List.{List}
-use Prim.Native.Nat.{ℕ, _≤_, _<_}
-use lib.ListN.{length}
-use borrow.Author.Tests.{lt-ltb, le-ltb}
+use Rattle.wire.proofs.Basics.{_∙_, sym, _≡_, ap, ℕ, _≤_, _<_, List, Bool, length, le-ltb, lt-ltb}
 use Rattle.wire.specs.Slices.{_⇒_}
 use Rattle.wire.proofs.Once.{one-answer}
 use Rattle.ack_blocks.specs.Read.{Given, asked, answers}

@@ -1,12 +1,5 @@
 -- What is written of a flight has a length of 32 bits, is told as one number, and the header's macro gives it back; no second answer. Assumes nothing.
-use mathlib.Core.Path.{_≡_, refl, sym, ap, _∙_, subst}
-use mathlib.Core.Bool.{Bool, true, false}
-use mathlib.Core.List.{List}
-use Prim.Native.Nat.{ℕ, _+_, _-_, _^_, _<_}
-use native.Mathlib.Omega.{arith}
-use lib.Dec.{ltb}
-use lib.ListN.{length}
-use borrow.Author.Tests.{ltb-false}
+use Rattle.wire.proofs.Basics.{_∙_, sym, _≡_, ap, refl, subst, ℕ, _+_, _<_, _-_, _^_, List, true, false, Bool, length, ltb, ltb-false, arith}
 use Rattle.wire.specs.Choice.{pick}
 use Rattle.wire.proofs.Once.{one-answer}
 use Rattle.datagram.specs.Limits.{maxDatagram, maxPayload}

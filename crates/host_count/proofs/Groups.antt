@@ -1,9 +1,5 @@
 -- The groups of a report, one behind the other. Assumes nothing.
-use mathlib.Core.Path.{_≡_}
-use mathlib.Core.List.{List, _++_}
-use Prim.Native.Nat.{ℕ}
-use native.Mathlib.Omega.{arith}
-use lib.ListN.{length, length-append}
+use Rattle.wire.proofs.Basics.{_≡_, ℕ, List, _++_, length, length-append, arith}
 use Rattle.wire.specs.Overlay.{overlay}
 use Rattle.wire.proofs.Overlays.{overlay-next}
 

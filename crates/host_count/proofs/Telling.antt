@@ -1,9 +1,5 @@
 -- Both ways in which a count is told; no second answer. Assumes nothing.
-use mathlib.Core.Path.{_≡_, refl, sym, ap, _∙_}
-use mathlib.Core.List.{List}
-use Prim.Native.Nat.{ℕ, _≤_, _<_}
-use lib.ListN.{length}
-use borrow.Author.Tests.{lt-ltb, le-ltb}
+use Rattle.wire.proofs.Basics.{_∙_, sym, _≡_, ap, refl, ℕ, _≤_, _<_, List, length, le-ltb, lt-ltb}
 use Rattle.wire.specs.Overlay.{overlay}
 use Rattle.count_rules.specs.Count.{Outcome, reported, noReport}
 use Rattle.count.specs.declared.Answer.{Answer}

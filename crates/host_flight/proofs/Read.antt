@@ -1,10 +1,5 @@
 -- The two ways of qm_log_first and qm_log_next: no room, and what the reader answers; no second answer. Assumes nothing.
-use mathlib.Core.Path.{_≡_, sym, ap, _∙_}
-use mathlib.Core.Bool.{true, false}
-use mathlib.Core.List.{List}
-use Prim.Native.Nat.{ℕ}
-use lib.Dec.{ltb}
-use lib.ListN.{length}
+use Rattle.wire.proofs.Basics.{_∙_, sym, _≡_, ap, ℕ, List, true, false, length, ltb}
 use Rattle.wire.proofs.Once.{one-answer}
 use Rattle.log.specs.declared.reader.First.{First}
 use Rattle.log.specs.declared.reader.Step.{Step}

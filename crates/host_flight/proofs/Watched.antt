@@ -1,21 +1,15 @@
 -- The watch in lent lists: what is read from them, what is written, that an answer which moves nothing writes nothing; no second answer. Assumes nothing.
-use mathlib.Core.Path.{_≡_, refl, sym, ap, _∙_}
-use mathlib.Core.Bool.{Bool, true, false, or-true}
-use mathlib.Core.List.{List, [], _∷_}
-use Prim.Native.Nat.{ℕ, zero, suc, _+_, _*_, _^_, _≤_, _<_}
-use native.Mathlib.Omega.{arith}
-use lib.Dec.{ltb}
-use lib.ListN.{length, getD, set, take, drop, replicate}
-use borrow.Author.Tests.{lt-ltb, le-ltb}
+use Rattle.wire.proofs.Basics.{_∙_, sym, _≡_, ap, refl, ℕ, _≤_, _+_, _<_, suc, zero, _*_, _^_, List, [], _∷_, true, false, Bool, or-true, length, drop, getD, take, set, replicate, ltb, le-ltb, lt-ltb}
+use Rattle.wire.proofs.Basics.{arith}
 use Rattle.wire.specs.Overlay.{overlay}
 use Rattle.wire.proofs.Overlays.{overlay-one, overlay-next}
 use Rattle.wire.proofs.Once.{one-answer}
 use Rattle.watch.specs.declared.Watch.{Watch}
 use Rattle.watch.specs.declared.Seen.{Seen}
 use Rattle.watch.specs.Limits.{maxSenders}
-use Rattle.watch.specs.Noted.{notes, notedCode}
+use Rattle.differences.specs.Noted.{notes, notedCode, moves}
 use Rattle.watch.specs.Senders.{empty}
-use Rattle.watch.specs.Watching.{asked, moves, after, Result}
+use Rattle.watch.specs.Watching.{asked, after, Result}
 use Rattle.host_flight.specs.Watches.{watchIn, lacking, sendersOf, lastsOf, SeeTold, watchKind, watchNumber}
 
 -- ---- lists

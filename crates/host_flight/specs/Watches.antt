@@ -9,7 +9,7 @@ use Rattle.wire.specs.Choice.{pick}
 use Rattle.wire.specs.Overlay.{overlay}
 use Rattle.watch.specs.declared.Watch.{Watch}
 use Rattle.watch.specs.Limits.{maxSenders}
-use Rattle.watch.specs.Noted.{notedCode}
+use Rattle.differences.specs.Noted.{notedCode}
 use Rattle.watch.specs.Watching.{asked, after}
 
 -- the watch that two lent lists show: in one how many senders are in use and then the senders, in the other their last numbers

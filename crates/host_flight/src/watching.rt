@@ -51,5 +51,5 @@ pub extern "C" fn qm_watch_see(
     words::put_word(&mut *senders, 0, after.count as u64);
     words::put_words(senders, 1, &after.senders);
     words::put_entries(lasts, 0, &after.lasts);
-    watch::noted_code(answer)
+    differences::noted_code(answer)
 }

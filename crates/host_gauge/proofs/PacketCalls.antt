@@ -1,19 +1,12 @@
 -- Calls of qm_gauge_see one after another hear as the gauge does: what the words show afterwards is the gauge after the packet. Assumes nothing.
-use mathlib.Core.Path.{_≡_, refl, sym, ap, subst, _∙_}
-use mathlib.Core.Bool.{Bool, true, false}
-use mathlib.Core.List.{List, [], _∷_, _++_}
-use Prim.Native.Nat.{ℕ, zero, suc, _%_, _^_, _≤_, _<_}
-use native.Mathlib.Omega.{arith}
-use lib.Dec.{eqb}
-use lib.ListN.{length, take, drop, length-drop, length-take, take-append-drop}
-use lib.Seq.{take-all}
-use borrow.Author.Tests.{le-ltb}
+use Rattle.wire.proofs.Basics.{_∙_, sym, _≡_, ap, refl, subst, ℕ, _≤_, _<_, _^_, _%_, List, [], _∷_, _++_, true, false, Bool, length, drop, length-drop, length-take, take-append-drop, take-all, eqb}
+use Rattle.wire.proofs.Basics.{le-ltb, arith}
 use Rattle.wire.specs.Choice.{pick}
 use Rattle.wire.specs.Bytes.{Bytes, be, bytes}
 use Rattle.wire.specs.Overlay.{overlay}
 use Rattle.wire.specs.Slices.{_⇒_}
-use Rattle.wire.proofs.Numbers.{bytes-be, drop-bytes}
-use Rattle.watch.specs.Watching.{moves}
+use Rattle.wire.proofs.Numbers.{bytes-be, drop-bytes, take-bytes}
+use Rattle.differences.specs.Noted.{moves}
 use Rattle.moss.specs.Limits.{sessionLength}
 use Rattle.moss.specs.Packet.{Given, gives, refuses, Packet, sessionPlace, packetOf}
 use Rattle.moss.proofs.Packets.{packet-good}
@@ -47,12 +40,6 @@ words-back (a ∷ b ∷ c ∷ d ∷ w) g h all n k =
     λ i. record { session = s i; last = l i; started = o i }
 
 -- ---- a packet moves them as it moves the gauge
-
-take-bytes : (k : ℕ) (l : List ℕ) → Bytes l → Bytes (take k l)
-take-bytes zero l h i = omega arith
-take-bytes (suc k) [] h i = omega arith
-take-bytes (suc k) (x ∷ l) h zero = h 0
-take-bytes (suc k) (x ∷ l) h (suc i) = take-bytes k l (λ j. h (suc j)) i
 
 module _ (w b w′ : List ℕ) (answer : ℕ) (h : 4 ≤ length w) (all : Bytes b) (k : SeeTold (w ⇒ w′) b answer) where
   left : (p : Given Packet) → packetOf b ≡ p → w′ ≡ movedWords (asked (gaugeIn w) p) (after (gaugeIn w) p) w

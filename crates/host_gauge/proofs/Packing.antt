@@ -1,11 +1,5 @@
 -- The ways in which a packet, a message of it, and a packet that is written are told; no second answer. Assumes nothing.
-use mathlib.Core.Path.{_≡_, sym, ap, subst, _∙_}
-use mathlib.Core.Bool.{true, false, or-true}
-use mathlib.Core.List.{List}
-use Prim.Native.Nat.{ℕ, _≤_, _<_}
-use lib.Dec.{ltb}
-use lib.ListN.{length, take, drop, replicate}
-use borrow.Author.Tests.{lt-ltb, le-ltb}
+use Rattle.wire.proofs.Basics.{_∙_, sym, _≡_, ap, subst, ℕ, _≤_, _<_, List, true, false, or-true, length, drop, take, replicate, ltb, le-ltb, lt-ltb}
 use Rattle.wire.specs.Overlay.{overlay}
 use Rattle.wire.specs.Slices.{_⇒_}
 use Rattle.wire.proofs.Overlays.{overlay-all}

@@ -1,19 +1,12 @@
 -- The gauge in lent words: what is read from them and written; that calls follow one another as packets do; no second answer. Assumes nothing.
-use mathlib.Core.Path.{_≡_, refl, sym, ap, _∙_}
-use mathlib.Core.Bool.{Bool, true, false}
-use mathlib.Core.List.{List, _++_}
-use Prim.Native.Nat.{ℕ, _+_, _≤_, _<_}
-use lib.Dec.{ltb}
-use lib.ListN.{length, replicate, length-append}
-use borrow.Author.Tests.{lt-ltb, le-ltb}
+use Rattle.wire.proofs.Basics.{_∙_, sym, _≡_, ap, refl, ℕ, _≤_, _+_, _<_, List, _++_, true, false, Bool, length, length-append, replicate, ltb, le-ltb, lt-ltb}
 use Rattle.wire.specs.Bytes.{bytes}
 use Rattle.wire.specs.Overlay.{overlay}
 use Rattle.wire.specs.Slices.{_⇒_}
 use Rattle.wire.proofs.Numbers.{length-bytes}
 use Rattle.wire.proofs.Overlays.{overlay-next, overlay-whole}
 use Rattle.wire.proofs.Once.{one-answer}
-use Rattle.watch.specs.Noted.{notes, notedCode}
-use Rattle.watch.specs.Watching.{moves}
+use Rattle.differences.specs.Noted.{notes, notedCode, moves}
 use Rattle.moss.specs.Limits.{sessionLength}
 use Rattle.moss.specs.Packet.{packetOf}
 use Rattle.gauge_watch.specs.declared.Gauge.{Gauge}

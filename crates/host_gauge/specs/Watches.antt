@@ -8,8 +8,7 @@ use Rattle.wire.specs.Choice.{pick, _when_else_}
 use Rattle.wire.specs.Bytes.{be, bytes}
 use Rattle.wire.specs.Overlay.{overlay}
 use Rattle.wire.specs.Slices.{Buffer, short}
-use Rattle.watch.specs.Noted.{Noted, notedCode}
-use Rattle.watch.specs.Watching.{moves}
+use Rattle.differences.specs.Noted.{Noted, notedCode, moves}
 use Rattle.moss.specs.Packet.{packetOf}
 use Rattle.gauge_watch.specs.declared.Gauge.{Gauge}
 use Rattle.gauge_watch.specs.Heard.{asked, after}

@@ -53,10 +53,10 @@ pub extern "C" fn qm_gauge_see(gauge: &mut [u64], packet: &[u8]) -> u64
     }
     let heard = gauge_watch::see_packet(shown(&*gauge), packet);
     let answer = heard.answer;
-    if watch::does_move(answer) {
+    if differences::does_move(answer) {
         let numbers = gauge_words(heard.gauge);
         words::put_words(gauge, 0, &numbers);
-        return watch::noted_code(answer);
+        return differences::noted_code(answer);
     }
-    watch::noted_code(answer)
+    differences::noted_code(answer)
 }

@@ -1,9 +1,5 @@
 -- What is told of an index file is what its functions give; no second answer. Assumes nothing.
-use mathlib.Core.Path.{_≡_, sym, ap, _∙_}
-use mathlib.Core.List.{List}
-use Prim.Native.Nat.{ℕ, _≤_, _<_}
-use lib.ListN.{length}
-use borrow.Author.Tests.{lt-ltb, le-ltb}
+use Rattle.wire.proofs.Basics.{_∙_, sym, _≡_, ap, ℕ, _≤_, _<_, List, length, le-ltb, lt-ltb}
 use Rattle.wire.specs.Overlay.{overlay}
 use Rattle.wire.proofs.Once.{one-answer}
 use Rattle.index_file.specs.Files.{headIn}

@@ -1,11 +1,5 @@
 -- Each C call is the call of the code that its contract tells of. Assumes nothing.
-use mathlib.Core.Path.{_≡_, refl, ap, _∙_, subst}
-use mathlib.Core.Logic.{inl, inr}
-use mathlib.Core.Bool.{Bool, true, false}
-use mathlib.Core.Option.{none, some}
-use mathlib.Core.List.{List}
-use Prim.Native.Nat.{ℕ, _≤_}
-use native.Mathlib.Omega.{arith}
+use Rattle.wire.proofs.Basics.{_∙_, _≡_, ap, refl, subst, ℕ, _≤_, List, true, false, Bool, inl, inr, some, none, arith}
 use Rattle.wire.specs.Choice.{pick}
 use Rattle.wire.proofs.Choices.{either}
 use Rattle.datagram.specs.Read.{sequenceIn}

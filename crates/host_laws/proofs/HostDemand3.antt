@@ -1,7 +1,5 @@
 -- A run of C calls is a run of calls of the code, and tells what these hand over: demand 3 for the C calls. Assumes nothing.
-use mathlib.Core.Path.{_≡_, refl, sym, ap, _∙_, subst}
-use Prim.Native.Nat.{ℕ}
-use lib.ListN.{length}
+use Rattle.wire.proofs.Basics.{_∙_, sym, _≡_, ap, refl, subst, ℕ, length}
 use Rattle.steps.proofs.Reaches.{reached-good}
 use Rattle.receiver_state.specs.View.{view}
 use Rattle.receiver.specs.Lent.{Lent, lent}

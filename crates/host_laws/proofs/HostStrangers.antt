@@ -1,8 +1,5 @@
 -- The promise with strangers about, for the C calls: each is a call of the code. Assumes nothing.
-use mathlib.Core.Path.{_≡_, sym, _∙_, subst}
-use mathlib.Core.Logic.{inl, inr}
-use mathlib.Core.List.{List}
-use Prim.Native.Nat.{ℕ}
+use Rattle.wire.proofs.Basics.{_∙_, sym, _≡_, subst, ℕ, List, inl, inr}
 use Rattle.wire.proofs.Choices.{either}
 use Rattle.receiver.specs.Lent.{Lent, lent}
 use Rattle.arrival.specs.Strangers.{Feed, part}

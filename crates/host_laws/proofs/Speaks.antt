@@ -1,15 +1,7 @@
 -- What is known of the outcome of a call of `receive`, whatever was lent: a refusal has a number from 1 on and empties no key, a name has its 63 bytes, and a message that
 -- is delivered has the sequence of the datagram's bytes. Assumes nothing.
-use mathlib.Core.Path.{_≡_, refl, sym, ap, _∙_, subst}
-use mathlib.Core.Logic.{inl, inr}
-use mathlib.Core.Bool.{Bool, true, false}
-use mathlib.Core.Option.{none}
-use mathlib.Core.List.{List}
-use Prim.Native.Nat.{ℕ, _+_, _-_, _*_, _≤_, _<_}
-use native.Mathlib.Omega.{arith}
-use lib.Dec.{eqb}
-use lib.ListN.{length, set, replicate, length-replicate, length-append}
-use borrow.Author.Tests.{eqb-true}
+use Rattle.wire.proofs.Basics.{_∙_, sym, _≡_, ap, refl, subst, ℕ, _≤_, _+_, _<_, _-_, _*_, List, true, false, Bool, inl, inr, none, length, length-append, set, replicate, length-replicate, eqb}
+use Rattle.wire.proofs.Basics.{eqb-true, arith}
 use Rattle.wire.specs.Choice.{pick}
 use Rattle.wire.proofs.Choices.{either, pick-all}
 use Rattle.names.proofs.Names.{name-short}

@@ -1,12 +1,6 @@
 -- The worked calls meet the contracts of the C calls, from the numbers, and demand 3 for the C calls is applied to them. Assumes nothing.
-use mathlib.Core.Path.{_≡_, refl, sym}
-use mathlib.Core.Option.{some, Option·some-ne-none}
-use mathlib.Core.Bool.{true}
-use mathlib.Core.List.{[], _∷_}
-use Prim.Native.Nat.{ℕ}
-use native.Mathlib.Omega.{arith}
-use lib.Dec.{lit<, lit≤}
-use lib.ListN.{replicate}
+use Rattle.wire.proofs.Basics.{sym, _≡_, refl, ℕ, [], _∷_, true, some, replicate, lit<, lit≤, arith}
+use mathlib.Core.Option.{Option·some-ne-none}
 use Rattle.wire.specs.Bytes.{be}
 use Rattle.wire.specs.Overlay.{overlay}
 use Rattle.names.specs.Name.{goodName}

@@ -1,10 +1,5 @@
 -- The ways in which a message that is written is told; no second answer. Assumes nothing.
-use mathlib.Core.Path.{_≡_, sym, ap, _∙_}
-use mathlib.Core.List.{List}
-use Prim.Native.Nat.{ℕ, _≤_, _<_}
-use lib.IntN.{ℤ}
-use lib.ListN.{length}
-use borrow.Author.Tests.{lt-ltb, le-ltb}
+use Rattle.wire.proofs.Basics.{_∙_, sym, _≡_, ap, ℕ, _≤_, _<_, List, length, ℤ, le-ltb, lt-ltb}
 use Rattle.wire.specs.Slices.{_⇒_}
 use Rattle.wire.proofs.Once.{one-answer}
 use Rattle.lmcp.specs.declared.Made.{Made}

@@ -1,9 +1,5 @@
 -- Both ways in which the tile lines are told; no second answer. Assumes nothing.
-use mathlib.Core.Path.{_≡_, refl, sym, ap, _∙_, subst}
-use mathlib.Core.Logic.{inl, inr}
-use mathlib.Core.Bool.{Bool, true, false}
-use mathlib.Core.List.{List}
-use Prim.Native.Nat.{ℕ}
+use Rattle.wire.proofs.Basics.{_∙_, sym, _≡_, ap, refl, subst, ℕ, List, true, false, Bool, inl, inr}
 use Rattle.wire.specs.Slices.{_⇒_}
 use Rattle.wire.proofs.Choices.{either, never}
 use Rattle.pit_marks.specs.declared.Sizes.{Sizes}

@@ -1,11 +1,5 @@
 -- The two ways of qm_receive and qm_receive_within: no room for the outcome, and the receiver's own call. Assumes nothing.
-use mathlib.Core.Path.{_≡_, refl}
-use mathlib.Core.Bool.{true, false}
-use mathlib.Core.List.{List}
-use Prim.Native.Nat.{ℕ, _≤_, _<_}
-use lib.Dec.{ltb}
-use lib.ListN.{length}
-use borrow.Author.Tests.{lt-ltb, le-ltb}
+use Rattle.wire.proofs.Basics.{_≡_, refl, ℕ, _≤_, _<_, List, true, false, length, ltb, le-ltb, lt-ltb}
 use Rattle.wire.proofs.Choices.{never}
 use Rattle.datagram.specs.Limits.{maxName}
 use Rattle.receiver.specs.Lent.{Lent}

@@ -1,12 +1,5 @@
 -- Both ways in which a stretch is told; no second answer. Assumes nothing.
-use mathlib.Core.Path.{_≡_, refl, sym, ap, _∙_}
-use mathlib.Core.Logic.{inl, inr}
-use mathlib.Core.List.{List, _++_}
-use Prim.Native.Nat.{ℕ, _≤_, _<_}
-use native.Mathlib.Omega.{arith}
-use lib.Dec.{ltb}
-use lib.ListN.{length, length-append}
-use borrow.Author.Tests.{lt-ltb, le-ltb}
+use Rattle.wire.proofs.Basics.{_∙_, sym, _≡_, ap, refl, ℕ, _≤_, _<_, List, _++_, inl, inr, length, length-append, ltb, le-ltb, lt-ltb, arith}
 use Rattle.wire.specs.Overlay.{overlay}
 use Rattle.wire.specs.Slices.{_⇒_}
 use Rattle.wire.proofs.Overlays.{overlay-next}

@@ -1,12 +1,6 @@
 -- Counted, judged and then entered. Assumes nothing.
-use mathlib.Core.Path.{_≡_, refl, sym, ap, subst, _∙_}
-use mathlib.Core.Bool.{Bool, true, false}
-use mathlib.Core.List.{List, []}
-use Prim.Native.Nat.{ℕ, _+_, _-_, _*_, _/_, _≤_, max}
-use native.Mathlib.Omega.{arith}
-use lib.Dec.{ltb}
-use lib.ListN.{length, take}
-use borrow.Author.Tests.{ltb-false}
+use Rattle.wire.proofs.Basics.{_∙_, sym, _≡_, ap, refl, subst, ℕ, _≤_, _+_, _-_, _*_, _/_, List, [], true, false, Bool, length, take, ltb, ltb-false, arith}
+use Prim.Native.Nat.{max}
 use Rattle.wire.specs.Taken.{Taken, taken, refused}
 use Rattle.wire.proofs.Choices.{or-l, or-r}
 use Rattle.log.specs.Editions.{Edition, headIn, limitsOf}

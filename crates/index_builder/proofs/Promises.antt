@@ -1,11 +1,7 @@
 -- What the index promises: extended, it is the index worked out afresh; a key is found where the log first has it. Assumes nothing.
-use mathlib.Core.Path.{_≡_, refl, sym, ap, _∙_}
-use mathlib.Core.Logic.{inl, inr}
-use mathlib.Core.Bool.{Bool, true, false}
-use mathlib.Core.List.{List, _++_, append-assoc}
-use Prim.Native.Nat.{ℕ, _+_, _-_, _*_, _≤_, max}
-use native.Mathlib.Omega.{arith}
-use lib.ListN.{length, take, drop, length-append, length-take, take-append-drop}
+use Rattle.wire.proofs.Basics.{_∙_, sym, _≡_, ap, refl, ℕ, _≤_, _+_, _-_, _*_, List, _++_, append-assoc, true, false, Bool, inl, inr, length, drop, take, length-append, length-take, take-append-drop}
+use Rattle.wire.proofs.Basics.{arith}
+use Prim.Native.Nat.{max}
 use Rattle.wire.specs.Bytes.{Bytes}
 use Rattle.wire.specs.Choice.{pick}
 use Rattle.wire.specs.Overlay.{overlay}

@@ -1,12 +1,5 @@
 -- The answers of the reader, and no second one. Assumes nothing.
-use mathlib.Core.Path.{_≡_, refl, sym, ap, _∙_}
-use mathlib.Core.Bool.{Bool, true, false, _&&_}
-use mathlib.Core.List.{List}
-use Prim.Native.Nat.{ℕ, _*_, _≤_, _<_}
-use native.Mathlib.Omega.{arith}
-use lib.Dec.{ltb}
-use lib.ListN.{length}
-use borrow.Author.Tests.{lt-ltb, le-ltb}
+use Rattle.wire.proofs.Basics.{_∙_, sym, _≡_, ap, refl, ℕ, _≤_, _<_, _*_, List, true, false, Bool, _&&_, length, ltb, le-ltb, lt-ltb, arith}
 use Rattle.wire.specs.Overlay.{overlay}
 use Rattle.wire.proofs.Once.{one-answer}
 use Rattle.log_index.specs.Rows.{Row}

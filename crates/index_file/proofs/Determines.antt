@@ -1,13 +1,6 @@
 -- Covered length and rows, and the file, determine each other: what is written is read, and what is read is written as it stood. Assumes nothing.
-use mathlib.Core.Path.{_≡_, refl, sym, ap, _∙_}
-use mathlib.Core.Bool.{true}
-use mathlib.Core.List.{List, [], _∷_, _++_, append-assoc}
-use Prim.Native.Nat.{ℕ, zero, suc, _+_, _-_, _*_, _/_, _^_, _≤_, _<_}
-use native.Mathlib.Omega.{arith}
-use lib.Dec.{eqb}
-use lib.ListN.{length, getD, take, drop, length-append, length-drop, take-append-drop}
-use lib.Seq.{drop-at, drop-cons, drop-drop, take-add, take-all}
-use borrow.Author.Tests.{eq-eqb, eqb-true, lt-ltb}
+use Rattle.wire.proofs.Basics.{_∙_, sym, _≡_, ap, refl, ℕ, _≤_, _+_, _<_, _-_, suc, zero, _*_, _^_, _/_, List, [], _∷_, _++_, append-assoc, true, length, drop, getD, take, length-append, length-drop}
+use Rattle.wire.proofs.Basics.{take-append-drop, drop-drop, take-all, drop-at, drop-cons, take-add, eqb, eq-eqb, lt-ltb, eqb-true, arith}
 use Rattle.wire.specs.Bytes.{be, bytes, Bytes}
 use Rattle.wire.proofs.Choices.{and-l, and-r}
 use Rattle.wire.proofs.Numbers.{length-bytes, be-bytes, be-lt, bytes-be, drop-bytes}

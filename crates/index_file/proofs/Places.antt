@@ -1,12 +1,7 @@
 -- The first n of some rows: how many there are, and which. Assumes nothing.
-use mathlib.Core.Path.{_≡_, refl, ap, _∙_}
-use mathlib.Core.List.{List, [], _∷_, _++_}
-use Prim.Native.Nat.{ℕ, zero, suc, _+_, _<_}
-use native.Mathlib.Omega.{arith}
-use native.Mathlib.Numerals.{add-one}
-use native.Mathlib.Decide.{decLe}
-use lib.ListN.{length, getD, length-append, List·getD-append}
-use lib.Seq.{getD-at, ext-getD}
+use Rattle.wire.proofs.Basics.{_∙_, _≡_, ap, refl, ℕ, _+_, _<_, suc, zero, List, [], _∷_, _++_, length, getD, length-append, ext-getD, decLe, add-one, arith}
+use lib.ListN.{List·getD-append}
+use lib.Seq.{getD-at}
 use Rattle.log_index.specs.Rows.{Row}
 use Rattle.log_index.proofs.Sorts.{none}
 use Rattle.index_file.specs.File.{firstRows}

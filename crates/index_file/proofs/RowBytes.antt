@@ -1,10 +1,6 @@
 -- A row and its bytes, and rows one after another. Assumes nothing.
-use mathlib.Core.Path.{_≡_, refl, sym, ap, _∙_}
-use mathlib.Core.List.{List, [], _∷_, _++_, append-assoc, append-nil}
-use Prim.Native.Nat.{ℕ, zero, suc, _+_, _*_, _≤_}
-use native.Mathlib.Omega.{arith}
-use lib.ListN.{length, take, drop, length-append, length-drop}
-use lib.Seq.{drop-at, drop-drop, take-add}
+use Rattle.wire.proofs.Basics.{_∙_, sym, _≡_, ap, refl, ℕ, _≤_, _+_, suc, zero, _*_, List, [], _∷_, _++_, append-assoc, append-nil, length, drop, take, length-append, length-drop, drop-drop, drop-at}
+use Rattle.wire.proofs.Basics.{take-add, arith}
 use Rattle.wire.specs.Bytes.{be, bytes, Bytes}
 use Rattle.wire.proofs.Numbers.{length-bytes, be-bytes, be-lt, bytes-be, drop-bytes}
 use Rattle.log_index.specs.Rows.{Row, rowOf}

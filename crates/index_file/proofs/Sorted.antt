@@ -1,14 +1,5 @@
 -- Rows in order are sorted rows, and sorted rows are in order. Assumes nothing.
-use mathlib.Core.Path.{_≡_, refl, sym, ap, subst, _∙_}
-use mathlib.Core.Logic.{inl, inr}
-use mathlib.Core.Bool.{true, false, not}
-use mathlib.Core.List.{List, [], _∷_}
-use Prim.Native.Nat.{ℕ, zero, suc, _+_, _≤_, _<_}
-use native.Mathlib.Omega.{arith}
-use native.Mathlib.Decide.{decLe}
-use native.Mathlib.Numerals.{add-one}
-use lib.ListN.{length, getD}
-use borrow.Author.Tests.{not-true}
+use Rattle.wire.proofs.Basics.{_∙_, sym, _≡_, ap, refl, subst, ℕ, _≤_, _+_, _<_, suc, zero, List, [], _∷_, true, false, not, inl, inr, length, getD, not-true, decLe, add-one, arith}
 use Rattle.wire.proofs.Choices.{either, never, and-l, and-r, and-of}
 use Rattle.log_index.specs.Rows.{Row, earlier, put, sorted}
 use Rattle.log_index.proofs.Order.{upto-trans}

@@ -1,13 +1,5 @@
 -- What the functions do, a step at a time: a row is read, the head is judged, rows are copied. Assumes nothing.
-use mathlib.Core.Path.{_≡_, refl, sym, ap, _∙_}
-use mathlib.Core.Bool.{false, _&&_}
-use mathlib.Core.List.{List, [], _∷_, _++_}
-use Prim.Native.Nat.{ℕ, _+_, _-_, _*_, _/_, _%_, _≤_, _<_}
-use native.Mathlib.Omega.{arith}
-use lib.Dec.{eqb, ltb}
-use lib.ListN.{length, getD}
-use lib.Seq.{drop-drop}
-use borrow.Author.Tests.{le-ltb, eq-eqb, ne-eqb}
+use Rattle.wire.proofs.Basics.{_∙_, sym, _≡_, ap, refl, ℕ, _≤_, _+_, _<_, _-_, _*_, _%_, _/_, List, [], _∷_, _++_, false, _&&_, length, getD, drop-drop, eqb, ltb, eq-eqb, le-ltb, ne-eqb, arith}
 use Rattle.wire.specs.Bytes.{Number, be}
 use Rattle.wire.specs.Overlay.{overlay}
 use Rattle.wire.proofs.Choices.{and-of, and-false}

@@ -1,10 +1,5 @@
 -- The lines of the words of an index are those of its rows. Assumes nothing.
-use mathlib.Core.Path.{_≡_, refl, sym, ap, _∙_}
-use mathlib.Core.List.{List, [], _∷_, _++_, append-nil, append-assoc}
-use Prim.Native.Nat.{ℕ, zero, suc, _*_, _≤_}
-use native.Mathlib.Omega.{arith}
-use lib.ListN.{length, getD, take, drop, take-append-drop}
-use lib.Seq.{take-suc, take-length}
+use Rattle.wire.proofs.Basics.{_∙_, sym, _≡_, ap, refl, ℕ, _≤_, suc, zero, _*_, List, [], _∷_, _++_, append-assoc, append-nil, length, drop, getD, take, take-append-drop, take-suc, take-length, arith}
 use Rattle.log_index.specs.Rows.{Row, sorted}
 use Rattle.log_index.specs.Index.{rowsIn, Answer, holds, answerOf}
 use Rattle.log_index.specs.Words.{wordsOf, rowAt}

@@ -1,15 +1,6 @@
 -- Halving over the file's bytes comes to what it comes to over the rows. Assumes nothing.
-use mathlib.Core.Path.{_≡_, refl, sym, ap, _∙_}
-use mathlib.Core.Logic.{inl, inr}
-use mathlib.Core.Bool.{Bool, true, false, _&&_}
-use mathlib.Core.Option.{some}
+use Rattle.wire.proofs.Basics.{_∙_, sym, _≡_, ap, refl, ℕ, _≤_, _+_, _<_, suc, zero, List, [], _++_, true, false, Bool, _&&_, inl, inr, some, length, getD, ltb, ltb-false, ltb-true, arith}
 use mathlib.Core.Option as option
-use mathlib.Core.List.{List, [], _++_}
-use Prim.Native.Nat.{ℕ, zero, suc, _+_, _≤_, _<_}
-use native.Mathlib.Omega.{arith}
-use lib.Dec.{ltb}
-use lib.ListN.{length, getD}
-use borrow.Author.Tests.{ltb-true, ltb-false}
 use Rattle.wire.specs.Choice.{pick}
 use Rattle.wire.specs.Halving.{middle, halve}
 use Rattle.wire.proofs.Choices.{either}

@@ -1,14 +1,6 @@
 -- By the index file of a log, also one that has grown since, a key is found where the log first has it, and nothing is refused. Assumes nothing.
-use mathlib.Core.Path.{_≡_, refl, sym, ap, subst, _∙_}
-use mathlib.Core.Logic.{inl, inr}
-use mathlib.Core.Bool.{true}
-use mathlib.Core.List.{List, [], _∷_, _++_, append-assoc, append-nil}
-use Prim.Native.Nat.{ℕ, zero, suc, _+_, _^_, _≤_, _<_}
-use native.Mathlib.Omega.{arith}
-use lib.Dec.{eqb}
-use lib.ListN.{length, getD, drop, length-append}
-use lib.Seq.{drop-append-seam}
-use borrow.Author.Tests.{eqb-true, le-ltb}
+use Rattle.wire.proofs.Basics.{_∙_, sym, _≡_, ap, refl, subst, ℕ, _≤_, _+_, _<_, suc, zero, _^_, List, [], _∷_, _++_, append-assoc, append-nil, true, inl, inr, length, drop, getD, length-append}
+use Rattle.wire.proofs.Basics.{drop-append-seam, eqb, le-ltb, eqb-true, arith}
 use Rattle.wire.specs.Bytes.{Bytes}
 use Rattle.wire.specs.Taken.{taken}
 use Rattle.wire.proofs.Choices.{either, and-l, and-r, and-of}

@@ -1,14 +1,6 @@
 -- Every row of a log leads to an entry of its key, also where the log has grown, and fits an index file. Assumes nothing.
-use mathlib.Core.Path.{_≡_, refl, sym, ap, subst, _∙_}
-use mathlib.Core.Bool.{Bool, true, false, _||_}
-use mathlib.Core.List.{List, [], _∷_, _++_, append-assoc}
-use Prim.Native.Nat.{ℕ, suc, _+_, _-_, _^_, _≤_, _<_}
-use native.Mathlib.Omega.{arith}
-use native.Mathlib.Decide.{decLe}
-use lib.Dec.{eqb, leb, ltb}
-use lib.ListN.{length, take, drop, length-append, length-drop, length-take, List·getD-eq-default}
-use lib.Seq.{drop-drop, drop-append-seam, getD-take}
-use borrow.Author.Tests.{eq-eqb}
+use Rattle.wire.proofs.Basics.{_∙_, sym, _≡_, ap, refl, subst, ℕ, _≤_, _+_, _<_, _-_, suc, _^_, List, [], _∷_, _++_, append-assoc, true, false, Bool, _||_, length, drop, take, length-append}
+use Rattle.wire.proofs.Basics.{length-drop, length-take, List·getD-eq-default, drop-drop, getD-take, drop-append-seam, eqb, ltb, leb, eq-eqb, decLe, arith}
 use Rattle.wire.specs.Bytes.{Bytes}
 use Rattle.wire.specs.Taken.{taken}
 use Rattle.wire.specs.Choice.{pick}

@@ -1,6 +1,6 @@
 // The sequence watch. A case is: how many senders the watch claims, of 1 to 16 in order; the last number of the first; the sender and the number;
 // and how far the last number of each lies above that of the one before it, 0 where the case does not say.
-use watch::Answer;
+use differences::Answer;
 use watch::Watch;
 
 // The low 32 bits of a number of a case.

@@ -1,10 +1,5 @@
 -- The walks that write: what is not refused as a whole is refused nowhere, and what is laid of each part is laid of the whole. Assumes nothing.
-use mathlib.Core.Path.{_≡_, refl, ap, sym, _∙_, subst}
-use mathlib.Core.List.{List, [], _++_}
-use Prim.Native.Nat.{ℕ, _+_, _-_, _≤_, _<_}
-use native.Mathlib.Omega.{arith}
-use lib.ListN.{length, drop, length-append}
-use lib.Seq.{sets}
+use Rattle.wire.proofs.Basics.{_∙_, sym, _≡_, ap, refl, subst, ℕ, _≤_, _+_, _<_, _-_, List, [], _++_, length, drop, length-append, sets, arith}
 use Rattle.lmcp.specs.declared.Went.the-variants.{To}
 use Rattle.lmcp.specs.Run.{Run, got, Tag, tag, andThen, after}
 use Rattle.lmcp.specs.Table.{Table, fieldsOf}

@@ -1,13 +1,6 @@
 -- What the reader's answers tell: it refuses by 20 to 28, never by the 13 that a caller hears of a list too short; and an accepted message's
 -- numbers begin with its version and its root's type, which are not negative. Assumes nothing.
-use mathlib.Core.Path.{_≡_, refl, sym, ap, _∙_, subst}
-use mathlib.Core.Bool.{Bool, true, false, not, _&&_, _||_}
-use mathlib.Core.List.{List, [], _∷_}
-use Prim.Native.Nat.{ℕ, _+_, _≤_}
-use lib.Dec.{ltb, eqb, lit≤}
-use lib.IntN.{ℤ, pos}
-use lib.ListN.{length, getD, take, drop}
-use borrow.Author.Tests.{eqb-false}
+use Rattle.wire.proofs.Basics.{_∙_, sym, _≡_, ap, refl, subst, ℕ, _≤_, _+_, List, [], _∷_, true, false, Bool, _&&_, _||_, not, length, drop, getD, take, eqb, ltb, lit≤, ℤ, pos, eqb-false}
 use Rattle.wire.specs.Choice.{pick}
 use Rattle.wire.specs.Bytes.{be}
 use Rattle.wire.specs.Same.{same}

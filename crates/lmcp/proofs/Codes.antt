@@ -1,12 +1,6 @@
 -- The bytes of the table say what the rows are, and their codes, in either version, by computed tests. Assumes nothing.
-use mathlib.Core.Path.{_≡_, refl, ap, sym, _∙_, subst}
-use mathlib.Core.Bool.{Bool, true, false, _&&_}
-use mathlib.Core.List.{List}
-use Prim.Native.Nat.{ℕ, _≤_, _<_}
-use lib.Dec.{leb, eqb}
-use native.Mathlib.Omega.{arith}
-use lib.ListN.{length, getD, List·getD-eq-default}
-use borrow.Author.Tests.{eqb-true, eqb-false, leb-true, eq-eqb, ne-eqb}
+use Rattle.wire.proofs.Basics.{_∙_, sym, _≡_, ap, refl, subst, ℕ, _≤_, _<_, List, true, false, Bool, _&&_, length, getD, List·getD-eq-default, eqb, leb, eq-eqb, ne-eqb, eqb-true, eqb-false, leb-true}
+use Rattle.wire.proofs.Basics.{arith}
 use Rattle.wire.specs.Choice.{pick}
 use Rattle.wire.proofs.Choices.{never, and-l, and-r}
 use Rattle.lmcp.specs.declared.Row.{Row}

@@ -1,15 +1,6 @@
 -- The round trips of number lists, in either version, from those over any table; the old reader answers 24 to version 2. Assumes nothing.
-use mathlib.Core.Path.{_≡_, refl, ap, sym, _∙_, subst}
-use mathlib.Core.Bool.{Bool, true, false, _||_}
-use mathlib.Core.List.{List, [], _∷_}
-use Prim.Native.Nat.{ℕ, _^_, _<_}
-use native.Mathlib.Omega.{arith}
-use lib.Dec.{eqb, lit<}
-use lib.IntN.{ℤ, pos, negsuc}
-use lib.ListN.{drop}
-use lib.Seq.{drop-drop}
+use Rattle.wire.proofs.Basics.{_∙_, sym, _≡_, ap, refl, subst, ℕ, _<_, _^_, List, [], _∷_, true, false, Bool, _||_, drop, drop-drop, eqb, lit<, ℤ, pos, negsuc, ne-eqb, eqb-true, arith}
 use lib.Signed.{mag}
-use borrow.Author.Tests.{eqb-true, ne-eqb}
 use Rattle.wire.specs.Choice.{pick}
 use Rattle.wire.specs.Bytes.{be, Bytes}
 use Rattle.wire.proofs.Choices.{never, and-false}

@@ -1,16 +1,7 @@
 -- The heads of objects: what is written reads back, and what is read is written again, for any sound table. Assumes nothing.
-use mathlib.Core.Path.{_≡_, refl, ap, sym, _∙_, subst}
-use mathlib.Core.Bool.{Bool, true, false, _&&_, _||_}
-use mathlib.Core.List.{List, [], _∷_, _++_, append-assoc}
-use Prim.Native.Nat.{ℕ, suc, _≤_, _<_}
-use native.Mathlib.Nat.{zero-add}
-use native.Mathlib.Omega.{arith}
-use lib.Dec.{ltb, eqb, lit<}
-use lib.IntN.{ℤ, pos, negsuc}
+use Rattle.wire.proofs.Basics.{_∙_, sym, _≡_, ap, refl, subst, ℕ, _≤_, _<_, suc, List, [], _∷_, _++_, append-assoc, true, false, Bool, _&&_, _||_, length, drop, take, length-append, length-drop}
+use Rattle.wire.proofs.Basics.{take-append-drop, drop-drop, eqb, ltb, lit<, ℤ, pos, negsuc, eq-eqb, le-ltb, eqb-true, ltb-false, ltb-true, eqb-false, zero-add, arith}
 use lib.Signed.{mag}
-use lib.ListN.{length, take, drop, length-append, length-drop, take-append-drop}
-use lib.Seq.{drop-drop}
-use borrow.Author.Tests.{le-ltb, eq-eqb, ltb-true, ltb-false, eqb-true, eqb-false}
 use Rattle.wire.specs.Choice.{pick}
 use Rattle.wire.specs.Bytes.{be, bytes, Bytes}
 use Rattle.wire.proofs.Choices.{never, and-l, and-r}

@@ -1,15 +1,6 @@
 -- The round trips of the lent memory, from the contracts of the reader and the writer alone: what was written to the output reads back into
 -- the list, and what was read into the list is written back to the output. Assumes nothing.
-use mathlib.Core.Path.{_≡_, refl, ap, _∙_}
-use mathlib.Core.Bool.{Bool, true, false}
-use mathlib.Core.List.{List, []}
-use Prim.Native.Nat.{ℕ, _+_, _≤_}
-use native.Mathlib.Omega.{arith}
-use lib.Dec.{leb}
-use lib.IntN.{ℤ}
-use lib.ListN.{length, take}
-use lib.Seq.{sets}
-use borrow.Author.Tests.{le-leb, leb-true}
+use Rattle.wire.proofs.Basics.{_∙_, _≡_, ap, refl, ℕ, _≤_, _+_, List, [], true, false, Bool, length, take, sets, leb, ℤ, le-leb, leb-true, arith}
 use Rattle.wire.specs.Choice.{pick}
 use Rattle.wire.specs.Bytes.{Bytes}
 use Rattle.wire.specs.Overlay.{overlay}

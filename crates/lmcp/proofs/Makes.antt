@@ -1,7 +1,5 @@
 -- What holds of the pieces that a walk makes and of the numbers by which it refuses holds of the walk of a whole root. Assumes nothing.
-use mathlib.Core.List.{List, [], _∷_, _++_}
-use Prim.Native.Nat.{ℕ, zero, suc}
-use lib.Dec.{eqb}
+use Rattle.wire.proofs.Basics.{ℕ, suc, zero, List, [], _∷_, _++_, eqb}
 use Rattle.wire.proofs.Choices.{pick-all}
 use Rattle.lmcp.specs.declared.Row.{Row}
 use Rattle.lmcp.specs.Limits.{deepest}

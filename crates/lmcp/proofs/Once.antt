@@ -1,9 +1,6 @@
 -- No second answer satisfies a contract: two answers of the reader, or of the writer, for one input are the same, and so are the
 -- lent list or output that they leave. Assumes nothing.
-use mathlib.Core.Path.{_≡_}
-use mathlib.Core.List.{List}
-use Prim.Native.Nat.{ℕ}
-use lib.IntN.{ℤ}
+use Rattle.wire.proofs.Basics.{_≡_, ℕ, List, ℤ}
 use Rattle.wire.proofs.Once.{one-answer}
 use Rattle.lmcp.specs.declared.Found.{Found}
 use Rattle.lmcp.specs.declared.Made.{Made}

@@ -1,11 +1,5 @@
 -- Series PITSURV: its table is sound in either version, by one computed test over all rows. Assumes nothing.
-use mathlib.Core.Path.{_≡_, refl, sym, subst}
-use mathlib.Core.Bool.{Bool, true, false, _&&_, _||_}
-use mathlib.Core.List.{List, [], _∷_}
-use Prim.Native.Nat.{ℕ, _^_, _<_}
-use lib.Dec.{leb, eqb, lit≤}
-use lib.ListN.{length, getD}
-use borrow.Author.Tests.{leb-true, ne-eqb}
+use Rattle.wire.proofs.Basics.{sym, _≡_, refl, subst, ℕ, _<_, _^_, List, [], _∷_, true, false, Bool, _&&_, _||_, length, getD, eqb, leb, lit≤, ne-eqb, leb-true}
 use Rattle.wire.proofs.Choices.{and-l, and-r}
 use Rattle.lmcp.specs.declared.Row.{Row}
 use Rattle.lmcp.specs.Table.{objectKind, signedKind, RowFits, RowsFit, Sound, joined, rowsOf, nothing, second, typesOf, pitsurv}

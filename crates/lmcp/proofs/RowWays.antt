@@ -1,9 +1,5 @@
 -- A row of the table by three of its bytes: what a walk, in either direction, takes of it. Assumes nothing.
-use mathlib.Core.Path.{_≡_, ap, sym, _∙_}
-use mathlib.Core.List.{List}
-use Prim.Native.Nat.{ℕ, _≤_, _<_}
-use native.Mathlib.Omega.{arith}
-use lib.ListN.{length, getD}
+use Rattle.wire.proofs.Basics.{_∙_, sym, _≡_, ap, ℕ, _≤_, _<_, List, length, getD, arith}
 use Rattle.lmcp.specs.declared.Row.{Row}
 use Rattle.lmcp.specs.Run.{Run, refused, bad, after, repeat}
 use Rattle.lmcp.specs.Table.{Table, rowsOf, nothing, pitsurv}

@@ -1,13 +1,7 @@
 -- The bytes of the table say of each row what the rows are, in either version, by two computed tests. Assumes nothing.
-use mathlib.Core.Path.{_≡_, refl, ap, sym, _∙_, subst}
-use mathlib.Core.Bool.{Bool, true, false, _&&_, _||_}
-use mathlib.Core.List.{List, [], _∷_}
-use Prim.Native.Nat.{ℕ, suc, _+_, _≤_, _<_}
-use native.Mathlib.Omega.{arith}
-use lib.Dec.{ltb, leb, eqb}
-use lib.ListN.{length, getD}
-use lib.Seq.{slice, slice-cons, slice-empty}
-use borrow.Author.Tests.{eqb-true, leb-true, eq-eqb, ne-eqb, le-leb, lt-ltb}
+use Rattle.wire.proofs.Basics.{_∙_, sym, _≡_, ap, refl, subst, ℕ, _≤_, _+_, _<_, suc, List, [], _∷_, true, false, Bool, _&&_, _||_, length, getD, slice, eqb, ltb, leb, eq-eqb, ne-eqb, lt-ltb}
+use Rattle.wire.proofs.Basics.{eqb-true, le-leb, leb-true, arith}
+use lib.Seq.{slice-cons, slice-empty}
 use Rattle.wire.specs.Choice.{pick}
 use Rattle.wire.proofs.Choices.{and-l, and-r, and-of}
 use Rattle.lmcp.specs.declared.Row.{Row}

@@ -1,8 +1,5 @@
 -- A run by its parts: what is got as a whole is got of each part, and equal parts make equal runs. Assumes nothing.
-use mathlib.Core.Path.{_≡_, refl, ap, sym, _∙_}
-use mathlib.Core.List.{List, [], _++_, append-nil}
-use Prim.Native.Nat.{ℕ, zero, suc}
-use native.Mathlib.Omega.{arith}
+use Rattle.wire.proofs.Basics.{_∙_, sym, _≡_, ap, refl, ℕ, suc, zero, List, [], _++_, append-nil, arith}
 use Rattle.lmcp.specs.Run.{Run, got, refused, Tag, tag, bad, prepend, andThen, after, repeat}
 
 module _ {A B : Type 0} where

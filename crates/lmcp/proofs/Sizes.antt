@@ -1,14 +1,10 @@
 -- The size of a signed number, by the half that it is in. Assumes nothing.
-use mathlib.Core.Path.{_≡_, refl}
-use mathlib.Core.Bool.{true, false}
-use Prim.Native.Nat.{_<_}
-use native.Mathlib.Omega.{arith}
-use lib.IntN.{ℤ, pos, negsuc, _-ℤ_, natAbs}
+use Rattle.wire.proofs.Basics.{_≡_, refl, _<_, true, false, ℤ, pos, negsuc, natAbs, ltb-true, arith}
+use lib.IntN.{_-ℤ_}
 use lib.Signed.{mag, ltZ}
 use mir.Syntax.{w64}
 use mir.Val.{toZ, ofZ, SFits}
 use mir.ValLaws.{toZ-ofZ}
-use borrow.Author.Tests.{ltb-true}
 use Rattle.wire.proofs.Choices.{never}
 use Rattle.wire.proofs.Signs.{below}
 

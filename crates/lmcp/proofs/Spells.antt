@@ -1,15 +1,7 @@
 -- The number list of every accepted PitList, in either version, is spelled tile, count, marks. Assumes nothing.
-use mathlib.Core.Path.{_≡_, refl, sym, ap, _∙_, subst}
-use mathlib.Core.Logic.{_⊎_, inl, inr}
-use mathlib.Core.Bool.{Bool, true, false, _&&_, _||_}
-use mathlib.Core.List.{List, [], _∷_, _++_, append-nil}
-use Prim.Native.Nat.{ℕ, zero, suc, _-_, _^_, _≤_, _<_}
-use native.Mathlib.Omega.{arith}
-use native.Mathlib.Decide.{ℕ-discrete}
-use lib.Dec.{eqb, ltb, eqb·suc-zero}
-use lib.IntN.{ℤ, pos}
-use lib.ListN.{length, getD, drop}
-use borrow.Author.Tests.{eqb-true, ltb-false}
+use Rattle.wire.proofs.Basics.{_∙_, sym, _≡_, ap, refl, subst, ℕ, _≤_, _<_, _-_, suc, zero, _^_, List, [], _∷_, _++_, append-nil, true, false, Bool, _&&_, _||_, inl, inr, _⊎_, length, drop, getD, eqb}
+use Rattle.wire.proofs.Basics.{ltb, ℤ, pos, eqb-true, ltb-false, ℕ-discrete, arith}
+use lib.Dec.{eqb·suc-zero}
 use Rattle.wire.specs.Choice.{pick}
 use Rattle.wire.specs.Bytes.{be, Bytes}
 use Rattle.wire.proofs.Choices.{pick-all, and-r}

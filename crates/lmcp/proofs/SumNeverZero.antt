@@ -1,14 +1,6 @@
 -- The sum that is never zero: the bytes "LMCP" alone sum to 300, and no message within the whole-length limit sums to 2 ^ 32. Assumes nothing.
-use mathlib.Core.Path.{_≡_, refl, ap, _∙_, subst}
-use mathlib.Core.Bool.{Bool, true, false, not}
-use mathlib.Core.List.{List, [], _∷_, _++_}
-use Prim.Native.Nat.{ℕ, zero, suc, _+_, _*_, _/_, _%_, _^_, _≤_, _<_}
-use native.Mathlib.Omega.{arith}
-use lib.Dec.{eqb, lit<}
-use lib.IntN.{ℤ}
+use Rattle.wire.proofs.Basics.{_∙_, _≡_, ap, refl, subst, ℕ, _≤_, _+_, _<_, suc, zero, _*_, _^_, _%_, _/_, List, [], _∷_, _++_, true, false, Bool, not, length, eqb, lit<, ℤ, ne-eqb, arith}
 use lib.Signed.{mag}
-use lib.ListN.{length}
-use borrow.Author.Tests.{ne-eqb}
 use Rattle.wire.specs.Choice.{pick}
 use Rattle.wire.specs.Bytes.{bytes, Bytes}
 use Rattle.wire.specs.Signed.{unsigned}

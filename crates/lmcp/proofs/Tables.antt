@@ -1,15 +1,9 @@
 -- Laws of any table: where each type's rows stand among all rows, and that they fit. Assumes nothing.
-use mathlib.Core.Path.{_≡_, refl, ap, sym, _∙_, subst}
-use mathlib.Core.List.{List, [], _∷_, _++_}
-use Prim.Native.Nat.{ℕ, zero, suc, _+_, _≤_, _<_}
-use native.Mathlib.Nat.{zero-add, suc-add, le-of-suc-le-suc, not-suc-le-zero, eq-or-lt-of-le}
-use mathlib.Core.Logic.{⊎-elim}
-use mathlib.Core.Bool.{Bool, true, _&&_}
+use Rattle.wire.proofs.Basics.{_∙_, sym, _≡_, ap, refl, subst, ℕ, _≤_, _+_, _<_, suc, zero, List, [], _∷_, _++_, true, Bool, _&&_, ⊎-elim, length, drop, getD, take, length-append, slice, take-length}
+use Rattle.wire.proofs.Basics.{not-suc-le-zero, zero-add, le-of-suc-le-suc, add-one, arith}
+use native.Mathlib.Nat.{suc-add, eq-or-lt-of-le}
 use Rattle.wire.proofs.Choices.{and-l, and-r}
-use native.Mathlib.Numerals.{add-one}
-use native.Mathlib.Omega.{arith}
-use lib.ListN.{length, getD, take, drop, length-append}
-use lib.Seq.{slice, drop-append-add, take-append-le, take-length, take-nil}
+use lib.Seq.{drop-append-add, take-append-le, take-nil}
 use Rattle.lmcp.specs.declared.Row.{Row}
 use Rattle.lmcp.specs.Table.{Table, RowFits, RowsFit, fieldsOf, joined, beginnings, rowsOf, startsOf, nothing}
 

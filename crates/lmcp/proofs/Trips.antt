@@ -1,14 +1,7 @@
 -- The two round trips of whole messages, once over any sound table. Assumes nothing.
-use mathlib.Core.Path.{_≡_, refl, ap, sym, _∙_}
-use mathlib.Core.Bool.{Bool, true, false, not, _||_}
-use mathlib.Core.List.{List, [], _∷_, _++_, append-assoc, append-nil}
-use Prim.Native.Nat.{ℕ, zero, suc, _+_, _-_, _^_, _≤_, _<_}
-use native.Mathlib.Omega.{arith}
-use lib.Dec.{ltb, eqb, lit<}
-use lib.IntN.{ℤ}
-use lib.ListN.{length, take, drop, length-append, take-append-drop, length-drop}
-use lib.Seq.{drop-drop, take-at, drop-at, take-all, length-take-le}
-use borrow.Author.Tests.{le-ltb, eq-eqb, le-leb, ltb-false, eqb-true, not-false}
+use Rattle.wire.proofs.Basics.{_∙_, sym, _≡_, ap, refl, ℕ, _≤_, _+_, _<_, _-_, suc, zero, _^_, List, [], _∷_, _++_, append-assoc, append-nil, true, false, Bool, _||_, not, length, drop, take}
+use Rattle.wire.proofs.Basics.{length-append, length-drop, take-append-drop, length-take-le, drop-drop, take-all, drop-at, take-at, eqb, ltb, lit<, ℤ, eq-eqb, le-ltb, eqb-true, ltb-false, le-leb}
+use Rattle.wire.proofs.Basics.{not-false, arith}
 use Rattle.wire.specs.Choice.{pick}
 use Rattle.wire.specs.Bytes.{be, bytes, Bytes}
 use Rattle.wire.specs.Sum.{sum}

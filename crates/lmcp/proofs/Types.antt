@@ -1,11 +1,5 @@
 -- Cases of `typed`. Assumes nothing.
-use mathlib.Core.Path.{_≡_}
-use mathlib.Core.Bool.{true, false}
-use Prim.Native.Nat.{ℕ, _≤_, _<_}
-use native.Mathlib.Omega.{arith}
-use lib.Dec.{eqb}
-use lib.ListN.{length}
-use borrow.Author.Tests.{lt-ltb, le-ltb, eq-eqb, ne-eqb}
+use Rattle.wire.proofs.Basics.{_≡_, ℕ, _≤_, _<_, true, false, length, eqb, eq-eqb, le-ltb, ne-eqb, lt-ltb, arith}
 use Rattle.wire.proofs.Choices.{and-false}
 use Rattle.lmcp.specs.Table.{Table}
 use Rattle.lmcp.specs.Read.{typed}

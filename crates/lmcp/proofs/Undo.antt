@@ -1,12 +1,6 @@
 -- A walk that another undoes, and how such pairs are put together: once, for reading back what was written and for writing again
 -- what was read. Assumes nothing.
-use mathlib.Core.Path.{_≡_, refl, ap, sym, _∙_, subst}
-use mathlib.Core.Bool.{Bool, true, false}
-use mathlib.Core.List.{List, [], _∷_, _++_, append-assoc, append-nil}
-use Prim.Native.Nat.{ℕ, zero, suc, _≤_}
-use native.Mathlib.Omega.{arith}
-use lib.Dec.{eqb}
-use borrow.Author.Tests.{eqb-false}
+use Rattle.wire.proofs.Basics.{_∙_, sym, _≡_, ap, refl, subst, ℕ, _≤_, suc, zero, List, [], _∷_, _++_, append-assoc, append-nil, true, false, Bool, eqb, eqb-false, arith}
 use Rattle.wire.specs.Choice.{pick}
 use Rattle.lmcp.specs.declared.Row.{Row}
 use Rattle.lmcp.specs.Limits.{deepest}

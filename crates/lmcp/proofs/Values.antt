@@ -1,17 +1,9 @@
 -- Values and counts: what is written reads back, and what is read is written again, at every width. Assumes nothing.
-use mathlib.Core.Path.{_≡_, refl, ap, sym, _∙_, subst}
-use mathlib.Core.Bool.{Bool, true, false, _&&_}
-use mathlib.Core.List.{List, [], _∷_, _++_}
-use Prim.Native.Nat.{ℕ, zero, suc, _+_, _-_, _*_, _^_, _≤_, _<_}
-use native.Mathlib.Nat.{pow-suc, pow-le-pow-right}
-use native.Mathlib.Omega.{arith}
-use lib.Dec.{ltb, eqb}
-use lib.IntN.{ℤ, pos, negsuc}
+use Rattle.wire.proofs.Basics.{_∙_, sym, _≡_, ap, refl, subst, ℕ, _≤_, _+_, _<_, _-_, suc, zero, _*_, _^_, List, [], _∷_, _++_, true, false, Bool, _&&_, length, drop, take, length-append}
+use Rattle.wire.proofs.Basics.{take-append-drop, drop-at, eqb, ltb, ℤ, pos, negsuc, le-ltb, lt-ltb, eqb-true, ltb-false, ltb-true, pow-suc, pow-le-pow-right, arith}
 use lib.Signed.{mag}
-use lib.ListN.{length, take, drop, length-append, take-append-drop}
 use lib.Pow.{pow-add}
-use lib.Seq.{drop-at, getD-append-add}
-use borrow.Author.Tests.{lt-ltb, le-ltb, ltb-true, ltb-false, eqb-true}
+use lib.Seq.{getD-append-add}
 use Rattle.wire.specs.Choice.{pick}
 use Rattle.wire.specs.Bytes.{be, bytes, Bytes}
 use Rattle.wire.specs.Signed.{signed, unsigned}

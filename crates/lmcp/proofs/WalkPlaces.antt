@@ -1,14 +1,8 @@
 -- How a walk goes on, in places: each step of the code is one of these, for the reader and the writer. Assumes nothing.
-use mathlib.Core.Path.{_≡_, refl, ap, sym, _∙_, subst}
-use mathlib.Core.Bool.{false}
-use mathlib.Core.List.{List, [], _∷_, _++_, append-assoc, append-nil}
-use Prim.Native.Nat.{ℕ, zero, suc, _+_, _-_, _≤_, _<_}
+use Rattle.wire.proofs.Basics.{_∙_, sym, _≡_, ap, refl, subst, ℕ, _≤_, _+_, _<_, _-_, suc, zero, List, [], _∷_, _++_, append-assoc, append-nil, false, length, drop, getD, length-append, length-drop}
+use Rattle.wire.proofs.Basics.{set, drop-of-length-le, sets, slice, eq-eqb, ne-eqb, add-one, arith}
 use native.Mathlib.Nat.{add-zero, le-antisymm}
-use native.Mathlib.Numerals.{add-one}
-use native.Mathlib.Omega.{arith}
-use lib.ListN.{length, drop, set, getD, length-append, length-drop, drop-of-length-le}
-use lib.Seq.{sets, slice, slice-cons, slice-empty}
-use borrow.Author.Tests.{eq-eqb, ne-eqb}
+use lib.Seq.{slice-cons, slice-empty}
 use Rattle.lmcp.specs.declared.Row.{Row}
 use Rattle.lmcp.specs.Limits.{deepest}
 use Rattle.lmcp.specs.declared.Went.{Went}

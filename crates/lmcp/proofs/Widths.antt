@@ -1,11 +1,6 @@
 -- Big-endian numbers of 1 and 8 bytes; those of 2 and 4 stand in wire. Assumes nothing.
-use mathlib.Core.Path.{_≡_, ap, sym, _∙_}
-use mathlib.Core.List.{List}
-use Prim.Native.Nat.{ℕ, suc, _+_, _-_, _*_, _<_}
-use native.Mathlib.Omega.{arith}
-use native.Mathlib.Nat.{add-zero, suc-mul}
-use lib.ListN.{getD, drop}
-use lib.Seq.{getD-drop}
+use Rattle.wire.proofs.Basics.{_∙_, sym, _≡_, ap, ℕ, _+_, _<_, _-_, suc, _*_, List, drop, getD, getD-drop, suc-mul, arith}
+use native.Mathlib.Nat.{add-zero}
 use Rattle.wire.specs.Bytes.{be}
 
 pub be-one : (s : List ℕ) (at x : ℕ) → x ≡ getD s at 0 → x ≡ be 1 (drop at s)

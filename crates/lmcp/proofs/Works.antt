@@ -1,11 +1,5 @@
 -- The worked roots read as they say, and both sides of the longest message: the definitions held to the paper, not to the code. Assumes nothing.
-use mathlib.Core.Path.{_≡_, refl, ap}
-use mathlib.Core.Bool.{true}
-use mathlib.Core.List.{List, map}
-use Prim.Native.Nat.{ℕ, _+_}
-use native.Mathlib.Omega.{arith}
-use lib.ListN.{length, take, drop}
-use borrow.Author.Tests.{lt-ltb, le-ltb, eq-eqb}
+use Rattle.wire.proofs.Basics.{_≡_, ap, refl, ℕ, _+_, List, map, true, length, drop, take, eq-eqb, le-ltb, lt-ltb, arith}
 use Rattle.wire.specs.Bytes.{be}
 use Rattle.wire.specs.Same.{same}
 use Rattle.lmcp.specs.Limits.{magic}

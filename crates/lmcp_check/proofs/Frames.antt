@@ -1,10 +1,5 @@
 -- The frame of a message, case by case. Assumes nothing.
-use mathlib.Core.Path.{_≡_}
-use mathlib.Core.Bool.{true, false, or-true}
-use mathlib.Core.List.{List}
-use Prim.Native.Nat.{ℕ, _+_, _≤_, _<_}
-use lib.ListN.{length, take, drop}
-use borrow.Author.Tests.{lt-ltb, le-ltb, eq-eqb, ne-eqb}
+use Rattle.wire.proofs.Basics.{_≡_, ℕ, _≤_, _+_, _<_, List, true, false, or-true, length, drop, take, eq-eqb, le-ltb, ne-eqb, lt-ltb}
 use Rattle.wire.specs.Bytes.{be}
 use Rattle.wire.specs.Same.{same}
 use Rattle.lmcp.specs.Limits.{maxMessage, magic}

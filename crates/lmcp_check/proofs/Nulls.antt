@@ -1,14 +1,5 @@
 -- A null of an array. Assumes nothing.
-use mathlib.Core.Path.{_≡_, refl, ap, _∙_}
-use mathlib.Core.Bool.{true, _&&_}
-use mathlib.Core.List.{List, [], _∷_}
-use Prim.Native.Nat.{ℕ, _+_, _<_}
-use native.Mathlib.Omega.{arith}
-use lib.Dec.{ltb, eqb}
-use lib.IntN.{pos}
-use lib.ListN.{length, drop, getD, length-drop}
-use lib.Seq.{drop-drop}
-use borrow.Author.Tests.{ltb-true, eqb-true}
+use Rattle.wire.proofs.Basics.{_∙_, _≡_, ap, refl, ℕ, _+_, _<_, List, [], _∷_, true, _&&_, length, drop, getD, length-drop, drop-drop, eqb, ltb, pos, eqb-true, ltb-true, arith}
 use Rattle.wire.proofs.Choices.{and-l, and-r}
 use Rattle.lmcp.specs.Run.{tag}
 use Rattle.lmcp.specs.Table.{pitsurv}

@@ -1,13 +1,6 @@
 -- What the definitions of values, counts and heads come to, case by case. Assumes nothing.
-use mathlib.Core.Path.{_≡_, refl, ap, sym, _∙_, subst}
-use mathlib.Core.Bool.{true, false}
-use mathlib.Core.List.{List, [], _∷_}
-use Prim.Native.Nat.{ℕ, _^_, _≤_, _<_, min}
-use native.Mathlib.Omega.{arith}
-use lib.Dec.{ltb, eqb}
-use lib.IntN.{ℤ, pos}
-use lib.ListN.{length, drop, length-drop}
-use borrow.Author.Tests.{lt-ltb, le-ltb, eq-eqb, ne-eqb, eqb-true}
+use Rattle.wire.proofs.Basics.{_∙_, sym, _≡_, ap, refl, subst, ℕ, _≤_, _<_, _^_, min, List, [], _∷_, true, false, length, drop, length-drop, eqb, ltb, ℤ, pos, eq-eqb, le-ltb, ne-eqb, lt-ltb, eqb-true}
+use Rattle.wire.proofs.Basics.{arith}
 use Rattle.wire.specs.Choice.{pick}
 use Rattle.wire.specs.Bytes.{be, Number}
 use Rattle.wire.proofs.Choices.{and-false, pick-all}

@@ -1,13 +1,6 @@
 -- From the walk of a root to what is wrong with it, and from there to what is wrong with the message. Assumes nothing.
-use mathlib.Core.Path.{_≡_, refl, ap, sym, _∙_}
-use mathlib.Core.Bool.{Bool, true, false, not, _||_}
-use mathlib.Core.List.{List, [], _∷_, append-nil}
-use Prim.Native.Nat.{ℕ, _+_, _-_, _≤_, _<_}
-use native.Mathlib.Omega.{arith}
-use lib.Dec.{ltb, eqb}
-use lib.IntN.{ℤ, pos}
-use lib.ListN.{length, take, drop, length-drop, drop-of-length-le}
-use borrow.Author.Tests.{ltb-false, eq-eqb, ne-eqb}
+use Rattle.wire.proofs.Basics.{_∙_, sym, _≡_, ap, refl, ℕ, _≤_, _+_, _<_, _-_, List, [], _∷_, append-nil, true, false, Bool, _||_, not, length, drop, take, length-drop, drop-of-length-le, eqb, ltb, ℤ}
+use Rattle.wire.proofs.Basics.{pos, eq-eqb, ne-eqb, ltb-false, arith}
 use Rattle.wire.specs.Choice.{pick}
 use Rattle.wire.specs.Bytes.{be}
 use Rattle.wire.specs.Same.{same}
@@ -25,6 +18,13 @@ use Rattle.lmcp_check.proofs.ReadCases.{head-short, head-null, root-som
 use Rattle.wire.proofs.Choices.{or-l}
 
 -- ---- a root
+
+-- the root, as the code takes it
+abbrev pub root : List ℕ → List ℕ
+root m = take (length m - 4 - 8) (drop 8 m)
+
+pub root-same : (m : List ℕ) → root m ≡ rootOf m
+root-same m = let e : length m - 4 - 8 ≡ length m - 12 = omega arith in ap (λ (n : ℕ). take n (drop 8 m)) e
 
 module _ (v : ℕ) (s : List ℕ) where
   stops : (n : ℕ) → readRoot v s ≡ refused n → n ≡ refusalOf (whole (readRoot v s))

@@ -1,15 +1,6 @@
 -- A run of plain numbers, which a bool may end: only 25 can go wrong before the bool, so that one test of the length answers exactly. Assumes nothing.
-use mathlib.Core.Path.{_≡_, refl, ap, sym, _∙_, subst}
-use mathlib.Core.Bool.{Bool, true, false, _&&_, _||_}
-use mathlib.Core.List.{List, [], _∷_, _++_}
-use Prim.Native.Nat.{ℕ, zero, suc, _+_, _-_, _*_, _≤_, _<_}
-use native.Mathlib.Omega.{arith}
-use native.Mathlib.Nat.{suc-mul}
-use lib.Dec.{ltb, eqb}
-use lib.IntN.{ℤ}
-use lib.ListN.{length, drop, getD, length-drop}
-use lib.Seq.{drop-drop, getD-drop}
-use borrow.Author.Tests.{ltb-true, ltb-false, eqb-true}
+use Rattle.wire.proofs.Basics.{_∙_, sym, _≡_, ap, refl, subst, ℕ, _≤_, _+_, _<_, _-_, suc, zero, _*_, List, [], _∷_, _++_, true, false, Bool, _&&_, _||_, length, drop, getD, length-drop, drop-drop}
+use Rattle.wire.proofs.Basics.{getD-drop, eqb, ltb, ℤ, eqb-true, ltb-false, ltb-true, suc-mul, arith}
 use Rattle.wire.specs.Choice.{pick}
 use Rattle.wire.specs.Bytes.{be}
 use Rattle.wire.proofs.Choices.{never, and-l, and-r}

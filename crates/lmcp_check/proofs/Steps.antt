@@ -1,11 +1,6 @@
 -- The steps of the walk that checks, by the table's bytes: a run, an object, an array; fields; an object's head. Assumes nothing.
-use mathlib.Core.Path.{_≡_, refl, ap, sym, _∙_}
-use mathlib.Core.List.{List, [], _∷_, _++_}
-use Prim.Native.Nat.{ℕ, zero, suc, _+_, _-_, _≤_, _<_}
-use native.Mathlib.Omega.{arith}
-use lib.IntN.{pos}
-use lib.ListN.{length, drop, getD, take, length-drop, take-append-drop}
-use lib.Seq.{slice, drop-drop, take-take}
+use Rattle.wire.proofs.Basics.{_∙_, sym, _≡_, ap, refl, ℕ, _≤_, _+_, _<_, _-_, suc, zero, List, [], _∷_, _++_, length, drop, getD, take, length-drop, take-append-drop, drop-drop, slice, take-take}
+use Rattle.wire.proofs.Basics.{pos, arith}
 use Rattle.wire.specs.Bytes.{Number}
 use Rattle.lmcp.specs.declared.Row.{Row}
 use Rattle.lmcp.specs.Run.{tag, andThen, after, repeat}

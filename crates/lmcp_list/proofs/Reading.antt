@@ -1,13 +1,5 @@
 -- What the reader answers, and the list that it left, are said as the message's own line. Assumes nothing.
-use mathlib.Core.Path.{_≡_, refl, ap, _∙_}
-use mathlib.Core.Bool.{Bool, true, false}
-use mathlib.Core.List.{List, _++_}
-use Prim.Native.Nat.{ℕ}
-use lib.Dec.{leb}
-use lib.IntN.{ℤ}
-use lib.ListN.{length}
-use lib.Seq.{sets}
-use borrow.Author.Tests.{leb-true}
+use Rattle.wire.proofs.Basics.{_∙_, _≡_, ap, refl, ℕ, List, _++_, true, false, Bool, length, sets, leb, ℤ, leb-true}
 use Rattle.wire.specs.Choice.{pick}
 use Rattle.wire.specs.Text.{ascii}
 use Rattle.wire.proofs.Parts.{front-of}

@@ -1,11 +1,5 @@
 -- Laws of numbers after spaces. Assumes nothing.
-use mathlib.Core.Path.{_≡_, refl, sym, ap, _∙_}
-use mathlib.Core.List.{List, [], _∷_, _++_, append-nil, append-assoc}
-use Prim.Native.Nat.{ℕ, _+_, _<_, min}
-use native.Mathlib.Numerals.{add-one}
-use lib.IntN.{ℤ, pos}
-use lib.ListN.{length, take, getD}
-use lib.Seq.{take-suc}
+use Rattle.wire.proofs.Basics.{_∙_, sym, _≡_, ap, refl, ℕ, _+_, _<_, min, List, [], _∷_, _++_, append-assoc, append-nil, length, getD, take, take-suc, ℤ, pos, add-one}
 use Rattle.text.specs.Text.{signedDecimal}
 use Rattle.lmcp_list.specs.Lines.{spaced}
 use Rattle.wire.proofs.Parts.{take-least}

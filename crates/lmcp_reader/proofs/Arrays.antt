@@ -1,11 +1,5 @@
 -- Every array of plain numbers in the table is of bytes, in either version, by a computed test. Assumes nothing.
-use mathlib.Core.Path.{_≡_, refl, sym, ap, _∙_}
-use mathlib.Core.Bool.{Bool, true, false, _&&_}
-use mathlib.Core.List.{List}
-use Prim.Native.Nat.{ℕ, _<_}
-use lib.Dec.{eqb}
-use lib.ListN.{length}
-use borrow.Author.Tests.{eqb-true, ne-eqb}
+use Rattle.wire.proofs.Basics.{_∙_, sym, _≡_, ap, refl, ℕ, _<_, List, true, false, Bool, _&&_, length, eqb, ne-eqb, eqb-true}
 use Rattle.wire.specs.Choice.{pick}
 use Rattle.wire.proofs.Choices.{and-l, and-r}
 use Rattle.lmcp.specs.Table.{joined, second, typesOf}

@@ -1,12 +1,5 @@
 -- A number takes a byte at least: of what is read, numbers and bytes left are together no more than the bytes. Assumes nothing.
-use mathlib.Core.Path.{_≡_, subst}
-use mathlib.Core.List.{List, [], _∷_}
-use Prim.Native.Nat.{ℕ, zero, suc, _+_, _≤_}
-use native.Mathlib.Omega.{arith}
-use lib.Dec.{ltb, eqb}
-use lib.IntN.{ℤ}
-use lib.ListN.{length, drop, length-drop, length-append}
-use borrow.Author.Tests.{ltb-false, eqb-false}
+use Rattle.wire.proofs.Basics.{_≡_, subst, ℕ, _≤_, _+_, suc, zero, List, [], _∷_, length, drop, length-append, length-drop, eqb, ltb, ℤ, ltb-false, eqb-false, arith}
 use Rattle.wire.specs.Bytes.{be}
 use Rattle.wire.proofs.Choices.{pick-all}
 use Rattle.lmcp.specs.declared.Row.{Row}

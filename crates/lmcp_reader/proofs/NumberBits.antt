@@ -1,9 +1,6 @@
 -- Numbers of the list and the bits that they are read from. Assumes nothing.
-use mathlib.Core.Path.{_≡_, ap, sym, _∙_, subst}
-use Prim.Native.Nat.{ℕ, _+_, _-_, _*_, _^_, _≤_, _<_, min}
-use native.Mathlib.Nat.{pow-le-pow-right}
-use native.Mathlib.Omega.{arith}
-use lib.IntN.{ℤ, negsuc, _-ℤ_}
+use Rattle.wire.proofs.Basics.{_∙_, sym, _≡_, ap, subst, ℕ, _≤_, _+_, _<_, _-_, _*_, _^_, min, ℤ, negsuc, pow-le-pow-right, arith}
+use lib.IntN.{_-ℤ_}
 use lib.Pow.{pow-mono}
 use mir.Syntax.{w64}
 use mir.Val.{toZ, ofZ, SFits}

@@ -1,14 +1,6 @@
 -- The walk that writes: what is not refused as a whole is refused nowhere, and each step lays what it reads. Assumes nothing.
-use mathlib.Core.Path.{_≡_, refl, ap, sym, _∙_, subst}
-use mathlib.Core.Bool.{Bool, true, false}
-use mathlib.Core.List.{List, [], _∷_}
-use Prim.Native.Nat.{ℕ, zero, suc, _+_, _-_, _*_, _≤_, _<_}
-use native.Mathlib.Omega.{arith}
-use lib.Dec.{ltb, leb, eqb}
-use lib.IntN.{ℤ, pos}
-use lib.ListN.{length, drop, getD, set, length-drop}
-use lib.Seq.{sets, drop-drop}
-use borrow.Author.Tests.{ltb-true, ltb-false, eqb-true, eqb-false}
+use Rattle.wire.proofs.Basics.{_∙_, sym, _≡_, ap, refl, subst, ℕ, _≤_, _+_, _<_, _-_, suc, zero, _*_, List, [], _∷_, true, false, Bool, length, drop, getD, length-drop, set, drop-drop, sets, eqb, ltb}
+use Rattle.wire.proofs.Basics.{leb, ℤ, pos, eqb-true, ltb-false, ltb-true, eqb-false, arith}
 use Rattle.wire.specs.Choice.{pick}
 use Rattle.wire.specs.Bytes.{be, Number}
 use Rattle.wire.specs.Signed.{signed}

@@ -1,14 +1,6 @@
 -- From the walk that writes to the reader's answer: of a root in order, and of a message by what is wrong with it. Assumes nothing.
-use mathlib.Core.Path.{_≡_, refl, ap, sym, _∙_, subst}
-use mathlib.Core.Bool.{Bool, true, false}
-use mathlib.Core.List.{List, [], _∷_}
-use Prim.Native.Nat.{ℕ, suc, _≤_, _<_}
-use native.Mathlib.Omega.{arith}
-use lib.Dec.{leb, eqb}
-use lib.IntN.{ℤ, pos}
-use lib.ListN.{length, drop, set, length-take, length-drop}
-use lib.Seq.{sets}
-use borrow.Author.Tests.{eqb-true, eq-eqb, le-leb}
+use Rattle.wire.proofs.Basics.{_∙_, sym, _≡_, ap, refl, subst, ℕ, _≤_, _<_, suc, List, [], _∷_, true, false, Bool, length, drop, length-drop, set, length-take, sets, eqb, leb, ℤ, pos, eq-eqb}
+use Rattle.wire.proofs.Basics.{eqb-true, le-leb, arith}
 use Rattle.wire.specs.Choice.{pick}
 use Rattle.lmcp.specs.Limits.{deepest}
 use Rattle.lmcp.specs.declared.Found.{Found}

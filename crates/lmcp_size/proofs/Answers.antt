@@ -1,15 +1,7 @@
 -- From the walk of a list to how long its message is. Assumes nothing.
-use mathlib.Core.Path.{_≡_, refl, ap, sym, _∙_}
-use mathlib.Core.Bool.{Bool, true, false}
-use mathlib.Core.List.{List, [], _∷_}
-use Prim.Native.Nat.{ℕ, suc, _+_, _-_, _≤_, _<_}
-use native.Mathlib.Omega.{arith}
-use lib.Dec.{ltb}
-use lib.IntN.{ℤ, pos}
-use lib.ListN.{length, getD, take, drop, length-append}
-use lib.Seq.{take-length}
+use Rattle.wire.proofs.Basics.{_∙_, sym, _≡_, ap, refl, ℕ, _≤_, _+_, _<_, _-_, suc, List, [], _∷_, true, false, Bool, length, drop, getD, take, length-append, take-length, ltb, ℤ, pos, le-ltb, lt-ltb}
+use Rattle.wire.proofs.Basics.{arith}
 use lib.Signed.{mag}
-use borrow.Author.Tests.{lt-ltb, le-ltb}
 use Rattle.wire.specs.Choice.{pick}
 use Rattle.wire.specs.Bytes.{bytes}
 use Rattle.wire.proofs.Numbers.{length-bytes}

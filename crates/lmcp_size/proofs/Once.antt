@@ -1,6 +1,5 @@
 -- No second answer: how long a message is says one number, or one refusal. Assumes nothing.
-use mathlib.Core.Path.{_≡_, sym, _∙_}
-use mathlib.Core.Bool.{Bool, true}
+use Rattle.wire.proofs.Basics.{_∙_, sym, _≡_, true, Bool}
 use Rattle.lmcp.specs.declared.Made.{Made}
 use Rattle.lmcp.specs.Write.{Write}
 use Rattle.lmcp_size.specs.Size.{SizeOf}

@@ -1,12 +1,5 @@
 -- The bytes of a row's numbers and of its count: what the writer takes of them. Assumes nothing.
-use mathlib.Core.Path.{_≡_, refl, sym, _∙_, subst}
-use mathlib.Core.Bool.{Bool, true, false, _||_}
-use mathlib.Core.List.{List}
-use Prim.Native.Nat.{ℕ, _≤_, _<_}
-use native.Mathlib.Omega.{arith}
-use lib.Dec.{eqb}
-use lib.ListN.{length, getD}
-use borrow.Author.Tests.{ne-eqb, eqb-true}
+use Rattle.wire.proofs.Basics.{_∙_, sym, _≡_, refl, subst, ℕ, _≤_, _<_, List, true, false, Bool, _||_, length, getD, eqb, ne-eqb, eqb-true, arith}
 use Rattle.lmcp.specs.declared.Row.{Row}
 use Rattle.lmcp.specs.Table.{joined, rowsOf, nothing, second, typesOf, pitsurv}
 use Rattle.lmcp.specs.Packed.{packedOf}

@@ -1,10 +1,5 @@
 -- The walk that only checks, in places: what a leaf weighs, and the bytes of a row. Assumes nothing.
-use mathlib.Core.Path.{_≡_, refl}
-use mathlib.Core.List.{List, [], _∷_}
-use Prim.Native.Nat.{ℕ, suc, _+_, _*_, _≤_}
-use lib.IntN.{ℤ}
-use lib.ListN.{length, drop}
-use lib.Seq.{sets}
+use Rattle.wire.proofs.Basics.{_≡_, refl, ℕ, _≤_, _+_, suc, _*_, List, [], _∷_, length, drop, sets, ℤ}
 use Rattle.lmcp.specs.declared.Went.the-variants.{To}
 use Rattle.lmcp.specs.declared.Mark.the-variants.{Of}
 use Rattle.lmcp.specs.Run.{got, Tag, tag}

@@ -1,17 +1,9 @@
 -- What the writer's definitions come to, case by case, for the leaves of its walks. Assumes nothing.
-use mathlib.Core.Path.{_≡_, refl, ap, sym, _∙_, subst}
-use mathlib.Core.Bool.{true, false}
-use mathlib.Core.List.{List, [], _∷_}
-use Prim.Native.Nat.{ℕ, zero, suc, _+_, _-_, _*_, _^_, _≤_, _<_}
-use native.Mathlib.Numerals.{add-one}
-use native.Mathlib.Omega.{arith}
-use lib.Dec.{T, ltb, eqb}
-use lib.IntN.{ℤ, pos, negsuc}
+use Rattle.wire.proofs.Basics.{_∙_, sym, _≡_, ap, refl, subst, ℕ, _≤_, _+_, _<_, _-_, suc, zero, _*_, _^_, List, [], _∷_, true, false, length, drop, getD, drop-of-length-le, drop-cons, eqb, ltb, ℤ}
+use Rattle.wire.proofs.Basics.{pos, negsuc, eq-eqb, le-ltb, ne-eqb, ltb-true, add-one, arith}
+use lib.Dec.{T}
 use lib.Signed.{mag, ltZ}
-use lib.ListN.{length, getD, drop, drop-of-length-le}
 use lib.Pow.{pow-mono}
-use lib.Seq.{drop-cons}
-use borrow.Author.Tests.{le-ltb, eq-eqb, ne-eqb, ltb-true}
 use Rattle.wire.specs.Bytes.{bytes}
 use Rattle.wire.specs.Signed.{unsigned}
 use Rattle.wire.proofs.Choices.{never, pick-all}

@@ -1,15 +1,7 @@
 -- From how long the message is, and the walk that writes, to the writer's answer. Assumes nothing.
-use mathlib.Core.Path.{_≡_, refl, ap, sym, _∙_}
-use mathlib.Core.Bool.{Bool, true, false}
-use mathlib.Core.List.{List, [], _∷_, _++_, append-assoc}
-use Prim.Native.Nat.{ℕ, _+_, _-_, _≤_, _<_}
-use native.Mathlib.Omega.{arith}
-use lib.Dec.{ltb}
-use lib.IntN.{ℤ, pos}
-use lib.ListN.{length, getD, take, drop, length-append}
-use lib.Seq.{sets}
+use Rattle.wire.proofs.Basics.{_∙_, sym, _≡_, ap, refl, ℕ, _≤_, _+_, _<_, _-_, List, [], _∷_, _++_, append-assoc, true, false, Bool, length, drop, getD, take, length-append, sets, ltb, ℤ, pos}
+use Rattle.wire.proofs.Basics.{ltb-false, le-leb, lt-leb, arith}
 use lib.Signed.{mag}
-use borrow.Author.Tests.{le-leb, lt-leb, ltb-false}
 use Rattle.wire.specs.Choice.{pick}
 use Rattle.wire.specs.Bytes.{bytes}
 use Rattle.wire.specs.Overlay.{overlay}

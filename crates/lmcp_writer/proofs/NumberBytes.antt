@@ -1,17 +1,10 @@
 -- The bytes of a number and of a header, and where they are laid. Assumes nothing.
-use mathlib.Core.Path.{_≡_, refl, ap, sym, _∙_}
-use mathlib.Core.Bool.{Bool, true, false}
-use mathlib.Core.List.{List, [], _∷_, _++_}
-use Prim.Native.Nat.{ℕ, zero, suc, _+_, _-_, _*_, _/_, _%_, _^_, _≤_, _<_}
-use native.Mathlib.Nat.{pow-suc, mul-assoc, mul-comm, mul-sub}
-use native.Mathlib.Omega.{arith}
-use lib.Dec.{T, ltb, eqb}
-use lib.IntN.{ℤ, pos, negsuc}
+use Rattle.wire.proofs.Basics.{_∙_, sym, _≡_, ap, refl, ℕ, _≤_, _+_, _<_, _-_, suc, zero, _*_, _^_, _%_, _/_, List, [], _∷_, _++_, true, false, Bool, length, sets, eqb, ltb, ℤ, pos, negsuc, ltb-true}
+use Rattle.wire.proofs.Basics.{pow-suc, arith}
+use native.Mathlib.Nat.{mul-assoc, mul-comm, mul-sub}
+use lib.Dec.{T}
 use lib.Signed.{mag, ltZ}
-use lib.ListN.{length}
 use lib.Pow.{pow-add, pow-mono}
-use lib.Seq.{sets}
-use borrow.Author.Tests.{ltb-true}
 use Rattle.wire.specs.Choice.{pick}
 use Rattle.wire.specs.Bytes.{bytes}
 use Rattle.wire.specs.Overlay.{overlay}

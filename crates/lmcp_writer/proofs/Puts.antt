@@ -1,16 +1,7 @@
 -- The walk that writes: what is not refused as a whole is refused nowhere, and each step lays what it makes. Assumes nothing.
-use mathlib.Core.Path.{_≡_, refl, ap, sym, _∙_, subst}
-use mathlib.Core.Bool.{Bool, true, false}
-use mathlib.Core.List.{List, [], _∷_, append-nil}
-use Prim.Native.Nat.{ℕ, zero, suc, _+_, _-_, _*_, _^_, _≤_, _<_}
-use native.Mathlib.Omega.{arith}
-use native.Mathlib.Nat.{suc-mul}
-use lib.Dec.{eqb}
-use lib.IntN.{ℤ, pos, negsuc}
+use Rattle.wire.proofs.Basics.{_∙_, sym, _≡_, ap, refl, subst, ℕ, _≤_, _+_, _<_, _-_, suc, zero, _*_, _^_, List, [], _∷_, append-nil, true, false, Bool, length, drop, getD, length-append, length-drop}
+use Rattle.wire.proofs.Basics.{drop-drop, sets, eqb, ℤ, pos, negsuc, eqb-true, ltb-true, eqb-false, suc-mul, arith}
 use lib.Signed.{mag}
-use lib.ListN.{length, drop, getD, length-drop, length-append}
-use lib.Seq.{sets, drop-drop}
-use borrow.Author.Tests.{ltb-true, eqb-true, eqb-false}
 use Rattle.wire.specs.Choice.{pick}
 use Rattle.wire.specs.Bytes.{bytes}
 use Rattle.wire.specs.Signed.{unsigned}

@@ -1,9 +1,5 @@
 -- The bytes of a number, two or four at a time, the lowest last. Assumes nothing.
-use mathlib.Core.Path.{_≡_, ap, sym, _∙_}
-use mathlib.Core.List.{List, [], _∷_, _++_, append-assoc}
-use Prim.Native.Nat.{ℕ, suc, _+_, _/_, _%_}
-use native.Mathlib.Numerals.{add-one}
-use lib.ListN.{set}
+use Rattle.wire.proofs.Basics.{_∙_, sym, _≡_, ap, ℕ, _+_, suc, _%_, _/_, List, [], _∷_, _++_, append-assoc, set, add-one}
 use Rattle.wire.specs.Bytes.{bytes}
 use Rattle.wire.specs.Overlay.{overlay}
 use Rattle.wire.proofs.Numbers.{length-bytes}

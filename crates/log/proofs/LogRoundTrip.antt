@@ -1,14 +1,6 @@
 -- The edition, in edition 2 the limit, and the entries together determine the log, and the log determines them. Assumes nothing.
-use mathlib.Core.Path.{_≡_, refl, sym, _∙_, ap}
-use mathlib.Core.Bool.{Bool, true, false}
-use mathlib.Core.Option.{some}
-use mathlib.Core.List.{List, [], _∷_, _++_, append-assoc}
-use Prim.Native.Nat.{ℕ, zero, suc, _≤_, _<_, _^_}
-use native.Mathlib.Omega.{arith}
-use lib.Dec.{ltb, eqb}
-use lib.ListN.{length, take, drop, length-append, take-append-drop}
-use lib.Seq.{take-append-seam, drop-append-seam, length-take-le}
-use borrow.Author.Tests.{le-ltb, ltb-false, eqb-true}
+use Rattle.wire.proofs.Basics.{_∙_, sym, _≡_, ap, refl, ℕ, _≤_, _<_, suc, zero, _^_, List, [], _∷_, _++_, append-assoc, true, false, Bool, some, length, drop, take, length-append, take-append-drop}
+use Rattle.wire.proofs.Basics.{length-take-le, take-append-seam, drop-append-seam, eqb, ltb, le-ltb, eqb-true, ltb-false, arith}
 use Rattle.wire.specs.Bytes.{Bytes}
 use Rattle.wire.specs.Choice.{pick}
 use Rattle.wire.specs.Taken.{Taken, taken, refused}

@@ -1,7 +1,5 @@
 -- No second answer satisfies a contract of this crate: `one-answer` of wire/proofs/Once, all being of the form `r ≡ ..`; and no second log. Assumes nothing.
-use mathlib.Core.Path.{_≡_, sym, _∙_, ap}
-use mathlib.Core.List.{List}
-use mathlib.Core.Option.{some}
+use Rattle.wire.proofs.Basics.{_∙_, sym, _≡_, ap, List, some}
 use Rattle.log.specs.Editions.{Edition, Lawful, editionIn}
 use Rattle.log.specs.Entries.{Entry, AllKeep, logOf}
 use Rattle.log.specs.Listed.{whole, entriesIn}

@@ -1,11 +1,6 @@
 -- The reader's answers by its branches, and what they say in the paper's values. Assumes nothing.
-use mathlib.Core.Path.{_≡_, refl, _∙_, ap}
-use mathlib.Core.List.{List, [], _∷_}
-use Prim.Native.Nat.{ℕ, _+_, _-_, _≤_, _<_}
-use native.Mathlib.Omega.{arith}
-use lib.ListN.{length, getD, take, drop, length-drop, drop-of-length-le}
-use lib.Seq.{length-take-le}
-use borrow.Author.Tests.{lt-ltb, le-ltb, eq-eqb, ne-eqb}
+use Rattle.wire.proofs.Basics.{_∙_, _≡_, ap, refl, ℕ, _≤_, _+_, _<_, _-_, List, [], _∷_, length, drop, getD, take, length-drop, drop-of-length-le, length-take-le, eq-eqb, le-ltb, ne-eqb, lt-ltb}
+use Rattle.wire.proofs.Basics.{arith}
 use Rattle.wire.specs.Taken.{Taken, taken, refused}
 use Rattle.varint.specs.Seven.{sevenIn}
 use Rattle.datagram.specs.Limits.{maxDatagram, maxPayload, maxFragments}

@@ -1,12 +1,5 @@
 -- `begin` with a limit, and then `append` of each entry, leave the log of edition 2, that limit and the entries at the start of the output. Assumes nothing.
-use mathlib.Core.Path.{_≡_, refl, sym, _∙_, ap}
-use mathlib.Core.Bool.{Bool, true, false}
-use mathlib.Core.List.{List, [], _∷_, _++_, append-assoc, append-nil}
-use Prim.Native.Nat.{ℕ, _+_, _≤_}
-use native.Mathlib.Omega.{arith}
-use lib.Dec.{ltb}
-use lib.ListN.{length, take, length-append}
-use borrow.Author.Tests.{ltb-false, le-ltb}
+use Rattle.wire.proofs.Basics.{_∙_, sym, _≡_, ap, refl, ℕ, _≤_, _+_, List, [], _∷_, _++_, append-assoc, append-nil, true, false, Bool, length, take, length-append, ltb, le-ltb, ltb-false, arith}
 use Rattle.wire.specs.Choice.{pick}
 use Rattle.wire.specs.Overlay.{overlay}
 use Rattle.wire.proofs.Overlays.{length-overlay, overlay-next, overlay-at}

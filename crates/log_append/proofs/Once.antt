@@ -1,8 +1,5 @@
 -- No second answer satisfies a contract of this crate. Assumes nothing.
-use mathlib.Core.Path.{_≡_, sym, _∙_, ap}
-use mathlib.Core.List.{List}
-use Prim.Native.Nat.{ℕ}
-use native.Mathlib.Omega.{arith}
+use Rattle.wire.proofs.Basics.{_∙_, sym, _≡_, ap, ℕ, List, arith}
 use Rattle.log.specs.Editions.{edition2, headBytes}
 use Rattle.log.specs.Entries.{Entry, entryBytes}
 use Rattle.log_append.specs.Writes.{Answer, says, output, Began, Appended}

@@ -1,10 +1,5 @@
 -- The writer: its answers by its branches, and what `begin` and `append` of each entry leave. Assumes nothing.
-use mathlib.Core.Path.{_≡_, refl, sym, _∙_, ap}
-use mathlib.Core.List.{List, [], _∷_, _++_}
-use Prim.Native.Nat.{ℕ, _+_, _-_, _≤_, _<_}
-use native.Mathlib.Omega.{arith}
-use lib.ListN.{length, set, length-append, length-set}
-use borrow.Author.Tests.{lt-ltb, le-ltb}
+use Rattle.wire.proofs.Basics.{_∙_, sym, _≡_, ap, refl, ℕ, _≤_, _+_, _<_, _-_, List, [], _∷_, _++_, length, length-append, set, length-set, le-ltb, lt-ltb, arith}
 use Rattle.wire.specs.Overlay.{overlay}
 use Rattle.varint.specs.Seven.{seven}
 use Rattle.wire.proofs.Overlays.{overlay-append, overlay-one, length-overlay}

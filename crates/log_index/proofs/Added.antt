@@ -1,10 +1,5 @@
 -- A log that entries were added to: its rows are those of its front and then those from there on. And in a log places rise. Assumes nothing.
-use mathlib.Core.Path.{_≡_, refl, sym, ap, subst, _∙_}
-use mathlib.Core.List.{List, [], _∷_, _++_, append-assoc}
-use Prim.Native.Nat.{ℕ, zero, suc, _+_, _-_, _≤_, _<_}
-use native.Mathlib.Omega.{arith}
-use lib.ListN.{length, drop, length-append}
-use lib.Seq.{drop-append-seam}
+use Rattle.wire.proofs.Basics.{_∙_, sym, _≡_, ap, refl, subst, ℕ, _≤_, _+_, _<_, _-_, suc, zero, List, [], _∷_, _++_, append-assoc, length, drop, length-append, drop-append-seam, arith}
 use Rattle.wire.specs.Bytes.{Bytes}
 use Rattle.wire.specs.Taken.{Taken, taken, refused}
 use Rattle.datagram.specs.Read.{readDatagram}

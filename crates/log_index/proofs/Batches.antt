@@ -1,12 +1,6 @@
 -- Rows that are added a batch at a time make the index of all, worked out afresh. Assumes nothing.
-use mathlib.Core.Path.{_≡_, refl, sym, ap, _∙_}
-use mathlib.Core.Logic.{inl, inr}
-use mathlib.Core.List.{List, [], _∷_, _++_, append-assoc, append-nil}
-use Prim.Native.Nat.{ℕ, zero, suc, _+_, _-_, _*_, _/_, _≤_, _<_, min}
-use native.Mathlib.Omega.{arith}
-use native.Mathlib.Decide.{decLe}
-use lib.ListN.{length, take, drop, length-append, length-take, length-drop, take-append-drop, drop-of-length-le}
-use lib.Seq.{drop-drop, take-at, drop-at, take-all}
+use Rattle.wire.proofs.Basics.{_∙_, sym, _≡_, ap, refl, ℕ, _≤_, _+_, _<_, _-_, suc, zero, _*_, min, _/_, List, [], _∷_, _++_, append-assoc, append-nil, inl, inr, length, drop, take, length-append}
+use Rattle.wire.proofs.Basics.{length-drop, length-take, drop-of-length-le, take-append-drop, drop-drop, take-all, drop-at, take-at, decLe, arith}
 use Rattle.wire.specs.Overlay.{overlay}
 use Rattle.wire.proofs.Choices.{either}
 use Rattle.wire.proofs.Overlays.{overlay-eq}

@@ -1,13 +1,5 @@
 -- A key at its place, or not. Assumes nothing.
-use mathlib.Core.Path.{_≡_, sym, ap, _∙_}
-use mathlib.Core.Bool.{Bool, true, false, _&&_}
-use mathlib.Core.Option.{none, some}
-use mathlib.Core.List.{List}
-use Prim.Native.Nat.{ℕ, _+_, _*_, _<_}
-use native.Mathlib.Omega.{arith}
-use lib.Dec.{ltb}
-use lib.ListN.{length, getD}
-use borrow.Author.Tests.{ltb-true}
+use Rattle.wire.proofs.Basics.{_∙_, sym, _≡_, ap, ℕ, _+_, _<_, _*_, List, true, false, Bool, _&&_, some, none, length, getD, ltb, ltb-true, arith}
 use Rattle.wire.specs.Choice.{pick}
 use Rattle.wire.proofs.Choices.{and-l}
 use Rattle.log_index.specs.Rows.{rowOf, isOf}

@@ -1,15 +1,7 @@
 -- A key is found by halving: in the index of rows whose places rise, its first row, or none where no row has it. Assumes nothing.
-use mathlib.Core.Path.{_≡_, refl, sym, ap, _∙_}
-use mathlib.Core.Logic.{inl, inr}
-use mathlib.Core.Bool.{Bool, true, false, _&&_}
-use mathlib.Core.Option.{Option, some}
+use Rattle.wire.proofs.Basics.{_∙_, sym, _≡_, ap, refl, ℕ, _<_, suc, zero, List, [], _∷_, _++_, true, false, Bool, _&&_, inl, inr, some, Option, length, getD, eqb, ltb, eq-eqb, le-ltb, lt-ltb}
+use Rattle.wire.proofs.Basics.{eqb-true, ltb-false, ltb-true, arith}
 use mathlib.Core.Option as option
-use mathlib.Core.List.{List, [], _∷_, _++_}
-use Prim.Native.Nat.{ℕ, zero, suc, _<_}
-use native.Mathlib.Omega.{arith}
-use lib.Dec.{eqb, ltb}
-use lib.ListN.{length, getD}
-use borrow.Author.Tests.{eq-eqb, eqb-true, lt-ltb, le-ltb, ltb-true, ltb-false}
 use Rattle.wire.specs.Choice.{pick}
 use Rattle.wire.proofs.Choices.{either, never, and-l, and-r}
 use Rattle.log_index.specs.Rows.{Row, rowOf, earlier, put, sorted, isOf, firstOf}

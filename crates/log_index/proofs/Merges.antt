@@ -1,13 +1,6 @@
 -- A batch of sorted rows goes into an index, each row to where sorting puts it. Assumes nothing.
-use mathlib.Core.Path.{_≡_, refl, sym, ap, subst, _∙_}
-use mathlib.Core.Logic.{inl, inr}
-use mathlib.Core.Bool.{false}
-use mathlib.Core.List.{List, [], _∷_, _++_, append-assoc}
-use Prim.Native.Nat.{ℕ, zero, suc, _+_, _-_, _*_, _/_, _≤_, _<_}
-use native.Mathlib.Omega.{arith}
-use lib.ListN.{length, getD, take, drop, length-append, length-drop, length-take}
-use lib.Seq.{drop-at, take-add, take-suc}
-use borrow.Author.Tests.{le-leb, lt-leb}
+use Rattle.wire.proofs.Basics.{_∙_, sym, _≡_, ap, refl, subst, ℕ, _≤_, _+_, _<_, _-_, suc, zero, _*_, _/_, List, [], _∷_, _++_, append-assoc, false, inl, inr, length, drop, getD, take, length-append}
+use Rattle.wire.proofs.Basics.{length-drop, length-take, drop-at, take-add, take-suc, le-leb, lt-leb, arith}
 use Rattle.wire.specs.Overlay.{overlay}
 use Rattle.wire.proofs.Choices.{either}
 use Rattle.wire.proofs.Overlays.{overlay-eq}

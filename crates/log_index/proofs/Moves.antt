@@ -1,10 +1,5 @@
 -- Words moved up by a row, and a row put in front of them. Assumes nothing.
-use mathlib.Core.Path.{_≡_, sym, ap, _∙_}
-use mathlib.Core.List.{List, [], _∷_}
-use Prim.Native.Nat.{ℕ, suc, _+_, _-_, _*_, _≤_, _<_}
-use native.Mathlib.Omega.{arith}
-use lib.ListN.{length, getD, set, take, drop}
-use lib.Seq.{drop-cons}
+use Rattle.wire.proofs.Basics.{_∙_, sym, _≡_, ap, ℕ, _≤_, _+_, _<_, _-_, suc, _*_, List, [], _∷_, length, drop, getD, take, set, drop-cons, arith}
 use Rattle.wire.specs.Overlay.{overlay}
 use Rattle.wire.proofs.Overlays.{overlay-nil, overlay-one, overlay-append, overlay-apart, overlay-before, length-overlay}
 use Rattle.log_index.specs.Words.{inserted}

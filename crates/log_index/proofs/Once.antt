@@ -1,8 +1,5 @@
 -- No second answer of a lookup. Assumes nothing.
-use mathlib.Core.Path.{_≡_, refl, sym, _∙_}
-use mathlib.Core.List.{List}
-use Prim.Native.Nat.{ℕ}
-use native.Mathlib.Omega.{arith}
+use Rattle.wire.proofs.Basics.{_∙_, sym, _≡_, refl, ℕ, List, arith}
 use Rattle.log_index.specs.Words.{says, foundIn}
 use Rattle.log_index.specs.declared.Found.{Found}
 use Rattle.log_index.specs.declared.Found.the-variants.{At, Nowhere}

@@ -1,11 +1,5 @@
 -- The order of rows: total, and one row has one place among sorted ones. Assumes nothing.
-use mathlib.Core.Path.{_≡_, sym, _∙_}
-use mathlib.Core.Logic.{inl, inr}
-use mathlib.Core.Bool.{true, false}
-use Prim.Native.Nat.{_≤_, _<_}
-use native.Mathlib.Omega.{arith}
-use lib.Dec.{eqb, ltb}
-use borrow.Author.Tests.{eq-eqb, ne-eqb, lt-ltb, le-ltb, eqb-true, eqb-false, ltb-true, ltb-false}
+use Rattle.wire.proofs.Basics.{_∙_, sym, _≡_, _≤_, _<_, true, false, inl, inr, eqb, ltb, eq-eqb, le-ltb, ne-eqb, lt-ltb, eqb-true, ltb-false, ltb-true, eqb-false, arith}
 use Rattle.wire.proofs.Choices.{either, never}
 use Rattle.log_index.specs.Rows.{Row, rowOf, earlier}
 

@@ -1,11 +1,5 @@
 -- Sorting: rows that go in one after another end up as sorted all at once, and each goes to where the test changes. Assumes nothing.
-use mathlib.Core.Path.{_≡_, refl, sym, ap, _∙_}
-use mathlib.Core.Logic.{inl, inr}
-use mathlib.Core.Bool.{Bool, true, false}
-use mathlib.Core.List.{List, [], _∷_, _++_}
-use Prim.Native.Nat.{ℕ, zero, suc, _≤_, _<_}
-use native.Mathlib.Omega.{arith}
-use lib.ListN.{length, getD, take, drop}
+use Rattle.wire.proofs.Basics.{_∙_, sym, _≡_, ap, refl, ℕ, _≤_, _<_, suc, zero, List, [], _∷_, _++_, true, false, Bool, inl, inr, length, drop, getD, take, arith}
 use Rattle.wire.proofs.Choices.{either}
 use Rattle.log_index.specs.Rows.{Row, rowOf, earlier, put, sorted}
 use Rattle.log_index.proofs.Order.{earlier-turned, upto-trans, upto-earlier, earlier-same}

@@ -1,13 +1,6 @@
 -- Sorted rows in words: a row that goes in by halving goes where sorting puts it. Assumes nothing.
-use mathlib.Core.Path.{_≡_, refl, sym, ap, _∙_}
-use mathlib.Core.Bool.{Bool, true}
-use mathlib.Core.List.{List, [], _∷_, _++_}
-use Prim.Native.Nat.{ℕ, zero, suc, _+_, _-_, _*_, _/_, _≤_, _<_}
-use native.Mathlib.Omega.{arith}
-use native.Mathlib.Numerals.{add-one}
-use lib.ListN.{length, getD, take, drop, length-append, length-drop}
-use lib.Seq.{drop-drop, drop-at, take-append-seam}
-use borrow.Author.Tests.{lt-ltb}
+use Rattle.wire.proofs.Basics.{_∙_, sym, _≡_, ap, refl, ℕ, _≤_, _+_, _<_, _-_, suc, zero, _*_, _/_, List, [], _∷_, _++_, true, Bool, length, drop, getD, take, length-append, length-drop, drop-drop}
+use Rattle.wire.proofs.Basics.{drop-at, take-append-seam, lt-ltb, add-one, arith}
 use Rattle.wire.specs.Overlay.{overlay}
 use Rattle.wire.proofs.Overlays.{overlay-eq}
 use Rattle.log_index.specs.Rows.{Row, rowOf, earlier, put}

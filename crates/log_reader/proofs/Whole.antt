@@ -1,8 +1,5 @@
 -- Reading on from the open reader to its end gives the entries in the log. Assumes nothing.
-use mathlib.Core.Path.{_≡_, refl, _∙_, ap}
-use mathlib.Core.List.{List}
-use Prim.Native.Nat.{ℕ, zero, suc}
-use lib.ListN.{length}
+use Rattle.wire.proofs.Basics.{_∙_, _≡_, ap, refl, ℕ, suc, zero, List, length}
 use denote.Ref.{RefT, now}
 use Rattle.wire.specs.Bytes.{Bytes}
 use Rattle.log.specs.Listed.{after, entriesIn}

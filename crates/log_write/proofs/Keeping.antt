@@ -1,10 +1,5 @@
 -- An entry that was appended to a space of its own goes out, and no refusal comes there. Assumes nothing.
-use mathlib.Core.Path.{_≡_, refl, sym, _∙_, ap, subst}
-use mathlib.Core.List.{List}
-use Prim.Native.Nat.{ℕ, _+_, _≤_}
-use native.Mathlib.Omega.{arith}
-use lib.ListN.{length, take}
-use borrow.Author.Tests.{le-ltb}
+use Rattle.wire.proofs.Basics.{_∙_, sym, _≡_, ap, refl, subst, ℕ, _≤_, _+_, List, length, take, le-ltb, arith}
 use Rattle.datagram.specs.Limits.{maxDatagram}
 use Rattle.output.specs.Output.{Pours}
 use Rattle.output.proofs.Sending.{pours-is, put-front}

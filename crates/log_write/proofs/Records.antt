@@ -1,12 +1,7 @@
 -- A record of the input is one entry of the log, and no longer than a log takes. Assumes nothing.
-use mathlib.Core.Path.{_≡_, refl, ap, sym, _∙_, subst}
-use mathlib.Core.Bool.{Bool}
-use mathlib.Core.List.{List, [], _++_}
-use Prim.Native.Nat.{ℕ, _+_, _-_, _≤_, _<_}
-use native.Mathlib.Omega.{arith}
-use lib.ListN.{length, take, drop, length-take, take-append-drop}
-use lib.Seq.{slice, length-slice, length-take-le, drop-append-le}
-use borrow.Author.Tests.{le-ltb}
+use Rattle.wire.proofs.Basics.{_∙_, sym, _≡_, ap, refl, subst, ℕ, _≤_, _+_, _<_, _-_, List, [], _++_, Bool, length, drop, take, length-take, take-append-drop, length-take-le, slice, drop-append-le}
+use Rattle.wire.proofs.Basics.{le-ltb, arith}
+use lib.Seq.{length-slice}
 use Rattle.wire.specs.Bytes.{Bytes}
 use Rattle.wire.specs.Choice.{pick}
 use Rattle.wire.proofs.Numbers.{be-lt, drop-bytes}

@@ -1,10 +1,6 @@
 -- The pits and the sureness of the rows are what is counted, in their order: of any numbers, and of a message that is accepted. Assumes nothing.
-use mathlib.Core.Path.{_≡_, refl, ap, _∙_}
-use mathlib.Core.Bool.{Bool}
-use mathlib.Core.List.{List, [], _∷_, _++_, map, map-append}
-use Prim.Native.Nat.{ℕ, zero, suc}
-use lib.IntN.{ℤ}
-use lib.ListN.{length, drop}
+use Rattle.wire.proofs.Basics.{_∙_, _≡_, ap, refl, ℕ, suc, zero, List, [], _∷_, _++_, map, Bool, length, drop, ℤ}
+use mathlib.Core.List.{map-append}
 use Rattle.lmcp.specs.Table.{second}
 use Rattle.count_rules.specs.Marks.{Mark, at, markLength, markAt, marksIn}
 use Rattle.pit_marks.specs.Enters.{elementsOf}

@@ -1,12 +1,5 @@
 -- How many numbers an element takes, as the code has it. Assumes nothing.
-use mathlib.Core.Path.{_≡_, refl, ap, _∙_}
-use mathlib.Core.Bool.{Bool, true, false, not}
-use Prim.Native.Nat.{ℕ, _+_, _≤_}
-use native.Mathlib.Omega.{arith}
-use lib.Dec.{eqb}
-use lib.IntN.{ℤ}
-use mathlib.Core.List.{List}
-use borrow.Author.Tests.{eq-eqb, ne-eqb}
+use Rattle.wire.proofs.Basics.{_∙_, _≡_, ap, refl, ℕ, _≤_, _+_, List, true, false, Bool, not, eqb, ℤ, eq-eqb, ne-eqb, arith}
 use Rattle.wire.specs.Choice.{pick}
 use Rattle.count_rules.specs.Marks.{at, markLength}
 

@@ -1,7 +1,5 @@
 -- NO SECOND ANSWER satisfies the contract of `marks_of`, nor leaves other rows. Assumes nothing.
-use mathlib.Core.Path.{_≡_, sym, _∙_}
-use mathlib.Core.List.{List}
-use lib.IntN.{ℤ}
+use Rattle.wire.proofs.Basics.{_∙_, sym, _≡_, List, ℤ}
 use Rattle.mark_rows.specs.declared.Rows.{Rows}
 use Rattle.mark_rows.specs.Rows.{GivesRows}
 

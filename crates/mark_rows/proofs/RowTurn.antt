@@ -1,12 +1,6 @@
 -- The marks of a list's elements, to the end of its numbers: one element more, and none left. Assumes nothing.
-use mathlib.Core.Path.{_≡_, refl, sym, ap, _∙_}
-use mathlib.Core.Bool.{Bool}
-use mathlib.Core.List.{List, [], _∷_, _++_}
-use Prim.Native.Nat.{ℕ, zero, suc, _+_, _-_, _≤_, _<_, min}
-use native.Mathlib.Omega.{arith}
-use lib.IntN.{ℤ}
-use lib.ListN.{length, drop, length-append, length-drop, drop-of-length-le}
-use lib.Seq.{drop-drop}
+use Rattle.wire.proofs.Basics.{_∙_, sym, _≡_, ap, refl, ℕ, _≤_, _+_, _<_, _-_, suc, zero, min, List, [], _∷_, _++_, Bool, length, drop, length-append, length-drop, drop-of-length-le, drop-drop, ℤ}
+use Rattle.wire.proofs.Basics.{arith}
 use Rattle.count_rules.specs.Marks.{markLength, markAt}
 use Rattle.pit_marks.proofs.ElementTurn.{takes-one, drop-most}
 use Rattle.mark_rows.specs.Placed.{PlacedMark, placedAt, placedIn}

@@ -1,13 +1,5 @@
 -- The ways in which the rows of a list are given. Assumes nothing.
-use mathlib.Core.Path.{_≡_, sym, ap, _∙_}
-use mathlib.Core.Bool.{Bool, true, false}
-use mathlib.Core.List.{List}
-use Prim.Native.Nat.{ℕ, _*_, _/_, _≤_, _<_}
-use native.Mathlib.Omega.{arith}
-use lib.IntN.{ℤ}
-use lib.ListN.{length}
-use lib.Seq.{sets}
-use borrow.Author.Tests.{lt-ltb, le-ltb}
+use Rattle.wire.proofs.Basics.{_∙_, sym, _≡_, ap, ℕ, _≤_, _<_, _*_, _/_, List, true, false, Bool, length, sets, ℤ, le-ltb, lt-ltb, arith}
 use Rattle.lmcp.specs.Table.{second}
 use Rattle.count_rules.specs.Marks.{at}
 use Rattle.mark_rows.specs.declared.Rows.the-variants.{Of, Other, Refused}

@@ -1,15 +1,6 @@
 -- Rows laid one behind the other. Assumes nothing.
-use mathlib.Core.Path.{_≡_, refl, sym, ap, _∙_}
-use mathlib.Core.Logic.{inl, inr}
-use mathlib.Core.Bool.{Bool, true, false, not}
-use mathlib.Core.List.{List, [], _∷_, _++_}
-use Prim.Native.Nat.{ℕ, suc, _+_, _*_, _%_, _≤_}
-use native.Mathlib.Omega.{arith}
-use lib.Dec.{eqb}
-use lib.IntN.{ℤ, pos}
-use lib.ListN.{length, set, length-append}
-use lib.Seq.{sets}
-use borrow.Author.Tests.{eqb-true, eqb-false, eq-eqb, ne-eqb}
+use Rattle.wire.proofs.Basics.{_∙_, sym, _≡_, ap, refl, ℕ, _≤_, _+_, suc, _*_, _%_, List, [], _∷_, _++_, true, false, Bool, not, inl, inr, length, length-append, set, sets, eqb, ℤ, pos, eq-eqb}
+use Rattle.wire.proofs.Basics.{ne-eqb, eqb-true, eqb-false, arith}
 use Rattle.wire.specs.Choice.{pick}
 use Rattle.wire.proofs.Choices.{either}
 use Rattle.lmcp.specs.Spelled.{Spot, nowhere, spot}

@@ -1,11 +1,5 @@
 -- From a PitList's elements to its numbers to its rows, in either version. Assumes nothing.
-use mathlib.Core.Path.{_≡_, refl, sym, ap, _∙_}
-use mathlib.Core.Bool.{Bool, true, false}
-use mathlib.Core.List.{List, [], _∷_, _++_}
-use Prim.Native.Nat.{ℕ, zero, suc, _%_, _≤_, _<_}
-use native.Mathlib.Omega.{arith}
-use lib.IntN.{ℤ, pos}
-use lib.ListN.{length}
+use Rattle.wire.proofs.Basics.{_∙_, sym, _≡_, ap, refl, ℕ, _≤_, _<_, suc, zero, _%_, List, [], _∷_, _++_, true, false, Bool, length, ℤ, pos, arith}
 use Rattle.wire.specs.Choice.{pick}
 use Rattle.lmcp.specs.Table.{second}
 use Rattle.lmcp.specs.Spelled.{nowhere, spot, Element, null, marked, spellElement, spellAll, Spelled, PitsKeep, SpelledBy}

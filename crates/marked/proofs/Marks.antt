@@ -1,6 +1,6 @@
 -- Every marked case gives what the paper says, computed in one statement. Assumes nothing.
-use mathlib.Core.Path.{_≡_, refl}
-use mathlib.Core.List.{map, zipWith}
+use Rattle.wire.proofs.Basics.{_≡_, refl, map}
+use mathlib.Core.List.{zipWith}
 use Rattle.wire.specs.Bytes.{be, bytes}
 use Rattle.wire.specs.Overlay.{overlay}
 use Rattle.wire.specs.Sum.{sum}

@@ -11,7 +11,7 @@ use Rattle.steps.specs.Limits.{ledgerLength}
 use Rattle.steps.specs.Runs.{fresh, from, Heard, allHeard}
 use Rattle.watch.specs.Senders.{empty}
 use Rattle.watch.specs.Watching.{asked, after}
-use Rattle.watch.specs.Noted as watched
+use Rattle.differences.specs.Noted as watched
 use Rattle.watch.specs.declared.Watch.{Watch}
 use Rattle.lmcp.specs.Read.{Read}
 use Rattle.lmcp.specs.Lists.{readList}

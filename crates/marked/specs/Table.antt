@@ -5,7 +5,7 @@ use lib.IntN.{pos}
 use lib.ListN.{take}
 use Rattle.datagram.specs.Said.{refused, small}
 use Rattle.steps.specs.Answers.{refusedBy, kept, repeat, delivered}
-use Rattle.watch.specs.Noted as watched
+use Rattle.differences.specs.Noted as watched
 use Rattle.lmcp.specs.Run as run
 use Rattle.marked.specs.Ask.{Ask, reading, receiving, cutting, watching, opening, small′, fragments, Given, said′, replied, cut′, seen, numbers}
 

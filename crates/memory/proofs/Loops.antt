@@ -1,26 +1,14 @@
 -- Laws of the definitions, one turn at a time, as the loops use them.
-use mathlib.Core.Path.{_≡_, refl, sym, _∙_, ap}
-use mathlib.Core.Bool.{Bool, true, false, not, _&&_, _||_, or-true}
-use mathlib.Core.Option.{Option, none, some}
-use mathlib.Core.List.{List, [], _∷_, _++_}
-use Prim.Native.Nat.{ℕ, zero, suc, _+_, _%_, _≤_, _<_, min}
-use native.Mathlib.Numerals.{add-one}
-use native.Mathlib.Decide.{ℕ-discrete, decLe}
-use native.Mathlib.Omega.{arith}
-use borrow.Author.Tests.{eq-eqb, ne-eqb, eqb-false, le-leb}
-use lib.Bits.{bitOr, or-add-and, and-le-l, and-le-r}
-use lib.Dec.{eqb, leb}
-use lib.ListN.{length, getD, set, take, length-set}
-use lib.Seq.{take-suc, take-all}
-use Rattle.wire.proofs.Choices.{and-false, or-false, pick-all}
+use Rattle.wire.proofs.Basics.{_∙_, sym, _≡_, ap, refl, ℕ, _≤_, _+_, _<_, suc, zero, _%_, min, List, [], _∷_, _++_, true, false, Bool, _&&_, _||_, not, or-true, some, none, Option, length, getD, take}
+use Rattle.wire.proofs.Basics.{set, length-set, take-all, take-suc, eqb, eq-eqb, ne-eqb, eqb-false, ℕ-discrete, decLe, add-one, arith}
+use Rattle.wire.proofs.Choices.{and-false, or-false}
 use Rattle.words.specs.Builds.{build}
 use Rattle.words.proofs.Builds.{length-build, getD-build}
 use Rattle.steps.specs.Limits.{sendersMost, keysEach}
-use Rattle.steps.specs.Search.{allBelow, first}
-use Rattle.steps.proofs.Tables.{all-cong, all-of}
-use Rattle.steps.specs.Memory.{Place, vacant, isOf, remembered, has, orElse, placeAt, noPlace, memoryOk}
+use Rattle.steps.specs.Search.{first}
+use Rattle.steps.specs.Memory.{Place, vacant, isOf, remembered, has, orElse}
 use Rattle.memory.specs.Words.{senderAt, usedAt, sequencesAt, sequencesIn, placeIn, memoryIn}
-use Rattle.memory.specs.InsideParts.{shiftedIn, freedAt, freedIn}
+use Rattle.memory.specs.InsideParts.{shiftedIn}
 
 -- ---- the first place that passes
 
@@ -117,34 +105,6 @@ key-nowhere w i q d =
     let n : ℕ = min (getD w (usedAt i) 0) keysEach in
     key-missed w i q n refl (none-of w i q n refl n (omega arith) (λ k h. d k (omega arith)))
 
--- ---- refusal 9
-
--- not over 32 sequences count at place i
-abbrev pub fewAt : List ℕ → ℕ → Bool
-fewAt w i = leb (getD w (usedAt i) 0) keysEach
-
-pub ok-is : (w : List ℕ) → memoryOk (memoryIn w) ≡ allBelow sendersMost (fewAt w)
-unfolding memoryOk memoryIn
-ok-is w = all-cong sendersMost (λ i. leb (placeAt (build sendersMost (placeIn w)) i .used) keysEach) (fewAt w)
-    (λ i b. ap (λ (p : Place). leb (p .used) keysEach) (getD-build sendersMost (placeIn w) i noPlace b))
-
--- no number is above all its bits with those of others
-pub or-above : (a b : ℕ) → (a ≤ bitOr a b) × (b ≤ bitOr a b)
-or-above a b = (omega (arith, or-add-and a b, and-le-r a b), omega (arith, or-add-and a b, and-le-l a b))
-
--- one number more
-pub above-more : (f : ℕ → ℕ) (i a x : ℕ) → x ≡ f i → ((j : ℕ) → j < i → f j ≤ a) → (j : ℕ) → j < i + 1 → f j ≤ bitOr a x
-above-more f i a x e d j h = elim (decLe (suc j) i) [
-  | yes l ↦ omega (arith, d j l, or-above a x .0)
-  | no l ↦ let z : j ≡ i = omega arith in rw z (omega (arith, or-above a x .1))
-]
-
-pub all-few : (w : List ℕ) (r : ℕ) → ((i : ℕ) → i < sendersMost → getD w (usedAt i) 0 ≤ r) → r ≤ keysEach → memoryOk (memoryIn w) ≡ true
-all-few w r f h = ok-is w ∙ all-of sendersMost (fewAt w) (λ i l. le-leb (getD w (usedAt i) 0) keysEach (omega (arith, f i l)))
-
-pub all-more : (p : ℕ → Bool) (i : ℕ) → allBelow i p ≡ true → p i ≡ true → allBelow (i + 1) p ≡ true
-all-more p i a e = rw add-one (rw (a, e))
-
 -- ---- numbers that take the next one's place
 
 pub shifted-none : (m : List ℕ) (a : ℕ) → m ≡ shiftedIn m a 0
@@ -161,21 +121,3 @@ pub shifted-length : (m : List ℕ) (a i : ℕ) → length (shiftedIn m a i) ≡
 unfolding shiftedIn
 shifted-length m a zero = refl
 shifted-length m a (suc i) = length-set (shiftedIn m a i) (a + i) _ ∙ shifted-length m a i
-
--- ---- places that are freed
-
-pub freed-none : (w : List ℕ) (s : ℕ) → w ≡ freedIn w s 0
-unfolding freedIn
-freed-none w s = refl
-
-pub freed-more : (w v u : List ℕ) (s i : ℕ) → v ≡ freedIn w s i → u ≡ freedAt v s i → u ≡ freedIn w s (i + 1)
-unfolding freedIn
-freed-more w v u s i e f =
-    let p : i + 1 ≡ suc i = omega arith in
-    rw (f, e, p)
-
-pub freed-length : (w : List ℕ) (s n : ℕ) → length (freedIn w s n) ≡ length w
-unfolding freedIn
-freed-length w s zero = refl
-freed-length w s (suc n) = pick-all (λ (v : List ℕ). length v ≡ length w) (eqb (getD (freedIn w s n) (senderAt n) 0) s)
-    (λ e. length-set (freedIn w s n) (usedAt n) 0 ∙ freed-length w s n) (λ e. freed-length w s n)

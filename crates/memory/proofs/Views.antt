@@ -1,16 +1,8 @@
 -- What the memory's words show, before and after its functions: the step list's own memory.
-use mathlib.Core.Path.{_≡_, refl, sym, _∙_, ap}
-use mathlib.Core.Logic.{_≢_, inl, inr}
-use mathlib.Core.Bool.{Bool, false}
-use mathlib.Core.Option.{Option, none, some}
-use mathlib.Core.List.{List, [], _∷_, _++_}
-use Prim.Native.Nat.{ℕ, zero, suc, _+_, _-_, _*_, _/_, _%_, _≤_, _<_}
-use native.Mathlib.Decide.{decLe, ℕ-discrete}
-use native.Mathlib.Omega.{arith}
-use lib.Dec.{eqb, ltb}
-use lib.ListN.{length, getD, set, drop, length-set, length-append, length-drop, List·getD-append}
-use lib.Seq.{getD-set-same, getD-set-other, getD-at, getD-drop, ext-getD}
-use borrow.Author.Tests.{lt-ltb, le-ltb, eq-eqb, ne-eqb}
+use Rattle.wire.proofs.Basics.{_∙_, sym, _≡_, ap, refl, ℕ, _≤_, _+_, _<_, _-_, suc, zero, _*_, _%_, _/_, List, [], _∷_, _++_, false, Bool, inl, inr, _≢_, some, none, Option, length, drop, getD}
+use Rattle.wire.proofs.Basics.{length-append, length-drop, set, length-set, getD-drop, getD-set-other, getD-set-same, ext-getD, ltb, le-ltb, ne-eqb, lt-ltb, ℕ-discrete, decLe, arith}
+use lib.ListN.{List·getD-append}
+use lib.Seq.{getD-at}
 use Rattle.wire.specs.Choice.{pick}
 use Rattle.wire.proofs.Choices.{either, pick-all}
 use Rattle.ranks.specs.Ranks.{rankOf, lowerRank, ranksLowered, lowestRanked}
@@ -18,14 +10,14 @@ use Rattle.words.proofs.Builds.{length-build, getD-build, build-is}
 use Rattle.ranks.proofs.Ranks.{lowered-length, lowered-other}
 use Rattle.steps.specs.Limits.{sendersMost, keysEach}
 use Rattle.steps.specs.Search.{first}
-use Rattle.steps.specs.Memory.{keyOf, Place, noPlace, vacant, isOf, remembered, has, Memory, placeAt, keptAt, isRemembered, furthestBack, orElse, placeFor, countOf, pushed, withKey, sunk, remember, freed, forgetKeys}
-use Rattle.steps.proofs.Memories.{place-inside, after-long, after-here, after-other, forget-at, forget-long}
+use Rattle.steps.specs.Memory.{keyOf, Place, noPlace, vacant, isOf, remembered, has, Memory, placeAt, keptAt, isRemembered, furthestBack, orElse, placeFor, countOf, pushed, withKey, sunk, remember}
+use Rattle.steps.proofs.Memories.{place-inside, after-long, after-here, after-other}
 use Rattle.steps.proofs.Tables.{first-some}
 use Rattle.memory.specs.Words.{senderAt, usedAt, turnsAt, turnAt, sequencesAt, memoryWords, sequencesIn, placeIn, memoryIn, Left}
-use Rattle.memory.specs.InsideParts.{turnRanks, settledIn, shiftedIn, addedIn, freedIn}
-use Rattle.memory.proofs.Loops.{shifted-length, freed-length}
+use Rattle.memory.specs.InsideParts.{turnRanks, settledIn, shiftedIn, addedIn}
+use Rattle.memory.proofs.Loops.{shifted-length}
 
-place-eq : (a b : Place) → a .sender ≡ b .sender → a .used ≡ b .used → a .turn ≡ b .turn → a .sequences ≡ b .sequences → a ≡ b
+pub place-eq : (a b : Place) → a .sender ≡ b .sender → a .used ≡ b .used → a .turn ≡ b .turn → a .sequences ≡ b .sequences → a ≡ b
 place-eq a b p q r s = λ i. record { sender = p i; used = q i; turn = r i; sequences = s i }
 
 -- ---- the places
@@ -39,7 +31,7 @@ unfolding memoryIn
 place-shown w i h = getD-build sendersMost (placeIn w) i noPlace h
 
 -- words that show every place of a memory show the memory
-shows : (w : List ℕ) (m : Memory) → length m ≡ sendersMost → ((i : ℕ) → i < sendersMost → placeIn w i ≡ placeAt m i) → memoryIn w ≡ m
+pub shows : (w : List ℕ) (m : Memory) → length m ≡ sendersMost → ((i : ℕ) → i < sendersMost → placeIn w i ≡ placeAt m i) → memoryIn w ≡ m
 unfolding memoryIn
 shows w m e h = build-is sendersMost (placeIn w) m noPlace e h
 
@@ -338,43 +330,6 @@ remembered-memory w e s q i n p f =
 
 pub remembered-length : (w : List ℕ) → length w ≡ memoryWords → (s q i n : ℕ) → i < sendersMost → length (addedIn (settledIn w i s) i n q) ≡ memoryWords
 remembered-length w e s q i n h = added-length (settledIn w i s) (settled-length w e i s h) i n q h
-
--- ---- a sender is forgotten
-
-freed-out : (w : List ℕ) (s n k : ℕ) → ((j : ℕ) → j < n → k ≢ usedAt j) → getD (freedIn w s n) k 0 ≡ getD w k 0
-unfolding freedIn
-freed-out w s zero k h = refl
-freed-out w s (suc n) k h =
-    pick-all (λ (v : List ℕ). getD v k 0 ≡ getD (freedIn w s n) k 0) (eqb (getD (freedIn w s n) (senderAt n) 0) s)
-    (λ z. getD-set-other (freedIn w s n) (usedAt n) k 0 0 (h n (omega arith))) (λ z. refl)
-    ∙ freed-out w s n k (λ j b. h j (omega arith))
-
-freed-in : (w : List ℕ) (s n j : ℕ) → j < n → n ≤ sendersMost → usedAt j < length w → getD (freedIn w s n) (usedAt j) 0 ≡ pick (eqb (getD w (senderAt j) 0) s) 0 (getD w (usedAt j) 0)
-unfolding freedIn
-freed-in w s zero j h c b = absurd (omega arith)
-freed-in w s (suc n) j h c b =
-    let its : getD (freedIn w s n) (senderAt n) 0 ≡ getD w (senderAt n) 0 = freed-out w s n (senderAt n) (λ x y z. omega arith) in
-    elim (ℕ-discrete j n) [
-      | yes z ↦ rw z (elim (ℕ-discrete (getD w (senderAt n) 0) s) [
-        | yes y ↦ rw (eq-eqb _ s (its ∙ y), eq-eqb _ s y) (getD-set-same (freedIn w s n) (usedAt n) 0 0 (omega (arith, freed-length w s n, z)))
-        | no y ↦ rw (ne-eqb (getD (freedIn w s n) (senderAt n) 0) s (λ x. y (sym its ∙ x)), ne-eqb (getD w (senderAt n) 0) s y) (freed-out w s n (usedAt n) (λ x k q. omega arith))
-      ])
-      | no z ↦ pick-all (λ (v : List ℕ). getD v (usedAt j) 0 ≡ getD (freedIn w s n) (usedAt j) 0) (eqb (getD (freedIn w s n) (senderAt n) 0) s)
-          (λ y. getD-set-other (freedIn w s n) (usedAt n) (usedAt j) 0 0 (λ x. z (omega arith))) (λ y. refl)
-          ∙ freed-in w s n j (omega arith) (omega arith) b
-    ]
-
--- THE LAW of forget
-pub forgotten-memory : (w : List ℕ) (s : ℕ) → length w ≡ memoryWords → memoryIn (freedIn w s sendersMost) ≡ forgetKeys (memoryIn w) s
-forgotten-memory w s e = shows (freedIn w s sendersMost) (forgetKeys (memoryIn w) s) (forget-long (memoryIn w) s ∙ memory-long w) (λ i b.
-    let out : (k : ℕ) → ((j : ℕ) → j < sendersMost → k ≢ usedAt j) → getD (freedIn w s sendersMost) k 0 ≡ getD w k 0 = freed-out w s sendersMost in
-    place-eq (placeIn (freedIn w s sendersMost) i) (freed s (placeIn w i))
-    (out (senderAt i) (λ x y z. omega arith))
-    (freed-in w s sendersMost i b (omega arith) (omega arith))
-    (out (turnAt i) (λ x y z. omega arith))
-    (build-is keysEach (λ k. getD (freedIn w s sendersMost) (sequencesAt i + k) 0) (sequencesIn w i) 0 (length-build keysEach (λ k. getD w (sequencesAt i + k) 0))
-    (λ k c. out (sequencesAt i + k) (λ x y z. omega arith) ∙ sym (getD-build keysEach (λ k. getD w (sequencesAt i + k) 0) k 0 c)))
-    ∙ sym (forget-at (memoryIn w) s i (omega (arith, memory-long w)) ∙ ap (freed s) (place-shown w i b)))
 
 -- ---- what is left
 

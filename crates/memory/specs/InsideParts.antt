@@ -1,7 +1,7 @@
 -- What the memory's own functions find and leave in the words. Definitions only; no promise of a public function rests on them.
 use mathlib.Core.List.{List}
 use Prim.Native.Nat.{ℕ, zero, suc, _+_, _-_}
-use lib.Dec.{eqb, ltb}
+use lib.Dec.{ltb}
 use lib.ListN.{getD, set}
 use Rattle.wire.specs.Choice.{pick}
 use Rattle.steps.specs.Limits.{sendersMost, keysEach}
@@ -30,11 +30,3 @@ addedIn w i n q =
     pick (ltb n keysEach)
     (set (set w (sequencesAt i + n) q) (usedAt i) (n + 1))
     (set (shiftedIn w (sequencesAt i) (keysEach - 1)) (sequencesAt i + (keysEach - 1)) q)
-
--- place i is freed where it is the sender's, and so are the first n
-abbrev pub freedAt : List ℕ → ℕ → ℕ → List ℕ
-freedAt w s i = pick (eqb (getD w (senderAt i) 0) s) (set w (usedAt i) 0) w
-
-unfoldable pub freedIn : List ℕ → ℕ → ℕ → List ℕ
-freedIn w s zero = w
-freedIn w s (suc n) = freedAt (freedIn w s n) s n

@@ -1,23 +1,24 @@
-// The memory of delivered keys: the last words of a receiver's state. 16 places for senders, each with its last 32 sequences.
+// The memory of delivered keys: the last words of a receiver's state. 16 places for senders, each with its last 32 sequences. A key is
+// looked for, and remembered; `memory_places` has what is done to the places themselves.
 // Every public function is total over any slice.
 use ranks::Ranked;
 ghost use mathlib.Core.Path.{_≡_};
 ghost use mathlib.Core.Bool.{false};
-ghost use Prim.Native.Nat.{ℕ, _+_, _≤_, _<_, _-_, _%_};
-ghost use lib.ListN.{length, getD};
+ghost use Prim.Native.Nat.{_+_, _≤_, _<_, _-_, _%_};
+ghost use lib.ListN.{length};
 ghost use Rattle.steps.specs.Limits.{sendersMost, keysEach};
 ghost use Rattle.steps.specs.Search.{first};
-ghost use Rattle.steps.specs.Memory.{keyOf, isOf, vacant, remembered, has, orElse, placeFor, countOf, isRemembered, forgetKeys, memoryOk};
+ghost use Rattle.steps.specs.Memory.{keyOf, isOf, vacant, remembered, has, orElse, placeFor, countOf, isRemembered};
 ghost use Rattle.steps.specs.Memory as steps;
-ghost use Rattle.memory.specs.Words.{usedAt, memoryWords, placeIn, memoryIn, Left};
-ghost use Rattle.memory.specs.InsideParts.{turnRanks, settledIn, shiftedIn, addedIn, freedAt, freedIn};
+ghost use Rattle.memory.specs.Words.{memoryWords, placeIn, memoryIn, Left};
+ghost use Rattle.memory.specs.InsideParts.{turnRanks, settledIn, shiftedIn, addedIn};
 
 // For how many senders keys are remembered, and how many for each.
 pub const SENDERS_MOST: usize = 16;
 
 pub const KEYS_EACH: usize = 32;
 // Where the words of the places stand: senders, how many sequences count, turns, and sequences.
-const USED: usize = SENDERS_MOST;
+pub const USED: usize = SENDERS_MOST;
 
 const TURNS: usize = 2 * SENDERS_MOST;
 
@@ -211,81 +212,4 @@ pub fn remember(memory: &mut [u64], sender: u64, sequence: u64)
     let n = count_of(&*memory, i, sender);
     settle(&mut *memory, i, sender);
     add(memory, i, n, sequence);
-}
-
-// ---- a sender is forgotten
-
-// Place i is freed where it is the sender's.
-fn free_at(memory: &mut [u64], i: usize, sender: u64)
-    requires { ⌜ i < sendersMost ⌝ }
-    ensures { λ _. ⌜ now (memory .exit) ≡ freedAt (now (memory .entry)) sender i ⌝ }
-{
-    if words::word(&*memory, i) != sender {
-        return;
-    }
-    words::put_word(memory, USED + i, 0);
-}
-
-fn free_all(memory: &mut [u64], sender: u64)
-    ensures { λ _. ⌜ now (memory .exit) ≡ freedIn (now (memory .entry)) sender sendersMost ⌝ }
-{
-    let mut i: usize = 0;
-    while i < SENDERS_MOST {
-        free_at(&mut *memory, i, sender);
-        i += 1;
-    }
-}
-
-// The sender's place is free.
-pub fn forget(memory: &mut [u64], sender: u64)
-    ensures { λ _. ⌜ Left (now (memory .entry)) (forgetKeys (memoryIn (now (memory .entry))) sender) (now (memory .exit)) ⌝ }
-{
-    if memory.len() != WORDS {
-        return;
-    }
-    free_all(memory, sender);
-}
-
-// ---- refusal 9
-
-// All bits of the counts of a memory together: no count is above.
-fn all_counts(memory: &[u64]) -> u64
-    requires { ⌜ length (now memory) ≡ memoryWords ⌝ }
-    ensures { λ r. ⌜ ((i : ℕ) → i < sendersMost → getD (now (memory .entry)) (usedAt i) 0 ≤ r) ⌝ }
-{
-    let mut all: u64 = 0;
-    let mut i: usize = 0;
-    while i < SENDERS_MOST {
-        all = all | memory[USED + i];
-        i += 1;
-    }
-    all
-}
-
-// One by one, over any slice.
-fn each_in_order(memory: &[u64]) -> bool
-    ensures { λ r. ⌜ r ≡ memoryOk (memoryIn (now (memory .entry))) ⌝ }
-{
-    let mut i: usize = 0;
-    while i < SENDERS_MOST {
-        if (KEYS_EACH as u64) < words::word(memory, USED + i) {
-            return false;
-        }
-        i += 1;
-    }
-    true
-}
-
-// Not over 16 senders, for which alone there are places, and not over 32 keys for one.
-pub fn in_order(memory: &[u64]) -> bool
-    ensures { λ r. ⌜ r ≡ memoryOk (memoryIn (now (memory .entry))) ⌝ }
-{
-    if memory.len() != WORDS {
-        return each_in_order(memory);
-    }
-    // Most often no count is even near.
-    if all_counts(memory) <= KEYS_EACH as u64 {
-        return true;
-    }
-    each_in_order(memory)
 }

@@ -1,10 +1,5 @@
 -- What is wrong with message blocks, by what the walk found. Assumes nothing.
-use mathlib.Core.Path.{_≡_, refl}
-use mathlib.Core.Bool.{true, false}
-use mathlib.Core.Option.{Option, none, some}
-use mathlib.Core.List.{List}
-use Prim.Native.Nat.{ℕ}
-use native.Mathlib.Omega.{arith}
+use Rattle.wire.proofs.Basics.{_≡_, refl, ℕ, List, true, false, some, none, Option, arith}
 use Rattle.moss.specs.Packet.{knownKind, carried, fillFault, blockFault}
 use Rattle.moss.specs.InsideWalk.{start, walked}
 use Rattle.moss.specs.declared.Trail.{Trail}

@@ -1,10 +1,5 @@
 -- What the walk found, as the packet says it. Assumes nothing.
-use mathlib.Core.Path.{_≡_, refl, ap, sym, _∙_}
-use mathlib.Core.Option.{Option, none, some}
-use mathlib.Core.List.{List}
-use Prim.Native.Nat.{ℕ}
-use native.Mathlib.Omega.{arith}
-use lib.ListN.{length}
+use Rattle.wire.proofs.Basics.{_∙_, sym, _≡_, ap, refl, ℕ, List, some, none, Option, length, arith}
 use Rattle.moss.specs.Limits.{headLength}
 use Rattle.moss.specs.Packet.{Given, gives, refuses, Packet, sessionPlace, sequenceIn, kindIn, held}
 use Rattle.moss.specs.Message.{placeIn}

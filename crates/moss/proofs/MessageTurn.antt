@@ -1,14 +1,6 @@
 -- Laws of message blocks: one turn of the walk. Assumes nothing.
-use mathlib.Core.Path.{_≡_, refl, ap, sym, _∙_}
-use mathlib.Core.Bool.{Bool, true, false}
-use mathlib.Core.Option.{Option, none, some}
-use mathlib.Core.List.{List, [], _∷_}
-use Prim.Native.Nat.{ℕ, zero, suc, _+_, _-_, _≤_, _<_}
-use native.Mathlib.Omega.{arith}
-use lib.ListN.{length, drop, length-drop, drop-of-length-le}
-use lib.Seq.{length-take-le, drop-drop}
-use lib.Dec.{eqb}
-use borrow.Author.Tests.{lt-ltb, le-ltb}
+use Rattle.wire.proofs.Basics.{_∙_, sym, _≡_, ap, refl, ℕ, _≤_, _+_, _<_, _-_, suc, zero, List, [], _∷_, true, false, Bool, some, none, Option, length, drop, length-drop, drop-of-length-le}
+use Rattle.wire.proofs.Basics.{length-take-le, drop-drop, eqb, le-ltb, lt-ltb, arith}
 use Rattle.wire.specs.Choice.{pick}
 use Rattle.wire.specs.Bytes.{be}
 use Rattle.moss.specs.Blocks.{isCut, firstMessage, behind, before, nothingIn, messagesWithin, messagesIn}

@@ -1,6 +1,6 @@
 -- No second answer satisfies a contract of this crate. `message`, `session_at` and `block_fault` say `r ≡ definition inputs`: wire's one-answer is their
 -- theorem. Assumes nothing.
-use mathlib.Core.Path.{_≡_, refl, ap, sym, _∙_}
+use Rattle.wire.proofs.Basics.{_∙_, sym, _≡_, ap, refl}
 use Rattle.wire.proofs.Once.{one-answer}
 use Rattle.moss.specs.Packet.{Given, gives, refuses}
 use Rattle.moss.specs.Message.{Part}

@@ -1,13 +1,6 @@
 -- The packet by its cases, and what is known of one that is given. Assumes nothing.
-use mathlib.Core.Path.{_≡_, refl, ap, sym, _∙_}
-use mathlib.Core.Bool.{Bool, true, false, not, _||_}
-use mathlib.Core.Option.{Option, none, some}
-use mathlib.Core.List.{List}
-use Prim.Native.Nat.{ℕ, _≤_, _<_}
-use native.Mathlib.Omega.{arith}
-use lib.Dec.{eqb, ltb}
-use lib.ListN.{length, drop}
-use borrow.Author.Tests.{eq-eqb, ne-eqb, lt-ltb, le-ltb, eqb-true, ltb-false, not-false}
+use Rattle.wire.proofs.Basics.{_∙_, sym, _≡_, ap, refl, ℕ, _≤_, _<_, List, true, false, Bool, _||_, not, some, none, Option, length, drop, eqb, ltb, eq-eqb, le-ltb, ne-eqb, lt-ltb, eqb-true}
+use Rattle.wire.proofs.Basics.{ltb-false, not-false, arith}
 use Rattle.wire.specs.Choice.{pick}
 use Rattle.wire.proofs.Choices.{or-l, or-r}
 use Rattle.moss.specs.Limits.{headLength, maxPacket}

@@ -1,11 +1,6 @@
 -- What the walk has found when it has passed all blocks: their number, and the message that was looked out for. Assumes nothing.
-use mathlib.Core.Path.{_≡_, refl, ap, sym, _∙_}
-use mathlib.Core.List.{List, [], _∷_}
-use Prim.Native.Nat.{ℕ, zero, suc, _+_, _≤_, _<_}
-use native.Mathlib.Omega.{arith}
+use Rattle.wire.proofs.Basics.{_∙_, sym, _≡_, ap, refl, ℕ, _≤_, _+_, _<_, suc, zero, List, [], _∷_, length, eq-eqb, le-ltb, ne-eqb, lt-ltb, arith}
 use native.Mathlib.Decide.{decLt}
-use lib.ListN.{length}
-use borrow.Author.Tests.{eq-eqb, ne-eqb, lt-ltb, le-ltb}
 use Rattle.moss.specs.Packet.{gives, refuses}
 use Rattle.moss.specs.Message.{Part, located}
 use Rattle.moss.specs.InsideWalk.{start, past, pastAll, pointed}

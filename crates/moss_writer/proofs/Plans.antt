@@ -1,13 +1,5 @@
 -- What the writer answers, by its cases, and what is known where it writes. Assumes nothing.
-use mathlib.Core.Path.{_≡_, refl, ap, sym}
-use mathlib.Core.Bool.{Bool, true, false}
-use mathlib.Core.Option.{Option, none, some}
-use mathlib.Core.List.{List}
-use Prim.Native.Nat.{ℕ, _+_, _≤_, _<_}
-use native.Mathlib.Omega.{arith}
-use lib.Dec.{ltb}
-use lib.ListN.{length}
-use borrow.Author.Tests.{lt-ltb, le-ltb, ltb-false}
+use Rattle.wire.proofs.Basics.{sym, _≡_, ap, refl, ℕ, _≤_, _+_, _<_, List, true, false, Bool, some, none, Option, length, ltb, le-ltb, lt-ltb, ltb-false, arith}
 use Rattle.wire.specs.Choice.{pick}
 use Rattle.moss.specs.Limits.{headLength, maxPacket, maxMessage}
 use Rattle.moss.specs.Packet.{gives, refuses, knownKind, carried, fillFault, blockFault}

@@ -1,14 +1,7 @@
 -- What is written reads back the same, and what is read and written again is the same bytes. Assumes nothing.
-use mathlib.Core.Path.{_≡_, ap, sym, _∙_}
-use mathlib.Core.Bool.{Bool, true, false}
-use mathlib.Core.Option.{Option, some}
-use mathlib.Core.List.{List, [], _∷_, _++_, append-assoc}
-use Prim.Native.Nat.{ℕ, _+_, _%_, _^_, _≤_, _<_}
-use native.Mathlib.Omega.{arith}
-use lib.Dec.{eqb}
-use lib.ListN.{length, getD, take, drop, length-append, length-drop, take-append-drop}
-use lib.Seq.{take-at, drop-at, getD-at, take-add, take-suc}
-use borrow.Author.Tests.{ne-eqb}
+use Rattle.wire.proofs.Basics.{_∙_, sym, _≡_, ap, ℕ, _≤_, _+_, _<_, _^_, _%_, List, [], _∷_, _++_, append-assoc, true, false, Bool, some, Option, length, drop, getD, take, length-append, length-drop}
+use Rattle.wire.proofs.Basics.{take-append-drop, drop-at, take-at, take-add, take-suc, eqb, ne-eqb, arith}
+use lib.Seq.{getD-at}
 use Rattle.wire.specs.Choice.{pick}
 use Rattle.wire.specs.Bytes.{be, bytes, Bytes}
 use Rattle.wire.proofs.Numbers.{be-bytes, bytes-be, length-bytes, drop-bytes}

@@ -1,13 +1,5 @@
 -- Laws of names. Where the name rule changes, `long-name` and `no-zero` are shown again. Assumes nothing.
-use mathlib.Core.Path.{_≡_, refl, ap, _∙_}
-use mathlib.Core.Bool.{true, false, not}
-use mathlib.Core.List.{List, [], _∷_}
-use Prim.Native.Nat.{ℕ, _≤_, _<_}
-use native.Mathlib.Omega.{arith}
-use native.Mathlib.Decide.{decLe, ℕ-discrete}
-use lib.Dec.{eqb, leb}
-use lib.ListN.{length}
-use borrow.Author.Tests.{ne-eqb, lt-leb}
+use Rattle.wire.proofs.Basics.{_∙_, _≡_, ap, refl, ℕ, _≤_, _<_, List, [], _∷_, true, false, not, length, eqb, leb, ne-eqb, lt-leb, ℕ-discrete, decLe, arith}
 use Rattle.wire.proofs.Choices.{never, and-false, and-r}
 use Rattle.names.specs.Limits.{maxName}
 use Rattle.names.specs.Scan.{start, next, scan}

@@ -1,16 +1,6 @@
 -- Laws of the scan of a name: where it can go from where. Assumes nothing.
-use mathlib.Core.Path.{_≡_, refl, ap, sym, _∙_}
-use mathlib.Core.Bool.{true, false}
-use mathlib.Core.Logic.{inl, inr}
-use mathlib.Core.List.{List, [], _∷_}
-use Prim.Native.Nat.{ℕ, _+_, _≤_, _<_}
-use native.Mathlib.Omega.{arith}
-use native.Mathlib.Numerals.{add-one}
-use native.Mathlib.Decide.{ℕ-discrete}
-use lib.Dec.{eqb, leb}
-use lib.ListN.{length, getD, drop, drop-of-length-le}
-use lib.Seq.{drop-cons}
-use borrow.Author.Tests.{le-leb, lt-leb, leb-true, eq-eqb, ne-eqb, eqb-true}
+use Rattle.wire.proofs.Basics.{_∙_, sym, _≡_, ap, refl, ℕ, _≤_, _+_, _<_, List, [], _∷_, true, false, inl, inr, length, drop, getD, drop-of-length-le, drop-cons, eqb, leb, eq-eqb, ne-eqb, eqb-true}
+use Rattle.wire.proofs.Basics.{le-leb, lt-leb, leb-true, ℕ-discrete, add-one, arith}
 use Rattle.wire.proofs.Choices.{and-l, and-r, and-of, and-false, either, pick-all}
 use Rattle.names.specs.Scan.{within, start, bad, lowAfter, highAfter, next, scan}
 use Rattle.names.specs.declared.Scan.{Scan}

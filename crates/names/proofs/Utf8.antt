@@ -1,15 +1,7 @@
 -- A name is good exactly when it is 1 to 63 bytes long and the encoding of allowed code points: the scan decides it. And its code points are unique.
 -- Assumes nothing.
-use mathlib.Core.Path.{_≡_, refl, ap, sym, _∙_, subst}
-use mathlib.Core.Bool.{Bool, true, false, not, _&&_, _||_}
-use mathlib.Core.List.{List, [], _∷_, _++_}
-use Prim.Native.Nat.{ℕ, zero, suc, _+_, _*_, _-_, _/_, _%_, _≤_, _<_}
-use native.Mathlib.Nat.{not-suc-le-zero}
-use native.Mathlib.Omega.{arith}
-use native.Mathlib.Decide.{decLe, ℕ-discrete}
-use lib.Dec.{eqb, leb, ltb}
-use lib.ListN.{length, getD, drop}
-use borrow.Author.Tests.{le-leb, lt-leb, leb-true, leb-false, le-ltb, lt-ltb, eq-eqb, ne-eqb}
+use Rattle.wire.proofs.Basics.{_∙_, sym, _≡_, ap, refl, subst, ℕ, _≤_, _+_, _<_, _-_, suc, zero, _*_, _%_, _/_, List, [], _∷_, _++_, true, false, Bool, _&&_, _||_, not, length, drop, getD, eqb, ltb}
+use Rattle.wire.proofs.Basics.{leb, eq-eqb, le-ltb, ne-eqb, lt-ltb, le-leb, lt-leb, leb-true, leb-false, not-suc-le-zero, ℕ-discrete, decLe, arith}
 use Rattle.wire.specs.Choice.{pick}
 use Rattle.wire.proofs.Choices.{never, and-l, and-r, and-of, pick-all}
 use Rattle.names.specs.Limits.{maxName}

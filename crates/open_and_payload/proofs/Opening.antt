@@ -1,10 +1,5 @@
 -- Opening: what was called on the way, put together into what the call promises.
-use mathlib.Core.Path.{_≡_, refl, sym, _∙_, ap}
-use mathlib.Core.Logic.{_≢_}
-use mathlib.Core.Option.{some}
-use mathlib.Core.List.{List}
-use Prim.Native.Nat.{ℕ}
-use lib.ListN.{length, set, replicate}
+use Rattle.wire.proofs.Basics.{_∙_, sym, _≡_, ap, refl, ℕ, List, _≢_, some, length, set, replicate}
 use Rattle.wire.specs.Overlay.{overlay}
 use Rattle.wire.proofs.Overlays.{overlay-whole}
 use Rattle.steps.specs.Limits.{slotCount, slotSizeOf}

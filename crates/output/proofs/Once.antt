@@ -1,11 +1,5 @@
 -- No second place, no other bytes in the buffer before it and no other bytes gone satisfy `Sends`. Assumes nothing.
-use mathlib.Core.Path.{_≡_, refl, ap, sym, _∙_}
-use mathlib.Core.List.{List, _++_}
-use Prim.Native.Nat.{ℕ, zero, suc, _+_, _*_, _≤_, _<_}
-use native.Mathlib.Omega.{arith}
-use native.Mathlib.Nat.{suc-mul, zero-mul, zero-add}
-use lib.ListN.{length, take, drop}
-use lib.Seq.{take-at, drop-at}
+use Rattle.wire.proofs.Basics.{_∙_, sym, _≡_, ap, refl, ℕ, _≤_, _+_, _<_, suc, zero, _*_, List, _++_, length, drop, take, drop-at, take-at, zero-add, suc-mul, zero-mul, arith}
 use Rattle.output.specs.Output.{Sends}
 use Rattle.output.proofs.Sending.{sends-length}
 

@@ -1,13 +1,7 @@
 -- Laws of text that goes out through a buffer. Assumes nothing.
-use mathlib.Core.Path.{_≡_, refl, ap, sym, _∙_, subst}
-use mathlib.Core.Bool.{Bool, false}
-use mathlib.Core.List.{List, [], _∷_, _++_, append-nil, append-assoc}
-use Prim.Native.Nat.{ℕ, zero, suc, _+_, _-_, _*_, _≤_, _<_}
-use native.Mathlib.Omega.{arith}
-use native.Mathlib.Nat.{add-mul, one-mul, zero-mul, suc-mul}
-use native.Mathlib.Decide.{ℕ-discrete}
-use lib.ListN.{length, take, drop, length-append}
-use lib.Seq.{length-take-le, take-at, take-add, take-length}
+use Rattle.wire.proofs.Basics.{_∙_, sym, _≡_, ap, refl, subst, ℕ, _≤_, _+_, _<_, _-_, suc, zero, _*_, List, [], _∷_, _++_, append-assoc, append-nil, false, Bool, length, drop, take, length-append}
+use Rattle.wire.proofs.Basics.{length-take-le, take-at, take-add, take-length, one-mul, suc-mul, zero-mul, ℕ-discrete, arith}
+use native.Mathlib.Nat.{add-mul}
 use Rattle.wire.specs.Overlay.{overlay}
 use Rattle.wire.proofs.Overlays.{overlay-eq, length-overlay}
 use Rattle.text.specs.Text.{hex}

@@ -1,8 +1,5 @@
 -- The two parts are the name and the payload of what the datagram says, by the reader's own limits. Assumes nothing.
-use mathlib.Core.Path.{_≡_, refl}
-use mathlib.Core.Bool.{Bool, true, false}
-use mathlib.Core.List.{List}
-use Prim.Native.Nat.{ℕ}
+use Rattle.wire.proofs.Basics.{_≡_, refl, ℕ, List, true, false, Bool}
 use Rattle.wire.specs.Choice.{pick}
 use Rattle.datagram.specs.Limits.{maxPayload, maxFragments}
 use Rattle.datagram.specs.Read.{readDatagram, partOf}

@@ -1,15 +1,6 @@
 -- The marks of a list's elements, to the end of its numbers: one element more, and none left. Assumes nothing.
-use mathlib.Core.Path.{_≡_, sym, ap, _∙_}
-use mathlib.Core.Logic.{inl, inr}
-use mathlib.Core.Bool.{Bool, true, false}
-use mathlib.Core.List.{List, [], _∷_, _++_}
-use Prim.Native.Nat.{ℕ, zero, suc, _+_, _-_, _≤_, _<_, min}
-use native.Mathlib.Omega.{arith}
-use lib.Dec.{eqb, ltb}
-use lib.IntN.{ℤ}
-use lib.ListN.{length, drop, length-drop, drop-of-length-le}
-use lib.Seq.{drop-drop}
-use borrow.Author.Tests.{ltb-true, ltb-false, eq-eqb, ne-eqb}
+use Rattle.wire.proofs.Basics.{_∙_, sym, _≡_, ap, ℕ, _≤_, _+_, _<_, _-_, suc, zero, min, List, [], _∷_, _++_, true, false, Bool, inl, inr, length, drop, length-drop, drop-of-length-le, drop-drop, eqb}
+use Rattle.wire.proofs.Basics.{ltb, ℤ, eq-eqb, ne-eqb, ltb-false, ltb-true, arith}
 use Rattle.wire.specs.Choice.{pick}
 use Rattle.wire.proofs.Choices.{pick-all, either}
 use Rattle.count_rules.specs.Marks.{Mark, at, markLength, markAt, marksIn}

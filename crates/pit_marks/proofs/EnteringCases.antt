@@ -1,12 +1,5 @@
 -- Entering, case by case, as the code goes. Assumes nothing.
-use mathlib.Core.Path.{_≡_, refl, sym, ap, _∙_, subst}
-use mathlib.Core.Bool.{Bool, true, false, not}
-use mathlib.Core.List.{List, [], _∷_, _++_}
-use Prim.Native.Nat.{ℕ}
-use lib.Dec.{eqb}
-use lib.IntN.{ℤ}
-use lib.ListN.{length, drop}
-use borrow.Author.Tests.{eq-eqb, ne-eqb}
+use Rattle.wire.proofs.Basics.{_∙_, sym, _≡_, ap, refl, subst, ℕ, List, [], _∷_, _++_, true, false, Bool, not, length, drop, eqb, ℤ, eq-eqb, ne-eqb}
 use Rattle.lmcp.specs.Table.{second}
 use Rattle.sorted_set.specs.declared.Entered.{Entered}
 use Rattle.sorted_set.specs.declared.Entered.the-variants.{Now, Full}

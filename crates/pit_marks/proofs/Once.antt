@@ -1,8 +1,5 @@
 -- NO SECOND ANSWER satisfies the contract of a list's entering, or of the tile lines; for `is_list` it is wire's `one-answer`. Assumes nothing.
-use mathlib.Core.Path.{_≡_, sym, _∙_}
-use mathlib.Core.List.{List}
-use Prim.Native.Nat.{ℕ}
-use lib.IntN.{ℤ}
+use Rattle.wire.proofs.Basics.{_∙_, sym, _≡_, ℕ, List, ℤ}
 use Rattle.wire.specs.Slices.{_⇒_}
 use Rattle.pit_marks.specs.declared.Sizes.{Sizes}
 use Rattle.pit_marks.specs.declared.Taken.{Taken}

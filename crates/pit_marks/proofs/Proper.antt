@@ -1,14 +1,6 @@
 -- The numbers of an accepted PitList: its elements to the end of the numbers are those that its count says, and all fit a key. Assumes nothing.
-use mathlib.Core.Path.{_≡_, refl, sym, ap, _∙_, subst}
-use mathlib.Core.Logic.{inl}
-use mathlib.Core.Bool.{Bool}
-use mathlib.Core.List.{List, [], _∷_, _++_}
-use Prim.Native.Nat.{ℕ, zero, suc, _≤_}
-use native.Mathlib.Omega.{arith}
-use lib.IntN.{ℤ, pos}
-use lib.ListN.{length, getD, length-append}
+use Rattle.wire.proofs.Basics.{_∙_, sym, _≡_, ap, refl, subst, ℕ, _≤_, suc, zero, List, [], _∷_, _++_, Bool, inl, length, getD, length-append, ℤ, pos, ne-eqb, arith}
 use lib.Signed.{mag}
-use borrow.Author.Tests.{ne-eqb}
 use Rattle.wire.specs.Bytes.{Bytes}
 use Rattle.lmcp.specs.Table.{second}
 use Rattle.lmcp.specs.Run.{got}

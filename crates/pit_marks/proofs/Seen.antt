@@ -1,15 +1,7 @@
 -- A list entered into sets that hold what was seen, in however many words: they hold it too, or it is refused by what stands against it, and
 -- then they hold a part of it. Assumes nothing.
-use mathlib.Core.Path.{_≡_, refl, sym, ap, _∙_, subst}
-use mathlib.Core.Logic.{inl, inr}
-use mathlib.Core.Bool.{Bool, true, false}
-use mathlib.Core.List.{List, [], _∷_, _++_, append-assoc, append-nil}
-use Prim.Native.Nat.{ℕ, _+_, _%_, _≤_, _<_}
-use native.Mathlib.Omega.{arith}
-use lib.Dec.{ltb}
-use lib.IntN.{ℤ}
-use lib.ListN.{length}
-use borrow.Author.Tests.{ltb-true, ltb-false, lt-ltb, le-ltb}
+use Rattle.wire.proofs.Basics.{_∙_, sym, _≡_, ap, refl, subst, ℕ, _≤_, _+_, _<_, _%_, List, [], _∷_, _++_, append-assoc, append-nil, true, false, Bool, inl, inr, length, ltb, ℤ, le-ltb, lt-ltb}
+use Rattle.wire.proofs.Basics.{ltb-false, ltb-true, arith}
 use Rattle.wire.specs.Choice.{pick}
 use Rattle.wire.proofs.Choices.{either}
 use Rattle.sorted_set.specs.declared.Entered.the-variants.{Now, Full}

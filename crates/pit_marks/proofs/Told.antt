@@ -1,12 +1,6 @@
 -- The lines laid from sets that hold what was seen are the tile lines of the lists seen. Assumes nothing.
-use mathlib.Core.Path.{_≡_, refl, sym, ap, _∙_, subst}
-use mathlib.Core.Logic.{inl, inr}
-use mathlib.Core.List.{List, [], map}
-use Prim.Native.Nat.{ℕ, suc, _+_, _%_, _≤_, _<_}
-use native.Mathlib.Omega.{arith}
-use lib.Dec.{ltb}
-use lib.ListN.{length, getD, length-map, List·getD-map}
-use borrow.Author.Tests.{ltb-false}
+use Rattle.wire.proofs.Basics.{_∙_, sym, _≡_, ap, refl, subst, ℕ, _≤_, _+_, _<_, suc, _%_, List, [], map, inl, inr, length, getD, length-map, ltb, ltb-false, arith}
+use lib.ListN.{List·getD-map}
 use Rattle.wire.proofs.Choices.{either}
 use Rattle.words.specs.Builds.{build}
 use Rattle.words.proofs.Builds.{build-is}

@@ -1,7 +1,5 @@
 -- An empty payload is no message: it leaves the number list and the sets. Assumes nothing.
-use mathlib.Core.Path.{_≡_, refl, ap}
-use mathlib.Core.List.{List, []}
-use lib.IntN.{ℤ}
+use Rattle.wire.proofs.Basics.{_≡_, ap, refl, List, [], ℤ}
 use Rattle.lmcp.specs.Run.{refused, prepend}
 use Rattle.lmcp.specs.Read.{Read}
 use Rattle.lmcp.specs.Message.{frame, readMessage, listed}

@@ -1,7 +1,5 @@
 -- NO SECOND ANSWER satisfies the contract of a payload. Assumes nothing.
-use mathlib.Core.Path.{_≡_, sym, _∙_}
-use mathlib.Core.List.{List}
-use Prim.Native.Nat.{ℕ}
+use Rattle.wire.proofs.Basics.{_∙_, sym, _≡_, ℕ, List}
 use Rattle.pit_marks.specs.declared.Sizes.{Sizes}
 use Rattle.pit_payloads.specs.declared.Looked.{Looked}
 use Rattle.pit_payloads.specs.Looks.{Book, book, Looks}

@@ -1,13 +1,5 @@
 -- What the code finds in a payload, by cases, is what the contract says. Assumes nothing.
-use mathlib.Core.Path.{_≡_, refl, sym, ap, _∙_, subst}
-use mathlib.Core.Bool.{Bool, true, false}
-use mathlib.Core.List.{List}
-use Prim.Native.Nat.{ℕ, _≤_}
-use native.Mathlib.Omega.{arith}
-use lib.Dec.{eqb, leb}
-use lib.IntN.{ℤ}
-use lib.ListN.{length, take}
-use borrow.Author.Tests.{eq-eqb, ne-eqb, leb-false, lt-ltb}
+use Rattle.wire.proofs.Basics.{_∙_, sym, _≡_, ap, refl, subst, ℕ, _≤_, List, true, false, Bool, length, take, eqb, leb, ℤ, eq-eqb, ne-eqb, lt-ltb, leb-false, arith}
 use Rattle.wire.specs.Choice.{pick}
 use Rattle.lmcp.specs.declared.Found.{Found}
 use Rattle.lmcp.specs.declared.Found.the-variants as found

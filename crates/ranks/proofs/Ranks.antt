@@ -1,17 +1,7 @@
 -- Laws of ranks: what a rank given up leaves, and that the lowest is the first of the lowest.
-use mathlib.Core.Path.{_≡_, refl, sym, _∙_, ap}
-use mathlib.Core.Logic.{_≢_}
-use mathlib.Core.Bool.{Bool, true, false}
-use mathlib.Core.List.{List}
-use Prim.Native.Nat.{ℕ, zero, suc, _+_, _*_, _≤_, _<_, min}
-use native.Mathlib.Nat.{mul-suc, le-refl}
-use native.Mathlib.Numerals.{add-one}
-use native.Mathlib.Decide.{decLe, ℕ-discrete}
-use native.Mathlib.Omega.{arith}
-use lib.Dec.{ltb}
-use lib.ListN.{length, getD, set, length-set, List·getD-eq-default}
-use lib.Seq.{set-out, getD-set-same, getD-set-other}
-use borrow.Author.Tests.{lt-ltb, le-ltb}
+use Rattle.wire.proofs.Basics.{_∙_, sym, _≡_, ap, refl, ℕ, _≤_, _+_, _<_, suc, zero, _*_, min, List, true, false, Bool, _≢_, length, getD, set, length-set, List·getD-eq-default, getD-set-other}
+use Rattle.wire.proofs.Basics.{getD-set-same, set-out, ltb, le-ltb, lt-ltb, le-refl, ℕ-discrete, decLe, add-one, arith}
+use native.Mathlib.Nat.{mul-suc}
 use Rattle.wire.specs.Choice.{pick}
 use Rattle.ranks.specs.declared.Ranked.{Ranked}
 use Rattle.ranks.specs.Ranks.{placeAt, markOf, rankOf, lowerRank, ranksLowered, lowestRanked}

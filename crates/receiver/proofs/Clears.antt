@@ -1,8 +1,6 @@
 -- Zeros written one after the other. Assumes nothing.
-use mathlib.Core.Path.{_≡_, sym, _∙_, ap}
-use mathlib.Core.List.{List, [], _∷_}
-use Prim.Native.Nat.{ℕ, _+_}
-use lib.ListN.{length, set, replicate, length-set, length-replicate, replicate-append-replicate}
+use Rattle.wire.proofs.Basics.{_∙_, sym, _≡_, ap, ℕ, _+_, List, [], _∷_, length, set, replicate, length-set, length-replicate}
+use lib.ListN.{replicate-append-replicate}
 use Rattle.wire.specs.Overlay.{overlay}
 use Rattle.wire.proofs.Overlays.{overlay-one, overlay-append}
 

@@ -1,15 +1,5 @@
 -- Forgetting a sender: what was called on the way, put together into what the call promises.
-use mathlib.Core.Path.{_≡_, refl, sym, _∙_, ap}
-use mathlib.Core.Logic.{_≢_}
-use mathlib.Core.Bool.{true, false}
-use mathlib.Core.Option.{Option, none, some}
-use mathlib.Core.List.{List}
-use Prim.Native.Nat.{ℕ, _+_, _<_}
-use native.Mathlib.Numerals.{add-one}
-use native.Mathlib.Omega.{arith}
-use lib.Dec.{eqb}
-use lib.ListN.{length}
-use borrow.Author.Tests.{eq-eqb, ne-eqb}
+use Rattle.wire.proofs.Basics.{_∙_, sym, _≡_, ap, refl, ℕ, _+_, _<_, List, true, false, _≢_, some, none, Option, length, eqb, eq-eqb, ne-eqb, add-one, arith}
 use Rattle.wire.proofs.Choices.{and-false}
 use Rattle.steps.specs.Limits.{slotCount}
 use Rattle.steps.specs.Memory.{forgetKeys, memoryOk}

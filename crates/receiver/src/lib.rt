@@ -99,7 +99,7 @@ fn release(state: &mut [u64], names: &mut [u8], s: usize)
     let t = words::word(&*state, b + slots::TURN);
     clear_block(&mut *state, b);
     clear_name(names, datagram::MAX_NAME * s);
-    slots::lower(state, t);
+    slot_turns::lower(state, t);
 }
 
 // A message is opened in slot s, the last of the open ones, with no fragment yet.
@@ -219,7 +219,7 @@ fn take_seat(state: &mut [u64], names: &mut [u8]) -> Seat
 {
     let found = slots::lowest_free(&*state);
     let Found::At(free) = found else {
-        let s = slots::oldest(&*state);
+        let s = slot_turns::oldest(&*state);
         let b = slots::HEAD + slots::BLOCK * s;
         let sender = words::word(&*state, b + slots::SENDER);
         let sequence = words::word(&*state, b + slots::SEQUENCE);
@@ -386,10 +386,10 @@ pub fn forget(state: &mut [u64], names: &mut [u8], sender: u64) -> Call
     if names.len() != NAME_BYTES {
         return Call::Refused(9);
     }
-    if !memory::in_order(&state[receiver_state::MEMORY..]) {
+    if !memory_places::in_order(&state[receiver_state::MEMORY..]) {
         return Call::Refused(9);
     }
     release_all(&mut *state, &mut *names, sender);
-    memory::forget(&mut state[receiver_state::MEMORY..], sender);
+    memory_places::forget(&mut state[receiver_state::MEMORY..], sender);
     Call::Done
 }

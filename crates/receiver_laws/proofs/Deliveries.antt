@@ -1,10 +1,5 @@
 -- What a call delivers lies in what holds it: place and length stay within the datagram, or within the store as the call left it, and as many bytes are handed over.
-use mathlib.Core.Path.{_≡_, refl, sym, _∙_, ap, subst}
-use mathlib.Core.Logic.{inl, inr}
-use mathlib.Core.List.{List}
-use Prim.Native.Nat.{ℕ}
-use native.Mathlib.Omega.{arith}
-use lib.ListN.{length}
+use Rattle.wire.proofs.Basics.{_∙_, sym, _≡_, ap, refl, subst, ℕ, List, inl, inr, length, arith}
 use Rattle.wire.proofs.Choices.{either}
 use Rattle.steps.specs.declared.PayloadAt.{PayloadAt}
 use Rattle.steps.specs.declared.Answer.{Answer}

@@ -1,15 +1,6 @@
 -- No second outcome satisfies a contract: two that do are one, with every word and byte of what was lent. And calls lead only to states that
 -- the step list can reach, which are in order (steps, `reached-in-order`).
-use mathlib.Core.Path.{_≡_, refl, sym, _∙_, ap, subst}
-use mathlib.Core.Logic.{inl, inr}
-use mathlib.Core.Bool.{true, false}
-use mathlib.Core.Option.{Option, some}
-use mathlib.Core.List.{List}
-use Prim.Native.Nat.{ℕ}
-use native.Mathlib.Omega.{arith}
-use lib.Dec.{eqb}
-use lib.ListN.{length}
-use borrow.Author.Tests.{eqb-true}
+use Rattle.wire.proofs.Basics.{_∙_, sym, _≡_, ap, refl, subst, ℕ, List, true, false, inl, inr, some, Option, length, eqb, eqb-true, arith}
 use Rattle.wire.proofs.Choices.{either, and-l, and-r}
 use Rattle.steps.specs.declared.Answer.the-variants.{Refused}
 use Rattle.steps.specs.Receive.{Machine, After, stay, step}

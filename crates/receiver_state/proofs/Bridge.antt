@@ -1,17 +1,9 @@
 -- Laws of the bridge: what looking up and changing the lent words comes to in the machine that they show.
-use mathlib.Core.Path.{_≡_, refl, sym, _∙_, ap}
-use mathlib.Core.Logic.{_≢_, inl, inr}
-use mathlib.Core.Bool.{Bool, true, false, not, _&&_, _||_}
-use mathlib.Core.Option.{none}
-use mathlib.Core.List.{List, map}
-use Prim.Native.Nat.{ℕ, zero, suc, _+_, _-_, _*_, _≤_, _<_, min}
-use native.Mathlib.Decide.{ℕ-discrete, decLe}
+use Rattle.wire.proofs.Basics.{_∙_, sym, _≡_, ap, refl, ℕ, _≤_, _+_, _<_, _-_, suc, zero, _*_, min, List, map, true, false, Bool, _&&_, _||_, not, inl, inr, _≢_, none, length, drop, getD, take}
+use Rattle.wire.proofs.Basics.{length-drop, set, length-set, length-map, take-all, getD-set-other, getD-set-same, eqb, eq-eqb, ne-eqb, ℕ-discrete, decLe, arith}
 use native.Mathlib.Nat.{le-antisymm}
-use native.Mathlib.Omega.{arith}
-use borrow.Author.Tests.{eq-eqb, ne-eqb}
-use lib.Dec.{eqb}
-use lib.ListN.{length, getD, set, take, drop, length-set, length-map, length-drop, List·getD-map}
-use lib.Seq.{getD-set-same, getD-set-other, drop-set-add, drop-set-lt, take-set-lt, take-set-le, take-all}
+use lib.ListN.{List·getD-map}
+use lib.Seq.{drop-set-add, drop-set-lt, take-set-lt, take-set-le}
 use Rattle.wire.specs.Overlay.{overlay}
 use Rattle.wire.proofs.Overlays.{overlay-at, length-overlay}
 use Rattle.datagram.specs.Limits.{maxName}

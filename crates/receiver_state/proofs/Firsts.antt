@@ -1,9 +1,5 @@
 -- The first slot that passes a test, in the words and in a list of slots.
-use mathlib.Core.Path.{_≡_, refl, sym, _∙_, ap}
-use mathlib.Core.Bool.{Bool, true, false}
-use mathlib.Core.Option.{Option, none, some, Option·map}
-use Prim.Native.Nat.{ℕ, zero, suc, _<_}
-use native.Mathlib.Omega.{arith}
+use Rattle.wire.proofs.Basics.{_∙_, sym, _≡_, ap, refl, ℕ, _<_, suc, zero, true, false, Bool, some, none, Option, Option·map, arith}
 use Rattle.wire.specs.Choice.{pick}
 use Rattle.steps.specs.Search.{first}
 use Rattle.words.specs.Builds.{build}

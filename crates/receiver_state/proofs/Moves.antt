@@ -1,13 +1,8 @@
 -- One lemma for each change of the state: what the words and names hold then shows the machine that the step list gives.
-use mathlib.Core.Path.{_≡_, refl, sym, _∙_, ap}
-use mathlib.Core.Bool.{Bool, true, false}
-use mathlib.Core.List.{List, _++_, map}
-use Prim.Native.Nat.{ℕ, zero, suc, _+_, _-_, _*_, _≤_, _<_}
+use Rattle.wire.proofs.Basics.{_∙_, sym, _≡_, ap, refl, ℕ, _≤_, _+_, _<_, _-_, suc, zero, _*_, List, _++_, map, true, false, Bool, length, drop, getD, take, length-append, set, replicate}
+use Rattle.wire.proofs.Basics.{length-replicate, eqb, arith}
 use native.Mathlib.Numerals.{unary-clauses}
 use native.Mathlib.Nat.{mul-le-mul-right}
-use native.Mathlib.Omega.{arith}
-use lib.Dec.{eqb}
-use lib.ListN.{length, getD, set, take, drop, replicate, length-append, length-replicate}
 use Rattle.wire.specs.Choice.{pick}
 use Rattle.wire.specs.Overlay.{overlay}
 use Rattle.wire.proofs.Overlays.{overlay-at, overlay-eq, length-overlay, overlay-whole}

@@ -1,11 +1,5 @@
 -- The memory of keys, lent to the crate `memory` as a part of the state and given back: all that is known of that crate's words stands here.
-use mathlib.Core.Path.{_≡_, refl, _∙_, ap, subst}
-use mathlib.Core.Bool.{Bool, true}
-use mathlib.Core.List.{List, _++_}
-use Prim.Native.Nat.{ℕ, _-_}
-use native.Mathlib.Omega.{arith}
-use lib.ListN.{length, take, drop, replicate, length-drop}
-use lib.Seq.{take-all}
+use Rattle.wire.proofs.Basics.{_∙_, _≡_, ap, refl, subst, ℕ, _-_, List, _++_, true, Bool, length, drop, take, length-drop, replicate, take-all, arith}
 use Rattle.wire.specs.Overlay.{overlay}
 use Rattle.wire.proofs.Overlays.{length-overlay}
 use Rattle.steps.specs.Memory.{keyOf, Memory, emptyMemory, isRemembered, remember, forgetKeys, memoryOk}

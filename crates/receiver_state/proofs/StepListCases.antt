@@ -1,14 +1,5 @@
 -- One lemma for each case of the step list, in the terms of the code: what was tested, and what it then comes to.
-use mathlib.Core.Path.{_≡_, sym, _∙_, ap, subst}
-use mathlib.Core.Logic.{_≢_}
-use mathlib.Core.Bool.{Bool, true, false}
-use mathlib.Core.Option.{Option, none, some}
-use mathlib.Core.List.{List}
-use Prim.Native.Nat.{ℕ, _+_, _-_, _*_, _≤_, _<_}
-use native.Mathlib.Omega.{arith}
-use lib.Dec.{eqb}
-use lib.ListN.{length, getD, set, take, drop}
-use borrow.Author.Tests.{eq-eqb, ne-eqb}
+use Rattle.wire.proofs.Basics.{_∙_, sym, _≡_, ap, subst, ℕ, _≤_, _+_, _<_, _-_, _*_, List, true, false, Bool, _≢_, some, none, Option, length, drop, getD, take, set, eqb, eq-eqb, ne-eqb, arith}
 use Rattle.wire.specs.Choice.{pick}
 use Rattle.wire.specs.Same.{same}
 use Rattle.wire.proofs.Choices.{and-false}

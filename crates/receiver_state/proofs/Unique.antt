@@ -1,12 +1,5 @@
 -- The bridge loses nothing: states and names of the right lengths that show the same machine are the same. So no second outcome satisfies a contract.
-use mathlib.Core.Path.{_≡_, sym, _∙_, ap}
-use mathlib.Core.Bool.{true}
-use mathlib.Core.List.{List}
-use Prim.Native.Nat.{ℕ, zero, suc, _+_, _-_, _*_, _≤_, _<_}
-use native.Mathlib.Decide.{decLe, ℕ-discrete}
-use native.Mathlib.Omega.{arith}
-use lib.ListN.{length, getD, take, drop, length-drop}
-use lib.Seq.{ext-getD, getD-drop}
+use Rattle.wire.proofs.Basics.{_∙_, sym, _≡_, ap, ℕ, _≤_, _+_, _<_, _-_, suc, zero, _*_, List, true, length, drop, getD, take, length-drop, getD-drop, ext-getD, ℕ-discrete, decLe, arith}
 use Rattle.datagram.specs.Limits.{maxName}
 use Rattle.steps.specs.Limits.{slotCount}
 use Rattle.steps.specs.Held.{heldWords}

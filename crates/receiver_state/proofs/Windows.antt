@@ -1,12 +1,6 @@
 -- A window of a list, n elements from a place on, after numbers were written at another place.
-use mathlib.Core.Path.{_≡_, sym, _∙_, ap}
-use mathlib.Core.Logic.{_⊎_, ⊎-elim}
-use mathlib.Core.List.{List, _++_, append-assoc}
-use Prim.Native.Nat.{ℕ, _+_, _-_, _≤_, _<_}
-use native.Mathlib.Decide.{decLe}
-use native.Mathlib.Omega.{arith}
-use lib.ListN.{length, getD, take, drop, length-take, length-drop}
-use lib.Seq.{getD-take, getD-drop, ext-getD, drop-drop, length-take-le}
+use Rattle.wire.proofs.Basics.{_∙_, sym, _≡_, ap, ℕ, _≤_, _+_, _<_, _-_, List, _++_, append-assoc, _⊎_, ⊎-elim, length, drop, getD, take, length-drop, length-take, length-take-le, drop-drop}
+use Rattle.wire.proofs.Basics.{getD-drop, getD-take, ext-getD, decLe, arith}
 use Rattle.wire.specs.Overlay.{overlay}
 use Rattle.wire.proofs.Overlays.{length-overlay, overlay-eq}
 use Rattle.steps.proofs.Stores.{write-in, write-out}

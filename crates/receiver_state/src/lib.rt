@@ -48,5 +48,5 @@ pub fn is_ready(state: &[u64], names: &[u8], store: usize, ledger: usize) -> boo
     if !slots::all_sound(state, room) {
         return false;
     }
-    memory::in_order(&state[MEMORY..])
+    memory_places::in_order(&state[MEMORY..])
 }

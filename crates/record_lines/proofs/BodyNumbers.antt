@@ -1,12 +1,6 @@
 -- Laws of the numbers of eight bytes in a record's body, each read as f says. Assumes nothing.
-use mathlib.Core.Path.{_≡_, refl, sym, ap, _∙_}
-use mathlib.Core.List.{List, [], _∷_, _++_}
-use Prim.Native.Nat.{ℕ, zero, suc, _+_, _*_}
+use Rattle.wire.proofs.Basics.{_∙_, sym, _≡_, ap, refl, ℕ, _+_, suc, zero, _*_, List, [], _∷_, _++_, length, drop, set, drop-drop, sets, add-one, arith}
 use native.Mathlib.Nat.{add-suc, suc-add}
-use native.Mathlib.Numerals.{add-one}
-use native.Mathlib.Omega.{arith}
-use lib.ListN.{length, drop, set}
-use lib.Seq.{drop-drop, sets}
 use Rattle.wire.specs.Bytes.{be}
 use Rattle.record_lines.specs.Streams.{numbersIn}
 

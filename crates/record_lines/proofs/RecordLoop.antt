@@ -1,12 +1,5 @@
 -- The law of a loop over records: the lines of those that were taken went out, and those of all that is left are still to come. Assumes nothing.
-use mathlib.Core.Path.{_≡_, refl, ap, sym, _∙_, subst}
-use mathlib.Core.Bool.{Bool, false}
-use mathlib.Core.Logic.{inl, inr}
-use mathlib.Core.List.{List, [], _∷_, _++_, append-assoc}
-use Prim.Native.Nat.{ℕ, suc, _+_, _-_, _≤_, _<_}
-use native.Mathlib.Omega.{arith}
-use lib.ListN.{length, take, drop}
-use lib.Seq.{slice}
+use Rattle.wire.proofs.Basics.{_∙_, sym, _≡_, ap, refl, subst, ℕ, _≤_, _+_, _<_, _-_, suc, List, [], _∷_, _++_, append-assoc, false, Bool, inl, inr, length, drop, take, slice, arith}
 use types.Run.{OneOf}
 use denote.Enum.Declared.{tagOf}
 use Rattle.wire.specs.Slices.{_⇒_}

@@ -1,11 +1,5 @@
 -- Records that are laid one after another are the records of their bytes: no more, no fewer, each as it was. Assumes nothing.
-use mathlib.Core.Path.{_≡_, ap, _∙_}
-use mathlib.Core.Bool.{true}
-use mathlib.Core.List.{List, [], _∷_, _++_}
-use Prim.Native.Nat.{ℕ, zero, suc, _+_, _≤_, _<_, min}
-use native.Mathlib.Omega.{arith}
-use lib.ListN.{length, drop, length-append, drop-of-length-le}
-use lib.Seq.{slice, take-at, take-all, drop-at}
+use Rattle.wire.proofs.Basics.{_∙_, _≡_, ap, ℕ, _≤_, _+_, _<_, suc, zero, min, List, [], _∷_, _++_, true, length, drop, length-append, drop-of-length-le, take-all, drop-at, slice, take-at, arith}
 use Rattle.stream.specs.declared.Kind.{Kind}
 use Rattle.stream.specs.Records.{headOf, bodyLength, isWhole, holds}
 use Rattle.stream.proofs.Taking.{body-front, whole-true}

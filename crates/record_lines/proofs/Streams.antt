@@ -1,15 +1,8 @@
 -- The records of an input: which one comes first, and that bytes which come later change nothing of it. Assumes nothing.
-use mathlib.Core.Path.{_≡_, refl, ap, sym, _∙_}
-use mathlib.Core.Bool.{Bool, true, false}
-use mathlib.Core.Logic.{inl, inr}
-use mathlib.Core.List.{List, [], _∷_, _++_}
-use Prim.Native.Nat.{ℕ, zero, suc, _+_, _≤_, _<_, min}
-use native.Mathlib.Omega.{arith}
+use Rattle.wire.proofs.Basics.{_∙_, sym, _≡_, ap, refl, ℕ, _≤_, _+_, _<_, suc, zero, min, List, [], _∷_, _++_, true, false, Bool, inl, inr, length, drop, length-append, length-drop, slice}
+use Rattle.wire.proofs.Basics.{drop-append-le, leb, le-leb, lt-leb, leb-true, arith}
 use native.Mathlib.Decide.{decLt}
-use lib.Dec.{leb}
-use lib.ListN.{length, drop, length-append, length-drop}
-use lib.Seq.{slice, take-append-le, drop-append-le}
-use borrow.Author.Tests.{leb-true, le-leb, lt-leb}
+use lib.Seq.{take-append-le}
 use Rattle.wire.specs.Choice.{pick}
 use Rattle.wire.proofs.Choices.{and-l, and-r, either, never}
 use Rattle.stream.specs.declared.Kind.{Kind}

@@ -1,9 +1,5 @@
 -- The lines of the entries that were passed, and of those that are left, heard by one receiver, are those of the log. Assumes nothing.
-use mathlib.Core.Path.{_≡_, refl, sym, ap, _∙_, subst}
-use mathlib.Core.Bool.{Bool, true}
-use mathlib.Core.List.{List, [], _∷_, _++_, append-nil, append-assoc}
-use Prim.Native.Nat.{ℕ, _+_}
-use lib.ListN.{length, length-append}
+use Rattle.wire.proofs.Basics.{_∙_, sym, _≡_, ap, refl, subst, ℕ, _+_, List, [], _∷_, _++_, append-assoc, append-nil, true, Bool, length, length-append}
 use Rattle.wire.specs.Bytes.{Bytes}
 use Rattle.wire.specs.Choice.{pick}
 use Rattle.wire.specs.Slices.{Buffer}
@@ -24,7 +20,7 @@ use Rattle.within_limits.specs.Within.{receivedWithin}
 use Rattle.output.specs.Output.{closed, Pours, Finishes}
 use Rattle.output.proofs.Sending.{pours-none, pours-then, pours-is, pours-stop}
 use Rattle.log_lines.specs.Lines.{endLine, refusedLine, lastLine}
-use Rattle.replay_run.specs.Lines.{line}
+use Rattle.replay_lines.specs.Lines.{line}
 use Rattle.replay_log.specs.Lines.{heardBy, linesAfter, logLines, linesFrom, Replayed}
 
 -- ---- a call of the receiver is the step list's, and leaves what that leaves

@@ -1,11 +1,9 @@
 -- The lines of the program `replay_log`, in ASCII, and what they are about. Definitions only.
 use mathlib.Core.List.{List, [], _∷_, _++_}
 use Prim.Native.Nat.{ℕ, _+_}
-use lib.ListN.{replicate}
 use Rattle.wire.specs.Slices.{Buffer}
-use Rattle.steps.specs.Limits.{ledgerLength}
-use Rattle.steps.specs.Receive.{After, opened}
-use Rattle.steps.specs.Runs.{World, lending, worldOf}
+use Rattle.steps.specs.Receive.{After}
+use Rattle.steps.specs.Runs.{World, worldOf, begun}
 use Rattle.receiver.specs.Lent.{Lent}
 use Rattle.receiver.specs.declared.Outcome.{Outcome}
 use Rattle.log.specs.declared.reader.Limits.{Limits}
@@ -15,7 +13,7 @@ use Rattle.log.specs.Listed.{Listed, whole, broken, entriesIn}
 use Rattle.within_limits.specs.Within.{stepWithin, ReceivesWithin}
 use Rattle.output.specs.Output.{Pours}
 use Rattle.log_lines.specs.Lines.{endLine, refusedLine}
-use Rattle.replay_run.specs.Lines.{line}
+use Rattle.replay_lines.specs.Lines.{line}
 
 -- An entry's datagram was received from its sender over what is lent, within a log's limits, and line n says the outcome.
 pub record Replayed (limits : Limits) (l : Lent) (e : Entry) (number : ℕ) (out : Buffer) (at : ℕ) (l′ : Lent) (r : ℕ) : Type 0 where
@@ -42,14 +40,10 @@ logLines limits w (broken es number) = linesAfter limits 0 w es (refusedLine num
 abbrev pub storeBytes : ℕ
 storeBytes = 2_097_152
 
--- a fresh receiver
-unfoldable pub begun : World
-begun = lending (opened storeBytes) (replicate storeBytes 0) (replicate ledgerLength 0)
-
 -- of the bytes of a log, within its own limits, by a receiver that goes on with what is lent
 unfoldable pub linesFrom : World → List ℕ → List ℕ
 linesFrom w log = logLines (limitsIn log) w (entriesIn log)
 
 -- by a fresh one
 abbrev pub replayLines : List ℕ → List ℕ
-replayLines = linesFrom begun
+replayLines = linesFrom (begun storeBytes)

@@ -49,7 +49,7 @@ fn one_more(
     );
     let answer = outcome.answer;
     let emptied = outcome.emptied;
-    replay_run::pour_line(out, at, n, answer, emptied)
+    replay_lines::pour_line(out, at, n, answer, emptied)
 }
 
 // One line an entry, and the last line. Answers whether the system took all of them; it stops where it did not.

@@ -1,6 +1,5 @@
 -- No second outcome satisfies `Replayed`: two that do are one, with every word and byte of the state, the names, the store and the ledger.
-use mathlib.Core.List.{List}
-use Prim.Native.Nat.{ℕ}
+use Rattle.wire.proofs.Basics.{ℕ, List}
 use Rattle.wire.specs.Slices.{Buffer}
 use Rattle.receiver.specs.Lent.{Lent}
 use Rattle.receiver_laws.proofs.Once.{Same, receive-once}

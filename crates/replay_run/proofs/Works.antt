@@ -1,5 +1,5 @@
 -- `replay` on B, A, B, computed from the definition of its lines. Assumes nothing.
-use mathlib.Core.Path.{_≡_, refl}
+use Rattle.wire.proofs.Basics.{_≡_, refl}
 use Rattle.wire.specs.Bytes.{be, bytes}
 use Rattle.wire.specs.Overlay.{overlay}
 use Rattle.names.specs.Name.{goodName}
@@ -10,12 +10,13 @@ use Rattle.steps.specs.Held.{noneHeld, isHeld, hold}
 use Rattle.steps.specs.Memory.{among, emptyMemory, isRemembered, remember, placeFor, withKey, memoryOk}
 use Rattle.steps.specs.Slots.{oldest, openCount, lower, release, seat, opening, filled}
 use Rattle.steps.specs.Receive.{opened, stay, sameFragment, agrees, step3, decide, step5, act, receive, sound, step}
+use Rattle.steps.specs.Runs.{begun}
 use Rattle.steps.specs.Worked.{A-of, B-of}
 use Rattle.stream.specs.declared.Kind.the-variants.{Bytes2}
 use Rattle.stream.specs.Records.{bodyLength, isWhole}
 use Rattle.text.specs.Text.{decimalBy, decimal}
 use Rattle.record_lines.specs.Streams.{many, readBy, recordsIn}
-use Rattle.replay_run.specs.Lines.{begun, lines}
+use Rattle.replay_run.specs.Lines.{lines}
 use Rattle.replay_run.specs.Worked.{given, printed, bufferBytes}
 
 pub paper-case : lines (recordsIn many Bytes2 bufferBytes given) ≡ printed

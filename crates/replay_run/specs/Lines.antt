@@ -1,40 +1,16 @@
 -- The lines of the program `replay`, in ASCII, and what they are about. Definitions only.
-use mathlib.Core.List.{List, _++_}
+use mathlib.Core.List.{List}
 use Prim.Native.Nat.{ℕ}
-use lib.ListN.{replicate}
 use Rattle.wire.specs.Slices.{Buffer}
-use Rattle.wire.specs.Text.{ascii}
-use Rattle.steps.specs.declared.Answer.{Answer}
-use Rattle.steps.specs.declared.Answer.the-variants.{Refused, Kept, Repeat, Delivered}
-use Rattle.steps.specs.declared.Emptied.{Emptied}
-use Rattle.steps.specs.declared.Emptied.the-variants.{Nobody, Was}
-use Rattle.steps.specs.Limits.{ledgerLength}
-use Rattle.steps.specs.Receive.{After, opened}
-use Rattle.steps.specs.Runs.{World, lending, worldOf, from, call}
+use Rattle.steps.specs.Receive.{After}
+use Rattle.steps.specs.Runs.{World, worldOf, begun, from, call}
 use Rattle.receiver.specs.declared.Outcome.{Outcome}
 use Rattle.receiver.specs.Lent.{Lent}
 use Rattle.receiver.specs.Calls.{Receives}
-use Rattle.text.specs.Text.{decimal}
 use Rattle.output.specs.Output.{Pours, lastLine}
 use Rattle.record_lines.specs.Streams.{Rec, Stream}
 use Rattle.record_lines.specs.Lines.{Says, linesAfter}
-
--- " refused 7", " kept", " repeat" or " delivered 3"
-abbrev pub answerText : Answer → List ℕ
-answerText (Refused number) = ascii " refused " ++ decimal number
-answerText Kept = ascii " kept"
-answerText Repeat = ascii " repeat"
-answerText (Delivered place len) = ascii " delivered " ++ decimal len
-
--- the end of the line, and before it an emptied key: " emptied 0 7"
-abbrev pub emptiedText : Emptied → List ℕ
-emptiedText Nobody = ascii "\n"
-emptiedText (Was key) =
-    ascii " emptied " ++ decimal (key .sender) ++ (ascii " " ++ decimal (key .sequence) ++ ascii "\n")
-
--- line n
-abbrev pub line : ℕ → Answer → Emptied → List ℕ
-line n answer emptied = decimal n ++ answerText answer ++ emptiedText emptied
+use Rattle.replay_lines.specs.Lines.{line}
 
 -- whose datagrams `replay` takes them all for
 abbrev pub onlySender : ℕ
@@ -63,9 +39,6 @@ says =
 abbrev pub storeBytes : ℕ
 storeBytes = 65_536
 
--- a fresh receiver
-unfoldable pub begun : World
-begun = lending (opened storeBytes) (replicate storeBytes 0) (replicate ledgerLength 0)
-
+-- a fresh receiver hears them
 abbrev pub lines : Stream → List ℕ
-lines = linesAfter says 0 begun
+lines = linesAfter says 0 (begun storeBytes)

@@ -1,5 +1,5 @@
 // What the program `replay` does. Standard input holds datagrams, each after a 2-byte big-endian length, from one sender; each is given
-// to a fresh receiver, and a line says what it answers. `replay_log` shares the lines.
+// to a fresh receiver, and a line says what it answers.
 ghost use Prim.Native.Nat.{_≤_};
 ghost use mathlib.Core.Path.{_≡_};
 ghost use mathlib.Core.Bool.{true};
@@ -8,13 +8,11 @@ ghost use Rattle.wire.specs.Slices.{buffer};
 ghost use Rattle.receiver_state.specs.View.{shaped};
 ghost use Rattle.receiver.specs.Lent.{lentBefore, lentAfter};
 ghost use Rattle.stream.specs.declared.Kind.the-variants.{Bytes2};
-ghost use Rattle.output.specs.Output.{Pours, lineLimit};
+ghost use Rattle.output.specs.Output.{lineLimit};
 ghost use Rattle.record_lines.specs.Lines.{Tells};
-ghost use Rattle.replay_run.specs.Lines.{answerText, emptiedText, line, lines, Replayed};
+ghost use Rattle.replay_run.specs.Lines.{lines, Replayed};
 ghost use Rattle.replay_run.specs.Inside.{linesWith};
 use receiver::Call;
-use steps::Answer;
-use steps::Emptied;
 use stream::Input;
 use stream::Kind;
 use stream::Next;
@@ -24,39 +22,6 @@ const STORE: usize = 65536;
 
 // The bytes of the input buffer of a program that replays.
 pub const HOLDS: usize = 262144;
-
-fn pour_answer(out: &mut [u8], at: usize, answer: Answer) -> usize
-    ensures { λ r. ⌜ Pours (now (out .entry)) at (answerText answer) (now (out .exit)) r ⌝ }
-{
-    match answer {
-        Answer::Refused(number) => output::pour_counted(out, at, b" refused ", number as u64),
-        Answer::Kept => output::pour(out, at, b" kept"),
-        Answer::Repeat => output::pour(out, at, b" repeat"),
-        Answer::Delivered(_, len) => output::pour_counted(out, at, b" delivered ", len as u64),
-    }
-}
-
-// An emptied key ends its line, sender and sequence in decimal.
-fn pour_emptied(out: &mut [u8], at: usize, emptied: Emptied) -> usize
-    ensures { λ r. ⌜ Pours (now (out .entry)) at (emptiedText emptied) (now (out .exit)) r ⌝ }
-{
-    match emptied {
-        Emptied::Nobody => output::pour(out, at, b"\n"),
-        Emptied::Was(key) => {
-            let next = output::pour_counted(out, at, b" emptied ", key.sender);
-            output::pour_counted_line(out, next, b" ", key.sequence)
-        }
-    }
-}
-
-// Line n.
-pub fn pour_line(out: &mut [u8], at: usize, n: u64, answer: Answer, emptied: Emptied) -> usize
-    ensures { λ r. ⌜ Pours (now (out .entry)) at (line n answer emptied) (now (out .exit)) r ⌝ }
-{
-    let a = output::pour_decimal(out, at, n);
-    let b = pour_answer(out, a, answer);
-    pour_emptied(out, b, emptied)
-}
 
 // Datagram n is received, and its line goes out. Answers the place after it. All are of one sender, 0.
 fn one_more(
@@ -74,7 +39,7 @@ fn one_more(
     let outcome = receiver::receive(state, names, store, ledger, 0, d);
     let answer = outcome.answer;
     let emptied = outcome.emptied;
-    pour_line(out, at, n, answer, emptied)
+    replay_lines::pour_line(out, at, n, answer, emptied)
 }
 
 // One line a datagram of the input, and the last line. Answers whether the system took all of them; it stops where it did not.

@@ -1,7 +1,5 @@
 -- THE SEASON OF CALLS is the season of the definition, so its tile lines are those of all lists read in all flights. Assumes nothing.
-use mathlib.Core.Path.{_≡_, refl, sym, ap, _∙_, subst}
-use mathlib.Core.Logic.{inl, inr}
-use mathlib.Core.List.{List, [], _∷_, _++_}
+use Rattle.wire.proofs.Basics.{_∙_, sym, _≡_, ap, refl, subst, List, [], _∷_, _++_, inl, inr}
 use Rattle.sorted_set.specs.Lists.{In, SameMembers}
 use Rattle.sorted_set.proofs.Members.{in-left, in-right, in-either}
 use Rattle.count_rules.specs.Marks.{PitList}

@@ -1,8 +1,5 @@
 -- LATE COPIES ADD NO PIT TO A SEASON: the lists of a flight that keeps a feed of messages are those of the messages, each once. Assumes nothing.
-use mathlib.Core.Path.{_≡_, sym, ap, _∙_, subst}
-use mathlib.Core.List.{List}
-use Prim.Native.Nat.{ℕ}
-use lib.ListN.{length}
+use Rattle.wire.proofs.Basics.{_∙_, sym, _≡_, ap, subst, ℕ, List, length}
 use Rattle.arrival.specs.Demand.{Scene, Feed, Supposed}
 use Rattle.log.specs.Editions.{limitsIn}
 use Rattle.log.specs.Entries.{Entry}

@@ -1,11 +1,6 @@
 -- EXACTLY WHEN 13, 60 AND 61 COME: where the first payload comes, of those that the log's entries deliver, against which something stands. Assumes nothing.
-use mathlib.Core.Path.{_≡_, refl, sym, ap, _∙_}
-use mathlib.Core.Bool.{Bool, true, false}
-use mathlib.Core.List.{List, [], _∷_, _++_}
-use Prim.Native.Nat.{ℕ, zero, suc}
-use native.Mathlib.Omega.{arith}
-use lib.Dec.{eqb}
-use lib.ListN.{length}
+use Rattle.wire.proofs.Basics.{_∙_, sym, _≡_, ap, refl, ℕ, suc, zero, List, [], _∷_, _++_, true, false, Bool, length, eqb}
+use Rattle.wire.proofs.Choices.{zero-is-one}
 use Rattle.wire.specs.Choice.{pick}
 use Rattle.steps.specs.Answers.{Reply}
 use Rattle.log.specs.declared.reader.Limits.{Limits}
@@ -24,9 +19,6 @@ use Rattle.stretch.specs.Stretch.{Kit, calledOn, Entered, enterOn, Stretched, h
 use Rattle.stretch.proofs.StretchAnswers.{entries-after, clean-answers, refused-some}
 use Rattle.season.specs.Season.{Handed, firstOver}
 use Rattle.season.proofs.Went.{stretch-went}
-
-no : {A : Type 0} → _≡_ {A = ℕ} 0 1 → A
-no z = absurd (let y : ⊥ = omega arith in y)
 
 -- what stands against one of the first payloads is not altered by those behind it
 front-over : (words : Sizes) (room : ℕ) (seen : List PitList) (ps qs : List (List ℕ)) → (firstOver words room seen ps ≡ 0 → ⊥) → firstOver words room seen (ps ++ qs) ≡ firstOver words room seen ps
@@ -84,9 +76,9 @@ module _ (l : Limits) (log : List ℕ) where
       clean q = W ∙ ap (λ (rs : List Reply). firstOver (rooms (k .sets)) (length (k .list)) seen (payloads rs)) (clean-answers l log m place k q)
 
       by : (s : Stop) → S m place k .stop ≡ s → stopFault (S m place k .stop) ≡ firstOver (rooms (k .sets)) (length (k .list)) seen (payloads (answers l (k .world) (entriesOf (readOn m log place))))
-      by stop.Taken e = clean (λ n q. no (let z : _≡_ {A = ℕ} 0 1 = cc in z))
-      by stop.End e = clean (λ n q. no (let z : _≡_ {A = ℕ} 0 1 = cc in z))
-      by (stop.Broken j) e = clean (λ n q. no (let z : _≡_ {A = ℕ} 0 1 = cc in z))
+      by stop.Taken e = clean (λ n q. zero-is-one cc)
+      by stop.End e = clean (λ n q. zero-is-one cc)
+      by (stop.Broken j) e = clean (λ n q. zero-is-one cc)
       by (stop.Refused j) e =
           let g = first-answers m place k in
           let ps : List (List ℕ) = payloads (S m place k .replies) in

@@ -1,13 +1,5 @@
 -- THE SIZES NEVER GO BEYOND WHAT IS LENT, whatever the sets are. Assumes nothing.
-use mathlib.Core.Path.{_≡_, refl, sym, subst}
-use mathlib.Core.Bool.{Bool, true, false}
-use mathlib.Core.List.{List, [], _∷_}
-use Prim.Native.Nat.{ℕ, zero, suc, _+_, _≤_, min}
-use native.Mathlib.Omega.{arith}
-use lib.Dec.{eqb, ltb}
-use lib.IntN.{ℤ}
-use lib.ListN.{length}
-use borrow.Author.Tests.{eqb-false}
+use Rattle.wire.proofs.Basics.{sym, _≡_, refl, subst, ℕ, _≤_, _+_, suc, zero, min, List, [], _∷_, true, false, Bool, length, eqb, ltb, ℤ, eqb-false, arith}
 use Rattle.wire.specs.Choice.{pick}
 use Rattle.wire.proofs.Choices.{pick-all}
 use Rattle.steps.specs.Answers.{Reply, refusedBy, kept, repeat, delivered}

@@ -1,12 +1,6 @@
 -- A FLIGHT OVER CALLS: `open`, and then `count_on`, in whatever pieces, until it has no more to take. Assumes nothing.
-use mathlib.Core.Path.{_≡_, refl, sym, ap, _∙_, subst}
-use mathlib.Core.Bool.{Bool, true, false}
-use mathlib.Core.List.{List, [], _∷_}
-use Prim.Native.Nat.{ℕ, zero, suc, _+_, _-_, _≤_, _<_}
-use native.Mathlib.Omega.{arith}
-use lib.Dec.{eqb}
-use lib.ListN.{length, drop}
-use borrow.Author.Tests.{eqb-true, eq-eqb}
+use Rattle.wire.proofs.Basics.{_∙_, sym, _≡_, ap, refl, subst, ℕ, _≤_, _+_, _<_, _-_, suc, zero, List, [], _∷_, true, false, Bool, length, drop, eqb, eq-eqb, eqb-true, arith}
+use Rattle.wire.proofs.Choices.{zero-is-one}
 use Rattle.wire.specs.Bytes.{Bytes}
 use Rattle.wire.specs.Choice.{pick}
 use Rattle.wire.specs.Taken.{Taken, taken, refused}
@@ -36,9 +30,6 @@ use Rattle.season.specs.Season.{Map, Flight, setOut, flown, Handed}
 use Rattle.season.proofs.Fits.{Fits, fits-held}
 use Rattle.season.proofs.Pieces.{pieces-end}
 
-no : {A : Type 0} → _≡_ {A = ℕ} 0 1 → A
-no z = absurd (let y : ⊥ = omega arith in y)
-
 -- ---- each entry brings the reader on
 
 pub record Ahead (log : List ℕ) (at : ℕ) (e : EntryAt) : Type 0 where
@@ -56,10 +47,10 @@ module _ (log : List ℕ) (h : Bytes log) (e : EntryAt) where
           let z : entryAt log d c ≡ e = cc in
           let w : length log - length c ≡ e .next = ap (λ (y : EntryAt). y .next) z in
           record { on = (let o = f .on in omega arith); within = (let o = f .within in omega arith) }
-      by-taken b p (refused n) u v = no (let z : _≡_ {A = ℕ} 0 1 = cc in z)
+      by-taken b p (refused n) u v = zero-is-one cc
 
       by-rest : (b : List ℕ) → drop at log ≡ b → stepIn log b ≡ Found e → Ahead log at e
-      by-rest [] p v = no (let z : _≡_ {A = ℕ} 0 1 = cc in z)
+      by-rest [] p v = zero-is-one cc
       by-rest (x ∷ b) p v = by-taken (x ∷ b) p (entryIn (x ∷ b)) refl v
 
   pub ahead : (at : ℕ) → readAt log at ≡ Found e → Ahead log at e
@@ -70,7 +61,7 @@ module _ (log : List ℕ) (h : Bytes log) (e : EntryAt) where
       by-head (taken v c) p u =
           let a : Ahead log (length log - length c) e = next-ahead (length log - length c) u in
           record { on = (let o = a .on in omega arith); within = a .within }
-      by-head (refused n) p u = no (let z : _≡_ {A = ℕ} 0 1 = cc in z)
+      by-head (refused n) p u = zero-is-one cc
 
       by : (b : Bool) → eqb at 0 ≡ b → pick b (fromFirst log (firstIn log)) (nextAt log at) ≡ Found e → Ahead log at e
       by true o u = subst (λ (n : ℕ). Ahead log n e) (sym (eqb-true at 0 o)) (by-head (headIn log) refl u)
@@ -87,7 +78,7 @@ module _ (b : Bool) (l : Limits) (log : List ℕ) (h : Bytes log) where
 
   ends-fault : (n : ℕ) → Ends n → (c : Bool) (f next : ℕ) (k : Kit) → next ≤ length log → length log < n + next → pick c (S n next k) (here (stop.Refused f) next k) .stop ≡ stop.Taken → ⊥
   ends-fault n ih true f next k a o q = ih next k a o q
-  ends-fault n ih false f next k a o q = no (let z : _≡_ {A = ℕ} 0 1 = cc in z)
+  ends-fault n ih false f next k a o q = zero-is-one cc
 
   ends-step : (n : ℕ) → Ends n → (at : ℕ) (k : Kit) → at ≤ length log → length log < suc n + at → (x : Step) → readAt log at ≡ x → byStep b l log at k (S n) x .stop ≡ stop.Taken → ⊥
   ends-step n ih at k a o (Found e) p q =
@@ -95,8 +86,8 @@ module _ (b : Bool) (l : Limits) (log : List ℕ) (h : Bytes log) where
       let u = g .on in
       let i : Entered = enterOn b l k (entrySaid log e) in
       ends-fault n ih (eqb (faultIn (i .looked)) 0) (faultIn (i .looked)) (e .next) (i .kit) (g .within) (omega arith) q
-  ends-step n ih at k a o End p q = no (let z : _≡_ {A = ℕ} 0 1 = cc in z)
-  ends-step n ih at k a o (Refused j) p q = no (let z : _≡_ {A = ℕ} 0 1 = cc in z)
+  ends-step n ih at k a o End p q = zero-is-one cc
+  ends-step n ih at k a o (Refused j) p q = zero-is-one cc
 
   ends : (n : ℕ) → Ends n
   unfolding stretch

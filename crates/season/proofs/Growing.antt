@@ -1,13 +1,8 @@
 -- A LOG THAT HAS GROWN: what was read of it is read again, at the same places; counted up to its end, or to an entry or a head that is cut, and on from there
 -- after more was appended, it is counted as the whole. Assumes nothing.
-use mathlib.Core.Path.{_≡_, refl, sym, ap, _∙_, subst}
-use mathlib.Core.Logic.{inl, inr}
-use mathlib.Core.Bool.{Bool, true, false}
-use mathlib.Core.List.{List, [], _∷_, _++_, append-assoc}
-use Prim.Native.Nat.{ℕ, zero, suc, _+_, _-_, _≤_}
-use native.Mathlib.Omega.{arith}
-use lib.Dec.{eqb}
-use lib.ListN.{length, drop, length-append, length-drop}
+use Rattle.wire.proofs.Basics.{_∙_, sym, _≡_, ap, refl, subst, ℕ, _≤_, _+_, _-_, suc, zero, List, [], _∷_, _++_, append-assoc, true, false, Bool, inl, inr, length, drop, length-append, length-drop}
+use Rattle.wire.proofs.Basics.{eqb, arith}
+use Rattle.wire.proofs.Choices.{zero-is-one}
 use Rattle.wire.specs.Bytes.{Bytes}
 use Rattle.wire.specs.Choice.{pick}
 use Rattle.wire.specs.Taken.{Taken, taken, refused}
@@ -37,9 +32,6 @@ use Rattle.stretch.proofs.MidStretch.{before-none, before-both, payloads-both, 
 use Rattle.season.specs.Season.{both, Begun, from-first, past-head, LogGrows}
 use Rattle.season.proofs.Fits.{held-fits, fits-held, stretch-fits}
 use Rattle.season.proofs.Pieces.{told-both}
-
-no : {A : Type 0} → _≡_ {A = ℕ} 0 1 → A
-no z = absurd (let y : ⊥ = omega arith in y)
 
 drop-more : (n : ℕ) (b m : List ℕ) → n ≤ length b → drop n (b ++ m) ≡ drop n b ++ m
 drop-more zero b m h = refl
@@ -91,10 +83,10 @@ module _ (log m : List ℕ) (h : Bytes log) (g : Bytes (log ++ m)) where
                 ap (entrySaid (log ++ m)) (sym r)
                 ∙ (found-at (log ++ m) g at d (c ++ m) (ap entryIn j ∙ f) .said ∙ (sym (found-at log h at d c (ap entryIn p ∙ u) .said) ∙ ap (entrySaid log) w));
           }
-      by-taken x b p (refused n) u v = no (let z : _≡_ {A = ℕ} 0 1 = cc in z)
+      by-taken x b p (refused n) u v = zero-is-one cc
 
       by-rest : (b : List ℕ) → drop at log ≡ b → stepIn log b ≡ Found e → Again at e
-      by-rest [] p v = no (let z : _≡_ {A = ℕ} 0 1 = cc in z)
+      by-rest [] p v = zero-is-one cc
       by-rest (x ∷ b) p v = by-taken x b p (entryIn (x ∷ b)) refl v
 
   -- ---- from the open reader on, where the head is accepted
@@ -116,7 +108,7 @@ module _ (log m : List ℕ) (h : Bytes log) (g : Bytes (log ++ m)) where
       where
         by-first : (f : First) → firstIn log ≡ f → fromFirst log f ≡ Found e → (fromFirst (log ++ m) (firstIn (log ++ m)) ≡ Found e) × (entrySaid (log ++ m) e ≡ entrySaid log e)
         by-first (first.At a l) p u = let k : Again a e = next-more a e u in (ap (fromFirst (log ++ m)) (first-more ∙ p) ∙ k .read, k .said)
-        by-first (first.Refused n) p u = no (let z : _≡_ {A = ℕ} 0 1 = cc in z)
+        by-first (first.Refused n) p u = zero-is-one cc
 
         by : (b : Bool) → eqb at 0 ≡ b → pick b (fromFirst log (firstIn log)) (nextAt log at) ≡ Found e → AgainAt at e
         by true o u = let k = by-first (firstIn log) refl u in record { read = ap (λ (x : Bool). pick x (fromFirst (log ++ m) (firstIn (log ++ m))) (nextAt (log ++ m) at)) o ∙ k .0; said = k .1 }

@@ -1,13 +1,5 @@
 -- WITH LOSSES the lists of a flight, of whatever length, are those of the messages that came whole, each once. Assumes nothing.
-use mathlib.Core.Path.{_≡_, refl, sym, ap, _∙_, subst}
-use mathlib.Core.Logic.{inl, inr}
-use mathlib.Core.Bool.{Bool, true, false}
-use mathlib.Core.List.{List, [], _∷_, _++_, map}
-use Prim.Native.Nat.{ℕ, zero, suc, _<_}
-use native.Mathlib.Omega.{arith}
-use native.Mathlib.Decide.{ℕ-discrete}
-use lib.ListN.{length}
-use borrow.Author.Tests.{eq-eqb}
+use Rattle.wire.proofs.Basics.{_∙_, sym, _≡_, ap, refl, subst, ℕ, _<_, suc, zero, List, [], _∷_, _++_, map, true, false, Bool, inl, inr, length, eq-eqb, ℕ-discrete, arith}
 use Rattle.wire.specs.Choice.{pick}
 use Rattle.steps.specs.Search.{one}
 use Rattle.arrival.specs.Demand.{Scene, size, message, Feed, done, completed}

@@ -1,12 +1,6 @@
 -- GOING ON IN PIECES IS GOING THROUGH AT ONCE. Assumes nothing.
-use mathlib.Core.Path.{_≡_, refl, sym, ap, _∙_, subst}
-use mathlib.Core.Logic.{inl, inr}
-use mathlib.Core.Bool.{Bool, true, false}
-use mathlib.Core.List.{List, [], _∷_, _++_}
-use Prim.Native.Nat.{ℕ, zero, suc, _+_}
-use native.Mathlib.Omega.{arith}
-use lib.Dec.{eqb}
-use lib.ListN.{length-append}
+use Rattle.wire.proofs.Basics.{_∙_, sym, _≡_, ap, refl, subst, ℕ, _+_, suc, zero, List, [], _∷_, _++_, true, false, Bool, inl, inr, length-append, eqb, arith}
+use Rattle.wire.proofs.Choices.{zero-is-one}
 use Rattle.wire.specs.Choice.{pick}
 use Rattle.words.specs.Builds.{build}
 use Rattle.steps.specs.Answers.{Reply}
@@ -28,9 +22,6 @@ use Rattle.stretch.proofs.MidStretch.{before-none, before-both, payloads-both, 
 use Rattle.season.specs.Season.{andOn, addedUp, bothTotals, both}
 use Rattle.season.proofs.Fits.{held-fits, fits-held, stretch-fits}
 
-no : {A : Type 0} → _≡_ {A = ℕ} 0 1 → A
-no z = absurd (let y : ⊥ = omega arith in y)
-
 module _ (b : Bool) (l : Limits) (log : List ℕ) where
   abbrev S : ℕ → ℕ → Kit → Stretched
   S = stretch b l log
@@ -41,7 +32,7 @@ module _ (b : Bool) (l : Limits) (log : List ℕ) where
     by-fault : (c : Bool) (f next : ℕ) (k : Kit) → pick c (S m next k) (here (stop.Refused f) next k) .stop ≡ stop.Taken
         → pick c (S (m + n) next k) (here (stop.Refused f) next k) ≡ andOn b l log n (pick c (S m next k) (here (stop.Refused f) next k))
     by-fault true f next k q = ih next k q
-    by-fault false f next k q = no (let z : _≡_ {A = ℕ} 0 1 = cc in z)
+    by-fault false f next k q = zero-is-one cc
 
     by-step : (place : ℕ) (k : Kit) (x : Step) → byStep b l log place k (S m) x .stop ≡ stop.Taken → byStep b l log place k (S (m + n)) x ≡ andOn b l log n (byStep b l log place k (S m) x)
     by-step place k (step.Found e) q =
@@ -49,8 +40,8 @@ module _ (b : Bool) (l : Limits) (log : List ℕ) where
         let y : Stretched = pick (eqb (faultIn (o .looked)) 0) (S m (e .next) (o .kit)) (here (stop.Refused (faultIn (o .looked))) (e .next) (o .kit)) in
         ap (before (o .reply ∷ []) (listsIn (o .looked))) (by-fault (eqb (faultIn (o .looked)) 0) (faultIn (o .looked)) (e .next) (o .kit) q)
         ∙ before-both (o .reply ∷ []) (listsIn (o .looked)) (y .replies) (y .lists) (S n (y .place) (y .kit))
-    by-step place k step.End q = no (let z : _≡_ {A = ℕ} 0 1 = cc in z)
-    by-step place k (step.Refused j) q = no (let z : _≡_ {A = ℕ} 0 1 = cc in z)
+    by-step place k step.End q = zero-is-one cc
+    by-step place k (step.Refused j) q = zero-is-one cc
 
   pub pieces : (m n place : ℕ) (k : Kit) → S m place k .stop ≡ stop.Taken → S (m + n) place k ≡ andOn b l log n (S m place k)
   unfolding stretch

@@ -1,13 +1,10 @@
 -- A FLIGHT AND A SEASON against which nothing stood: what the map holds, and its tile lines. Assumes nothing.
-use mathlib.Core.Path.{_≡_, refl, sym, ap, _∙_, subst, subst₂}
-use mathlib.Core.Logic.{_⊎_, inl, inr}
-use mathlib.Core.Bool.{true}
-use mathlib.Core.List.{List, [], _∷_, _++_, map}
-use Prim.Native.Nat.{ℕ, suc}
-use lib.ListN.{length}
+use Rattle.wire.proofs.Basics.{_∙_, sym, _≡_, ap, refl, subst, subst₂, ℕ, suc, List, [], _∷_, _++_, map, true, inl, inr, _⊎_, length}
+use mathlib.Core.List.{map-id}
 use Rattle.wire.specs.Bytes.{Bytes}
 use Rattle.wire.specs.Overlay.{overlay}
 use Rattle.wire.specs.Slices.{Buffer}
+use Rattle.wire.proofs.Parts.{map-both}
 use Rattle.steps.specs.Answers.{Reply}
 use Rattle.log.specs.Editions.{limitsIn}
 use Rattle.log.specs.Entries.{Entry}
@@ -86,19 +83,11 @@ season-holds (f ∷ fs) m seen h w =
 
 -- ---- the tile lines
 
-map-both : {A B : Type 0} (f : A → B) (g : B → ℕ) (h : A → ℕ) → ((x : A) → g (f x) ≡ h x) → (l : List A) → map g (map f l) ≡ map h l
-map-both f g h e [] = refl
-map-both f g h e (x ∷ l) = λ i. e x i ∷ map-both f g h e l i
-
-map-same : (l : List ℕ) → map (λ x. x) l ≡ l
-map-same [] = refl
-map-same (x ∷ l) = ap (λ (m : List ℕ). x ∷ m) (map-same l)
-
 -- laid from sets that hold lists, of any length, they are those lists' tile lines
 pub lines-of : (x : Sets) (had : Sizes) (ls : List PitList) → Has x had ls → (tile pit certain : Buffer) → Lays x had tile pit certain → LinesOf ls tile pit certain
 unfolding report
 lines-of x had ls h tile pit certain L = record {
-  numbers = L .numbers ∙ ap (overlay (tile .before) 0) (tiles-told x had ls h ∙ sym (map-both (line ls) (λ (l : Line). l .tile) (λ n. n) (λ n. refl) (tiles ls) ∙ map-same (tiles ls)));
+  numbers = L .numbers ∙ ap (overlay (tile .before) 0) (tiles-told x had ls h ∙ sym (map-both (line ls) (λ (l : Line). l .tile) (λ n. n) (λ n. refl) (tiles ls) ∙ map-id (tiles ls)));
   pits-of = L .pits-of ∙ ap (overlay (pit .before) 0) (pits-told x had ls h ∙ sym (map-both (line ls) (λ (l : Line). l .pits) (λ n. length (pits ls n)) (λ n. refl) (tiles ls)));
   sure-of = L .sure-of ∙ ap (overlay (certain .before) 0) (sure-told x had ls h ∙ sym (map-both (line ls) (λ (l : Line). l .sure) (λ n. length (surePits ls n)) (λ n. refl) (tiles ls)));
 }

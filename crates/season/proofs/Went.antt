@@ -1,13 +1,5 @@
 -- WHAT A STRETCH LEAVES IN SETS THAT HOLD WHAT WAS SEEN, in however many words; and exactly when 13, 60 and 61 come. Assumes nothing.
-use mathlib.Core.Path.{_≡_, refl, sym, ap, _∙_, subst}
-use mathlib.Core.Logic.{inl, inr}
-use mathlib.Core.Bool.{Bool, true, false}
-use mathlib.Core.List.{List, [], _∷_, _++_, append-assoc, append-nil}
-use Prim.Native.Nat.{ℕ, zero, suc}
-use native.Mathlib.Omega.{arith}
-use lib.Dec.{eqb}
-use lib.ListN.{length}
-use borrow.Author.Tests.{eqb-true}
+use Rattle.wire.proofs.Basics.{_∙_, sym, _≡_, ap, refl, subst, ℕ, suc, zero, List, [], _∷_, _++_, append-assoc, append-nil, true, false, Bool, inl, inr, length, eqb, eqb-true, arith}
 use Rattle.wire.specs.Choice.{pick}
 use Rattle.steps.specs.Answers.{Reply, refusedBy, kept, repeat, delivered}
 use Rattle.steps.specs.Runs.{World}

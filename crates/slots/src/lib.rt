@@ -1,15 +1,12 @@
 // The slots of a receiver's state: a block of words for each, after the words of its head. Every public function is total over any slice.
-use ranks::Ranked;
 ghost use mathlib.Core.Path.{_≡_};
-ghost use mathlib.Core.Bool.{true};
-ghost use Prim.Native.Nat.{ℕ, _+_, _<_, _≤_};
+ghost use Prim.Native.Nat.{_+_, _<_};
 ghost use lib.ListN.{getD, replicate};
 ghost use Rattle.wire.specs.Overlay.{overlay};
 ghost use Rattle.steps.specs.Search.{allBelow, count};
 ghost use Rattle.datagram.specs.Limits.{maxName};
 ghost use Rattle.steps.specs.Limits.{slotCount};
-ghost use Rattle.ranks.specs.Ranks.{ranksLowered, lowestRanked};
-ghost use Rattle.slots.specs.Words.{turnWord, blockWords, blockAt, turns, keyIn, freeIn, busyIn, firstBelow, soundIn};
+ghost use Rattle.slots.specs.Words.{blockWords, blockAt, keyIn, freeIn, busyIn, firstBelow, soundIn};
 
 // How many messages may be open at once.
 pub const SLOTS: usize = 8;
@@ -86,25 +83,6 @@ pub fn lowest_free(state: &[u64]) -> Found
     Found::Nothing
 }
 
-// Where the slots keep their turns, which are ranks: 0 for the slot that was opened longest ago.
-fn turns() -> Ranked
-    ensures { λ r. ⌜ r ≡ turns ⌝ }
-{
-    Ranked {
-        first: HEAD,
-        stride: BLOCK,
-        mark: COUNT,
-        rank: TURN,
-    }
-}
-
-// The lowest of the slots with the lowest turn.
-pub fn oldest(state: &[u64]) -> usize
-    ensures { λ r. ⌜ r ≡ lowestRanked (now (state .entry)) turns slotCount ⌝ }
-{
-    ranks::lowest_ranked(state, turns(), SLOTS)
-}
-
 // How many slots are open.
 pub fn open_count(state: &[u64]) -> u64
     ensures { λ r. ⌜ r ≡ count (busyIn (now (state .entry))) slotCount ⌝ }
@@ -118,31 +96,6 @@ pub fn open_count(state: &[u64]) -> u64
         i += 1;
     }
     n
-}
-
-// Where this is true, no turn is above t.
-fn none_above(state: &[u64], t: u64) -> bool
-    ensures { λ r. ⌜ (r ≡ true → (i : ℕ) → i < slotCount → getD (now (state .entry)) (blockAt i + turnWord) 0 ≤ t) ⌝ }
-{
-    let mut i: usize = 0;
-    while i < SLOTS {
-        if t < at(state, i, TURN) {
-            return false;
-        }
-        i += 1;
-    }
-    true
-}
-
-// A slot of turn t was freed: each open slot with a turn above it falls by one.
-pub fn lower(state: &mut [u64], t: u64)
-    ensures { λ _. ⌜ now (state .exit) ≡ ranksLowered (now (state .entry)) turns t slotCount ⌝ }
-{
-    // Most often none was opened after it.
-    if none_above(&*state, t) {
-        return;
-    }
-    ranks::lower_ranks(state, turns(), SLOTS, t);
 }
 
 fn is_sound(state: &[u64], room: u64, i: usize) -> bool

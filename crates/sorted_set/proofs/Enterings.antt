@@ -1,11 +1,5 @@
 -- Entering, by its three cases. Assumes nothing.
-use mathlib.Core.Path.{_≡_, sym, ap, _∙_}
-use mathlib.Core.Bool.{true, false, _&&_}
-use mathlib.Core.List.{List}
-use Prim.Native.Nat.{ℕ, _+_}
-use lib.Dec.{ltb, eqb}
-use lib.ListN.{length, getD}
-use borrow.Author.Tests.{eq-eqb, ne-eqb}
+use Rattle.wire.proofs.Basics.{_∙_, sym, _≡_, ap, ℕ, _+_, List, true, false, _&&_, length, getD, eqb, ltb, eq-eqb, ne-eqb}
 use Rattle.sorted_set.specs.declared.Entered.the-variants.{Now, Full}
 use Rattle.sorted_set.specs.Halving.{held, rankIn, inserted, isThere, entered, wordsWith, Enters}
 

@@ -1,10 +1,5 @@
 -- Laws of membership, of `gather` and of `map`. Assumes nothing.
-use mathlib.Core.Path.{_≡_, refl, sym, ap, _∙_, subst}
-use mathlib.Core.Logic.{_⊎_, inl, inr}
-use mathlib.Core.List.{List, [], _∷_, _++_, map, append-assoc}
-use Prim.Native.Nat.{ℕ, zero, suc, _<_}
-use native.Mathlib.Omega.{arith}
-use lib.ListN.{length, getD}
+use Rattle.wire.proofs.Basics.{_∙_, sym, _≡_, ap, refl, subst, ℕ, _<_, suc, zero, List, [], _∷_, _++_, append-assoc, map, inl, inr, _⊎_, length, getD, arith}
 use Rattle.sorted_set.specs.Lists.{In, SameMembers, gather}
 
 module _ {A : Type 0} where

@@ -1,11 +1,7 @@
 -- Words moved up by one, a block at a time, from the last on. Assumes nothing.
-use mathlib.Core.Path.{_≡_, sym, ap, _∙_}
-use mathlib.Core.List.{List, [], _∷_, _++_, append-assoc}
-use Prim.Native.Nat.{ℕ, _+_, _-_, _≤_, _<_}
-use native.Mathlib.Omega.{arith}
-use native.Mathlib.Numerals.{add-one}
-use lib.ListN.{length, getD, set, take, drop, take-append-drop, length-take, length-drop, length-append}
-use lib.Seq.{take-suc, length-take-le, set-at, take-take, drop-drop, take-add, take-append-le, drop-append-le, drop-at}
+use Rattle.wire.proofs.Basics.{_∙_, sym, _≡_, ap, ℕ, _≤_, _+_, _<_, _-_, List, [], _∷_, _++_, append-assoc, length, drop, getD, take, length-append, length-drop, set, length-take, take-append-drop}
+use Rattle.wire.proofs.Basics.{length-take-le, drop-drop, drop-at, take-add, take-suc, take-take, drop-append-le, add-one, arith}
+use lib.Seq.{set-at, take-append-le}
 use Rattle.wire.specs.Overlay.{overlay}
 use Rattle.wire.proofs.Overlays.{overlay-eq}
 use Rattle.sorted_set.specs.Halving.{inserted}

@@ -1,7 +1,5 @@
 -- NO SECOND ANSWER satisfies the contract of `enter`; for `rank` it is wire's `one-answer`. Assumes nothing.
-use mathlib.Core.Path.{_≡_, sym, _∙_}
-use mathlib.Core.List.{List}
-use Prim.Native.Nat.{ℕ}
+use Rattle.wire.proofs.Basics.{_∙_, sym, _≡_, ℕ, List}
 use Rattle.sorted_set.specs.declared.Entered.{Entered}
 use Rattle.sorted_set.specs.Halving.{Enters}
 

@@ -1,13 +1,5 @@
 -- Rising lists made of others: one behind the other, number by number, and the part of one between two bounds. Assumes nothing.
-use mathlib.Core.Path.{_≡_, refl}
-use mathlib.Core.Logic.{inl, inr}
-use mathlib.Core.Bool.{Bool, true, false, _&&_}
-use mathlib.Core.List.{List, [], _∷_, _++_, map}
-use Prim.Native.Nat.{ℕ, _+_, _≤_, _<_}
-use native.Mathlib.Omega.{arith}
-use lib.Dec.{ltb, leb}
-use lib.ListN.{length}
-use borrow.Author.Tests.{ltb-true, ltb-false, lt-ltb, leb-true, le-leb, lt-leb}
+use Rattle.wire.proofs.Basics.{_≡_, refl, ℕ, _≤_, _+_, _<_, List, [], _∷_, _++_, map, true, false, Bool, _&&_, inl, inr, length, ltb, leb, lt-ltb, ltb-false, le-leb, ltb-true, lt-leb, leb-true, arith}
 use Rattle.wire.specs.Choice.{pick}
 use Rattle.wire.proofs.Choices.{either, and-l, and-r}
 use Rattle.sorted_set.specs.Lists.{In, gather, Rising, below}

@@ -1,13 +1,6 @@
 -- Places in a rising list: `below x` is the place where x stands, or where it would, and a search by halving may tell it from one number at a time.
 -- Assumes nothing.
-use mathlib.Core.Path.{_≡_, refl, sym, ap, _∙_, subst}
-use mathlib.Core.Logic.{inl, inr}
-use mathlib.Core.List.{List, [], _∷_, _++_}
-use Prim.Native.Nat.{ℕ, zero, suc, _≤_, _<_}
-use native.Mathlib.Omega.{arith}
-use lib.Dec.{ltb}
-use lib.ListN.{length, getD, take, drop}
-use borrow.Author.Tests.{ltb-true, ltb-false, lt-ltb, le-ltb}
+use Rattle.wire.proofs.Basics.{_∙_, sym, _≡_, ap, refl, subst, ℕ, _≤_, _<_, suc, zero, List, [], _∷_, _++_, inl, inr, length, drop, getD, take, ltb, le-ltb, lt-ltb, ltb-false, ltb-true, arith}
 use Rattle.wire.proofs.Choices.{either}
 use Rattle.sorted_set.specs.Lists.{In, enter, Rising, below}
 use Rattle.sorted_set.proofs.Members.{in-at}

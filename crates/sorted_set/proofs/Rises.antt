@@ -1,15 +1,6 @@
 -- `rising` gives the distinct numbers of a list, each once, in rising order; a rising list is known by its members. Assumes nothing.
-use mathlib.Core.Path.{_≡_, refl, sym, ap, _∙_, subst}
-use mathlib.Core.Logic.{_⊎_, inl, inr, _≢_}
-use mathlib.Core.Bool.{Bool, true, false}
-use mathlib.Core.List.{List, [], _∷_, _++_}
-use Prim.Native.Nat.{ℕ, suc, _≤_, _<_, zero-le}
-use native.Mathlib.Nat.{le-refl}
-use native.Mathlib.Omega.{arith}
-use native.Mathlib.Decide.{ℕ-discrete}
-use lib.Dec.{ltb, eqb}
-use lib.ListN.{length}
-use borrow.Author.Tests.{ltb-true, ltb-false, eqb-true, eqb-false}
+use Rattle.wire.proofs.Basics.{_∙_, sym, _≡_, ap, refl, subst, ℕ, _≤_, _<_, suc, zero-le, List, [], _∷_, _++_, true, false, Bool, inl, inr, _≢_, _⊎_, length, eqb, ltb, eqb-true, ltb-false, ltb-true}
+use Rattle.wire.proofs.Basics.{eqb-false, le-refl, ℕ-discrete, arith}
 use Rattle.wire.specs.Choice.{pick}
 use Rattle.sorted_set.specs.Lists.{In, SameMembers, total, enter, rising, Rising}
 use Rattle.sorted_set.proofs.Members.{in-left, in-right, in-either}

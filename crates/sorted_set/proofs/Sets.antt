@@ -1,15 +1,8 @@
 -- Where the first n words rise, halving finds how many of them are below x, and entering makes of them what `enter` makes. Assumes nothing.
-use mathlib.Core.Path.{_≡_, refl, sym, ap, _∙_, subst}
-use mathlib.Core.Logic.{inl, inr}
-use mathlib.Core.Bool.{true, false}
-use mathlib.Core.List.{List, [], _∷_, _++_, append-assoc}
-use Prim.Native.Nat.{ℕ, zero, suc, _+_, _-_, _≤_, _<_}
+use Rattle.wire.proofs.Basics.{_∙_, sym, _≡_, ap, refl, subst, ℕ, _≤_, _+_, _<_, _-_, suc, zero, List, [], _∷_, _++_, append-assoc, true, false, inl, inr, length, drop, getD, take, length-append}
+use Rattle.wire.proofs.Basics.{length-drop, length-take, length-take-le, take-at, getD-take, take-take, eqb, ltb, eq-eqb, le-ltb, ne-eqb, lt-ltb, eqb-true, ltb-false, ltb-true, eqb-false, arith}
 use native.Mathlib.Nat.{sub-zero, zero-sub, suc-sub-suc}
-use native.Mathlib.Omega.{arith}
-use lib.Dec.{ltb, eqb}
-use lib.ListN.{length, getD, take, drop, length-take, length-drop, length-append}
-use lib.Seq.{getD-take, take-take, length-take-le, take-at, take-nil}
-use borrow.Author.Tests.{ltb-true, ltb-false, eqb-true, eqb-false, lt-ltb, le-ltb, eq-eqb, ne-eqb}
+use lib.Seq.{take-nil}
 use Rattle.wire.specs.Choice.{pick}
 use Rattle.wire.proofs.Choices.{either, never, and-l, and-r, pick-all}
 use Rattle.sorted_set.specs.declared.Entered.the-variants.{Now, Full}

@@ -1,9 +1,5 @@
 -- Sums over a list. Assumes nothing.
-use mathlib.Core.Path.{_≡_, refl, ap, _∙_}
-use mathlib.Core.List.{List, [], _∷_, _++_, map}
-use Prim.Native.Nat.{ℕ, _+_}
-use native.Mathlib.Omega.{arith}
-use lib.ListN.{length, length-append}
+use Rattle.wire.proofs.Basics.{_∙_, _≡_, ap, refl, ℕ, _+_, List, [], _∷_, _++_, map, length, length-append, arith}
 use Rattle.sorted_set.specs.Lists.{gather, total}
 
 pub total-append : {A : Type 0} (w : A → ℕ) (l m : List A) → total w (l ++ m) ≡ total w l + total w m

@@ -1,14 +1,6 @@
 -- The order of opening over the calls that led to a state: the turns follow it, and the key that is emptied is the one whose opening lies furthest back.
-use mathlib.Core.Path.{_≡_, refl, sym, ap, _∙_, subst, subst₂}
-use mathlib.Core.Logic.{_≢_, inl, inr}
-use mathlib.Core.Bool.{Bool, true, false, not, _&&_}
-use mathlib.Core.Option.{Option, none, some}
-use mathlib.Core.List.{List}
-use Prim.Native.Nat.{ℕ, suc, _≤_, _<_, zero-le, suc-le-suc}
-use native.Mathlib.Omega.{arith}
-use native.Mathlib.Decide.{ℕ-discrete}
-use lib.ListN.{length, set, getD-replicate}
-use lib.Seq.{getD-set-other}
+use Rattle.wire.proofs.Basics.{_∙_, sym, _≡_, ap, refl, subst, subst₂, ℕ, _≤_, _<_, suc, zero-le, suc-le-suc, List, true, false, Bool, _&&_, not, inl, inr, _≢_, some, none, Option, length, set}
+use Rattle.wire.proofs.Basics.{getD-replicate, getD-set-other, ℕ-discrete, arith}
 use Rattle.wire.proofs.Choices.{either, never, and-of}
 use Rattle.datagram.specs.Limits.{maxFragments}
 use Rattle.datagram.specs.Said.{Said, fragment, Fragment, said}

@@ -1,8 +1,6 @@
 -- The worked cases of one message, computed; those of many are computed in `arrival_cases`.
-use mathlib.Core.Path.{_≡_, refl, _∙_}
-use mathlib.Core.List.{List, [], _∷_, map, zipWith}
-use Prim.Native.Nat.{ℕ}
-use lib.ListN.{length-replicate}
+use Rattle.wire.proofs.Basics.{_∙_, _≡_, refl, ℕ, List, [], _∷_, map, length-replicate}
+use mathlib.Core.List.{zipWith}
 use Rattle.wire.specs.Bytes.{be}
 use Rattle.wire.specs.Overlay.{overlay}
 use Rattle.names.specs.Name.{goodName}

@@ -1,12 +1,5 @@
 -- One law for each branch of the step list: what a call comes to, once its tests are known; and the four courses that a call can take.
-use mathlib.Core.Path.{_≡_, refl, sym, ap, _∙_, subst}
-use mathlib.Core.Logic.{inl, inr}
-use mathlib.Core.Bool.{Bool, true, false}
-use mathlib.Core.Option.{Option, none, some}
-use mathlib.Core.List.{List}
-use Prim.Native.Nat.{ℕ}
-use native.Mathlib.Omega.{arith}
-use lib.ListN.{length, set}
+use Rattle.wire.proofs.Basics.{_∙_, sym, _≡_, ap, refl, subst, ℕ, List, true, false, Bool, inl, inr, some, none, Option, length, set, arith}
 use Rattle.wire.proofs.Choices.{either, never}
 use Rattle.datagram.specs.Limits.{maxFragments}
 use Rattle.datagram.specs.Said.{Said, refused, small, fragment, Fragment, said}

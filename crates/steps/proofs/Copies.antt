@@ -1,14 +1,5 @@
 -- A fragment of an open key that is not refused has the slot's P and n; one that is answered Repeat is a copy of what is held.
-use mathlib.Core.Path.{_≡_, refl, sym, ap, _∙_}
-use mathlib.Core.Logic.{_≢_, inl, inr}
-use mathlib.Core.Bool.{Bool, true, false, _&&_}
-use mathlib.Core.Option.{some}
-use mathlib.Core.List.{List}
-use Prim.Native.Nat.{ℕ}
-use native.Mathlib.Omega.{arith}
-use lib.Dec.{eqb}
-use lib.ListN.{length, take, drop}
-use borrow.Author.Tests.{eqb-true, eq-eqb}
+use Rattle.wire.proofs.Basics.{_∙_, sym, _≡_, ap, refl, ℕ, List, true, false, Bool, _&&_, inl, inr, _≢_, some, length, drop, take, eqb, eq-eqb, eqb-true, arith}
 use Rattle.wire.specs.Choice.{pick}
 use Rattle.wire.specs.Same.{same}
 use Rattle.wire.proofs.Choices.{either, never, and-l, and-r}

@@ -1,13 +1,6 @@
 -- WHERE A DELIVERED PAYLOAD LIES, for any state of eight slots and all input: inside the datagram, or inside the store as the call left it.
-use mathlib.Core.Path.{_≡_, refl, sym, ap, _∙_, subst, subst₂}
-use mathlib.Core.Logic.{inl, inr}
-use mathlib.Core.Bool.{Bool, true, false, not, _&&_}
-use mathlib.Core.List.{List}
-use Prim.Native.Nat.{ℕ, _+_, _*_, _≤_, _<_}
-use native.Mathlib.Omega.{arith}
-use lib.Dec.{eqb, leb}
-use lib.ListN.{length, set, drop, length-take, length-drop}
-use borrow.Author.Tests.{eqb-true, leb-true}
+use Rattle.wire.proofs.Basics.{_∙_, sym, _≡_, ap, refl, subst, subst₂, ℕ, _≤_, _+_, _<_, _*_, List, true, false, Bool, _&&_, not, inl, inr, length, drop, length-drop, set, length-take, eqb, leb}
+use Rattle.wire.proofs.Basics.{eqb-true, leb-true, arith}
 use Rattle.wire.proofs.Choices.{either, and-l, and-r}
 use Rattle.wire.proofs.Overlays.{length-overlay}
 use Rattle.datagram.specs.Limits.{maxFragments}

@@ -1,13 +1,5 @@
 -- AN EMPTIED KEY IS NOT REMEMBERED: after the call that empties it, from any state that calls can reach, it is neither open nor remembered.
-use mathlib.Core.Path.{_≡_, refl, sym, ap, _∙_, subst}
-use mathlib.Core.Logic.{_≢_, inl, inr}
-use mathlib.Core.Bool.{true, false}
-use mathlib.Core.Option.{Option, none, some}
-use mathlib.Core.List.{List}
-use Prim.Native.Nat.{ℕ, _<_}
-use native.Mathlib.Decide.{ℕ-discrete}
-use lib.ListN.{length, set}
-use lib.Seq.{getD-set-other}
+use Rattle.wire.proofs.Basics.{_∙_, sym, _≡_, ap, refl, subst, ℕ, _<_, List, true, false, inl, inr, _≢_, some, none, Option, length, set, getD-set-other, ℕ-discrete}
 use Rattle.wire.proofs.Choices.{either}
 use Rattle.datagram.specs.Limits.{maxFragments}
 use Rattle.datagram.specs.Said.{Fragment, said}

@@ -1,15 +1,7 @@
 -- Laws of the held fragments. Nothing else opens `isHeld`, `hold` and `noneHeld`.
-use mathlib.Core.Path.{_≡_, refl, sym, ap, _∙_}
-use mathlib.Core.Logic.{_≢_}
-use mathlib.Core.Bool.{true, false}
-use mathlib.Core.List.{List}
-use Prim.Native.Nat.{ℕ, zero, suc, _+_, _-_, _/_, _%_, _^_, _<_}
-use native.Mathlib.Nat.{zero-div, div-eq-of-lt, div-self, mod-lt, one-mul}
-use native.Mathlib.Omega.{arith}
-use native.Mathlib.Decide.{decLe, ℕ-discrete}
-use lib.Dec.{eqb, lit<}
-use lib.ListN.{length, getD, replicate, length-set, length-replicate, getD-replicate, List·getD-eq-default}
-use lib.Seq.{getD-set-same, getD-set-other, set-out}
+use Rattle.wire.proofs.Basics.{_∙_, sym, _≡_, ap, refl, ℕ, _+_, _<_, _-_, suc, zero, _^_, _%_, _/_, List, true, false, _≢_, length, getD, replicate, length-set, length-replicate, List·getD-eq-default}
+use Rattle.wire.proofs.Basics.{getD-replicate, getD-set-other, getD-set-same, set-out, eqb, lit<, one-mul, ℕ-discrete, decLe, arith}
+use native.Mathlib.Nat.{zero-div, div-eq-of-lt, div-self, mod-lt}
 use lib.Bits.{bitOr, or-shr, or-mod, or-zero-r, shifted-even}
 use lib.Pow.{pow-pos, pow-lt, pow-add, shl-shr}
 use Rattle.datagram.specs.Limits.{maxFragments}

@@ -1,18 +1,7 @@
 -- EXACTLY WHAT IS REMEMBERED after any deliveries and forgettings: a key that is among its sender's last 32 deliveries since that sender was forgotten or
 -- dropped, and of the senders the 16 whose latest deliveries are the latest. So a 17th drops the one furthest back, and forgetting leaves the rest in their order.
-use mathlib.Core.Path.{_≡_, refl, ap, _∙_, sym, subst}
-use mathlib.Core.Logic.{_≢_, inl, inr}
-use mathlib.Core.Bool.{Bool, true, false, _&&_, _||_}
-use mathlib.Core.Option.{Option, none, some}
-use mathlib.Core.List.{List, [], _∷_, map}
-use Prim.Native.Nat.{ℕ, zero, suc, _+_, _-_, _≤_, _<_, zero-le}
-use native.Mathlib.Nat.{le-refl, not-suc-le-zero}
-use native.Mathlib.Omega.{arith}
-use native.Mathlib.Decide.{decLe, ℕ-discrete}
-use lib.Dec.{eqb, ltb}
-use lib.ListN.{length, take, length-map, getD-replicate}
-use lib.Seq.{take-all}
-use borrow.Author.Tests.{eqb-true, eq-eqb, ne-eqb, lt-ltb, le-ltb}
+use Rattle.wire.proofs.Basics.{_∙_, sym, _≡_, ap, refl, subst, ℕ, _≤_, _+_, _<_, _-_, suc, zero, zero-le, List, [], _∷_, map, true, false, Bool, _&&_, _||_, inl, inr, _≢_, some, none, Option, length}
+use Rattle.wire.proofs.Basics.{take, length-map, getD-replicate, take-all, eqb, ltb, eq-eqb, le-ltb, ne-eqb, lt-ltb, eqb-true, not-suc-le-zero, le-refl, ℕ-discrete, decLe, arith}
 use Rattle.wire.specs.Choice.{pick}
 use Rattle.wire.proofs.Choices.{either, never, and-of, or-l, or-r, or-of-right, pick-all}
 use Rattle.steps.specs.Limits.{sendersMost, keysEach}

@@ -1,11 +1,5 @@
 -- A CALL WITHIN FURTHER LIMITS is the call without them, or a refusal that alters nothing: so such calls lead to no state that calls without limits do not reach.
-use mathlib.Core.Path.{_≡_, refl, sym, ap, _∙_, subst}
-use mathlib.Core.Logic.{inl, inr}
-use mathlib.Core.Bool.{true, false}
-use mathlib.Core.List.{List}
-use Prim.Native.Nat.{ℕ, min}
-use native.Mathlib.Omega.{arith}
-use lib.ListN.{length}
+use Rattle.wire.proofs.Basics.{_∙_, sym, _≡_, ap, refl, subst, ℕ, min, List, true, false, inl, inr, length, arith}
 use Rattle.wire.specs.Choice.{pick}
 use Rattle.wire.proofs.Choices.{either}
 use Rattle.datagram.specs.Limits.{maxFragments}

@@ -1,17 +1,10 @@
 -- Laws of the memory of keys. Nothing else opens its definitions: another memory shows these laws again.
-use mathlib.Core.Path.{_≡_, refl, ap, _∙_, sym}
-use mathlib.Core.Logic.{_≢_, inl, inr}
-use mathlib.Core.Bool.{Bool, true, false, not, _||_, or-assoc, or-false, or-comm}
-use mathlib.Core.Option.{Option, none, some}
-use mathlib.Core.List.{List, [], _∷_, _++_, map, reverse, reverse-cons, reverse-append}
-use Prim.Native.Nat.{ℕ, zero, suc, _-_, _≤_, _<_, zero-le}
-use lib.Dec.{eqb, leb, ltb, lit≤}
-use native.Mathlib.Nat.{le-refl, le-of-suc-le-suc, not-suc-le-zero}
-use native.Mathlib.Omega.{arith}
-use native.Mathlib.Decide.{decLe, ℕ-discrete}
-use lib.ListN.{length, getD, set, take, drop, length-take, length-set, length-drop, length-append, length-map, getD-replicate}
-use lib.Seq.{take-suc-set, take-all, take-suc, getD-set-same, getD-set-other}
-use borrow.Author.Tests.{eqb-true, eq-eqb, ne-eqb, lt-ltb, le-ltb, le-leb}
+use Rattle.wire.proofs.Basics.{_∙_, sym, _≡_, ap, refl, ℕ, _≤_, _<_, _-_, suc, zero, zero-le, List, [], _∷_, _++_, map, true, false, Bool, _||_, not, inl, inr, _≢_, some, none, Option, length, drop}
+use Rattle.wire.proofs.Basics.{getD, take, length-append, length-drop, set, length-set, length-take, length-map, getD-replicate, take-all, getD-set-other, take-suc, getD-set-same, eqb, ltb, leb, lit≤}
+use Rattle.wire.proofs.Basics.{eq-eqb, le-ltb, ne-eqb, lt-ltb, eqb-true, le-leb, not-suc-le-zero, le-refl, le-of-suc-le-suc, ℕ-discrete, decLe, arith}
+use mathlib.Core.Bool.{or-assoc, or-false, or-comm}
+use mathlib.Core.List.{reverse, reverse-cons, reverse-append}
+use lib.Seq.{take-suc-set}
 use Rattle.wire.specs.Choice.{pick}
 use Rattle.wire.proofs.Choices.{either, never, and-l, and-r, or-l, or-r, pick-all, and-false}
 use Rattle.steps.specs.Limits.{sendersMost, keysEach}

@@ -1,16 +1,9 @@
 -- The numbers of refusal: the reader gives 1 to 7, the steps give 8, and 9 is given exactly when its list says.
-use mathlib.Core.Path.{_≡_, refl, sym, ap, _∙_, subst}
-use mathlib.Core.Logic.{_≢_, _⊎_, inl, inr, _↔_}
-use mathlib.Core.Bool.{Bool, true, false, not, _&&_, _||_}
-use mathlib.Core.Option.{Option, none, some}
-use mathlib.Core.List.{List}
-use Prim.Native.Nat.{ℕ, _+_, _≤_, _<_}
-use native.Mathlib.Omega.{arith}
-use lib.Dec.{eqb, leb, ltb, lit≤}
-use lib.ListN.{length, drop}
+use Rattle.wire.proofs.Basics.{_∙_, sym, _≡_, ap, refl, subst, ℕ, _≤_, _+_, _<_, List, true, false, Bool, _&&_, _||_, not, inl, inr, _≢_, _⊎_, some, none, Option, length, drop, eqb, ltb, leb, lit≤}
+use Rattle.wire.proofs.Basics.{ne-eqb, not-false, lt-leb, eqb-false, leb-false, arith}
+use mathlib.Core.Logic.{_↔_}
 use Rattle.wire.specs.Choice.{pick}
 use Rattle.wire.proofs.Choices.{either, and-false, or-l, or-r, pick-all}
-use borrow.Author.Tests.{leb-false, lt-leb, eqb-false, ne-eqb, not-false}
 use Rattle.datagram.specs.Limits.{maxDatagram, maxFragments}
 use Rattle.datagram.specs.Name.{nameLength}
 use Rattle.datagram.specs.Read.{magicIn, smallMagic, fragmentMagic, sizeIn, numberIn, countIn, place, goodForm, fragmentHeader, formed, zeroTo, smallTo, readSmall, readFragment, readDatagram, partOf}

@@ -1,17 +1,6 @@
 -- The turns of the open slots are their ranks in the order of opening: below their number, each once, from 0 up. What a slot freed, opened or filled does to them.
-use mathlib.Core.Path.{_≡_, refl, sym, ap, _∙_, subst, subst₂}
-use mathlib.Core.Logic.{_≢_, _⊎_, inl, inr}
-use mathlib.Core.Bool.{true, false}
-use mathlib.Core.Option.{none}
-use mathlib.Core.List.{List}
-use Prim.Native.Nat.{ℕ, suc, _-_, _≤_, _<_}
-use native.Mathlib.Nat.{not-suc-le-zero}
-use native.Mathlib.Omega.{arith}
-use native.Mathlib.Decide.{decLe, ℕ-discrete}
-use lib.Dec.{ltb}
-use lib.ListN.{length, set, length-set}
-use lib.Seq.{getD-set-other}
-use borrow.Author.Tests.{lt-ltb, le-ltb}
+use Rattle.wire.proofs.Basics.{_∙_, sym, _≡_, ap, refl, subst, subst₂, ℕ, _≤_, _<_, _-_, suc, List, true, false, inl, inr, _≢_, _⊎_, none, length, set, length-set, getD-set-other, ltb, le-ltb, lt-ltb}
+use Rattle.wire.proofs.Basics.{not-suc-le-zero, ℕ-discrete, decLe, arith}
 use Rattle.wire.specs.Choice.{pick}
 use Rattle.wire.proofs.Choices.{either, never}
 use Rattle.datagram.specs.Said.{Fragment}

@@ -1,16 +1,6 @@
 -- Every state that calls can reach is in order; and what forget leaves of one.
-use mathlib.Core.Path.{_≡_, refl, sym, ap, _∙_, subst}
-use mathlib.Core.Logic.{_≢_, inl, inr}
-use mathlib.Core.Bool.{true, false, not, or-true}
-use mathlib.Core.Option.{none}
-use mathlib.Core.List.{List}
-use Prim.Native.Nat.{ℕ, _≤_, _<_}
-use native.Mathlib.Nat.{le-refl}
-use native.Mathlib.Omega.{arith}
-use native.Mathlib.Decide.{ℕ-discrete}
-use lib.ListN.{length, set, length-set, length-replicate, getD-replicate, replicate}
-use lib.Seq.{getD-set-other}
-use borrow.Author.Tests.{eq-eqb, le-leb}
+use Rattle.wire.proofs.Basics.{_∙_, sym, _≡_, ap, refl, subst, ℕ, _≤_, _<_, List, true, false, not, or-true, inl, inr, _≢_, none, length, set, replicate, length-set, length-replicate, getD-replicate}
+use Rattle.wire.proofs.Basics.{getD-set-other, eq-eqb, le-leb, le-refl, ℕ-discrete, arith}
 use Rattle.wire.proofs.Choices.{either, never, and-five}
 use Rattle.datagram.specs.Limits.{maxFragments}
 use Rattle.datagram.specs.Said.{fragment, Fragment, said}

@@ -1,8 +1,5 @@
 -- A run is computed without counting the ledger's numbers at each call, since no call alters how many there are. The worked cases are computed so.
-use mathlib.Core.Path.{_≡_, refl, ap, _∙_}
-use mathlib.Core.List.{List, [], _∷_}
-use Prim.Native.Nat.{ℕ}
-use lib.ListN.{length, set}
+use Rattle.wire.proofs.Basics.{_∙_, _≡_, ap, refl, ℕ, List, [], _∷_, length, set}
 use Rattle.wire.specs.Choice.{pick}
 use Rattle.wire.proofs.Choices.{pick-all}
 use Rattle.datagram.specs.Limits.{maxFragments}

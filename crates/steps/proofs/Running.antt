@@ -1,6 +1,5 @@
 -- A run of calls, one call longer.
-use mathlib.Core.Path.{_≡_, refl}
-use mathlib.Core.List.{List, [], _∷_, _++_}
+use Rattle.wire.proofs.Basics.{_≡_, refl, List, [], _∷_, _++_}
 use Rattle.steps.specs.Runs.{World, worldOf, Arrival, call, run, leftBy}
 
 pub left-more : (w : World) (xs : List Arrival) (x : Arrival) → leftBy w (run w (xs ++ x ∷ [])) ≡ worldOf (call (leftBy w (run w xs)) x)

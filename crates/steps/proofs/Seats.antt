@@ -1,17 +1,7 @@
 -- Slots found, taken and freed: what each leaves of the slots.
-use mathlib.Core.Path.{_≡_, refl, sym, ap, _∙_, subst}
-use mathlib.Core.Logic.{_≢_}
-use mathlib.Core.Bool.{Bool, true, false, not}
-use mathlib.Core.Option.{Option, none, some}
-use mathlib.Core.List.{List, [], _∷_}
-use Prim.Native.Nat.{ℕ, zero, suc, min, _≤_, _<_, zero-le, suc-le-suc}
-use native.Mathlib.Nat.{le-refl, not-suc-le-zero, le-of-suc-le-suc}
-use native.Mathlib.Omega.{arith}
-use native.Mathlib.Decide.{decLe}
-use lib.Dec.{eqb}
-use lib.ListN.{length, set, length-set, length-map, List·getD-map, List·getD-eq-default}
-use lib.Seq.{getD-set-same, getD-set-other}
-use borrow.Author.Tests.{eqb-true, eq-eqb, ne-eqb}
+use Rattle.wire.proofs.Basics.{_∙_, sym, _≡_, ap, refl, subst, ℕ, _≤_, _<_, suc, zero, min, zero-le, suc-le-suc, List, [], _∷_, true, false, Bool, not, _≢_, some, none, Option, length, set}
+use Rattle.wire.proofs.Basics.{length-set, List·getD-eq-default, length-map, getD-set-other, getD-set-same, eqb, eq-eqb, ne-eqb, eqb-true, not-suc-le-zero, le-refl, le-of-suc-le-suc, decLe, arith}
+use lib.ListN.{List·getD-map}
 use Rattle.wire.proofs.Choices.{never, and-l, and-r, and-of}
 use Rattle.steps.specs.Limits.{slotCount}
 use Rattle.steps.specs.Search.{first}

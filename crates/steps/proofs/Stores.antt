@@ -1,13 +1,7 @@
 -- What the store and the ledger hold after a fragment is stored, and that the parts of two slots lie apart.
-use mathlib.Core.Path.{_≡_, sym, ap, _∙_}
-use mathlib.Core.Logic.{_≢_}
-use mathlib.Core.List.{List}
-use Prim.Native.Nat.{ℕ, suc, _+_, _*_, _≤_, _<_}
+use Rattle.wire.proofs.Basics.{_∙_, sym, _≡_, ap, ℕ, _≤_, _+_, _<_, suc, _*_, List, _≢_, length, drop, getD, set, length-set, getD-drop, getD-set-other, getD-take, getD-set-same, ℕ-discrete, decLe}
+use Rattle.wire.proofs.Basics.{arith}
 use native.Mathlib.Nat.{mul-le-mul-right}
-use native.Mathlib.Omega.{arith}
-use native.Mathlib.Decide.{decLe, ℕ-discrete}
-use lib.ListN.{length, getD, set, drop, length-set}
-use lib.Seq.{getD-set-same, getD-set-other, getD-take, getD-drop}
 use Rattle.wire.specs.Overlay.{overlay}
 use Rattle.wire.proofs.Overlays.{overlay-at, overlay-before, overlay-after}
 use Rattle.datagram.specs.Limits.{maxFragments}

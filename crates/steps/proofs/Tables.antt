@@ -1,14 +1,7 @@
 -- Laws of tests over numbers below a bound, and of the first element that passes one. Nothing here knows of datagrams.
-use mathlib.Core.Path.{_≡_, refl, sym}
-use mathlib.Core.Logic.{_⊎_, inl, inr, _≢_}
-use mathlib.Core.Bool.{Bool, true, false, not, _&&_, _||_}
-use mathlib.Core.Option.{Option, none, some, Option·map, Option·none-ne-some, Option·some-ne-none}
-use mathlib.Core.List.{List, [], _∷_}
-use Prim.Native.Nat.{ℕ, zero, suc, _≤_, _<_, zero-le, suc-le-suc}
-use native.Mathlib.Nat.{le-refl, not-suc-le-zero, le-of-suc-le-suc}
-use native.Mathlib.Omega.{arith}
-use native.Mathlib.Decide.{ℕ-discrete}
-use lib.ListN.{length, getD}
+use Rattle.wire.proofs.Basics.{sym, _≡_, refl, ℕ, _≤_, _<_, suc, zero, zero-le, suc-le-suc, List, [], _∷_, true, false, Bool, _&&_, _||_, not, inl, inr, _≢_, _⊎_, some, none, Option, Option·map}
+use Rattle.wire.proofs.Basics.{length, getD, not-suc-le-zero, le-refl, le-of-suc-le-suc, ℕ-discrete, arith}
+use mathlib.Core.Option.{Option·none-ne-some, Option·some-ne-none}
 use Rattle.wire.proofs.Choices.{either, never, and-l, and-r}
 use Rattle.steps.specs.Search.{allBelow, one, count, first}
 

@@ -1,17 +1,7 @@
 -- TWO STORES AND TWO LEDGERS under one machine, which agree on all that is held, whatever else is in them: a fragment that is stored in both leaves them so, and a message that is whole has the same bytes in both.
-use mathlib.Core.Path.{_≡_, refl, sym, ap, _∙_, subst}
-use mathlib.Core.Logic.{_≢_, inl, inr}
-use mathlib.Core.Bool.{Bool, true, not, _||_, false, _&&_}
-use mathlib.Core.List.{List}
-use Prim.Native.Nat.{ℕ, zero, suc, _+_, _-_, _*_, min, _≤_, _<_, zero-le}
-use native.Mathlib.Nat.{not-suc-le-zero, add-assoc}
-use native.Mathlib.Numerals.{add-one}
-use native.Mathlib.Omega.{arith}
-use native.Mathlib.Decide.{decLe, ℕ-discrete}
-use lib.Dec.{eqb, leb, ltb}
-use lib.ListN.{length, getD, set, take, drop, length-take, length-drop}
-use lib.Seq.{ext-getD, getD-take, getD-drop}
-use borrow.Author.Tests.{eqb-true, eq-eqb, lt-ltb, le-ltb}
+use Rattle.wire.proofs.Basics.{_∙_, sym, _≡_, ap, refl, subst, ℕ, _≤_, _+_, _<_, _-_, suc, zero, _*_, min, zero-le, List, true, false, Bool, _&&_, _||_, not, inl, inr, _≢_, length, drop, getD, take}
+use Rattle.wire.proofs.Basics.{length-drop, set, length-take, getD-drop, getD-take, ext-getD, eqb, ltb, leb, eq-eqb, le-ltb, lt-ltb, eqb-true, not-suc-le-zero, ℕ-discrete, decLe, add-one, arith}
+use native.Mathlib.Nat.{add-assoc}
 use Rattle.wire.specs.Choice.{pick}
 use Rattle.wire.specs.Same.{same}
 use Rattle.wire.specs.Overlay.{overlay}

@@ -1,13 +1,5 @@
 -- WHATEVER STORE AND LEDGER HELD at the opening: a call reads of them only what was stored since. So what is answered and delivered depends on how long they are, and on nothing else of them.
-use mathlib.Core.Path.{_≡_, refl, sym, ap, _∙_, subst}
-use mathlib.Core.Bool.{Bool, true, not, _||_, false}
-use mathlib.Core.Option.{Option, none, some}
-use mathlib.Core.List.{List}
-use Prim.Native.Nat.{ℕ, min, _<_}
-use native.Mathlib.Omega.{arith}
-use lib.Dec.{eqb}
-use lib.ListN.{length, set, length-replicate, getD-replicate}
-use borrow.Author.Tests.{eqb-true}
+use Rattle.wire.proofs.Basics.{_∙_, sym, _≡_, ap, refl, subst, ℕ, _<_, min, List, true, false, Bool, _||_, not, some, none, Option, length, set, length-replicate, getD-replicate, eqb, eqb-true, arith}
 use Rattle.wire.specs.Choice.{pick}
 use Rattle.wire.proofs.Choices.{and-l, and-r}
 use Rattle.datagram.specs.Limits.{maxFragments}

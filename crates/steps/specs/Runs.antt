@@ -2,9 +2,10 @@
 use mathlib.Core.Option.{Option}
 use mathlib.Core.List.{List, [], _∷_, zipWith}
 use Prim.Native.Nat.{ℕ}
-use lib.ListN.{length}
+use lib.ListN.{length, replicate}
 use Rattle.datagram.specs.Limits.{maxFragments}
 use Rattle.datagram.specs.Said.{said}
+use Rattle.steps.specs.Limits.{ledgerLength}
 use Rattle.steps.specs.Memory.{Key, keyOf}
 use Rattle.steps.specs.Receive.{Machine, After, opened, step, sequenceOf}
 use Rattle.steps.specs.Answers.{Reply, reply, emptiedKey}
@@ -25,6 +26,10 @@ worldOf a = lending (a .machine) (a .store) (a .ledger)
 -- a fresh receiver
 abbrev pub fresh : List ℕ → List ℕ → World
 fresh store ledger = lending (opened (length store)) store ledger
+
+-- a fresh receiver over a store of so many bytes, nothing in it and in the ledger yet
+unfoldable pub begun : ℕ → World
+begun size = lending (opened size) (replicate size 0) (replicate ledgerLength 0)
 
 -- a datagram comes, of that sender
 pub record Arrival : Type 0 where

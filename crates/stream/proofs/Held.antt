@@ -1,10 +1,5 @@
 -- The whole input in a buffer. Assumes nothing.
-use mathlib.Core.Path.{_≡_, refl, sym}
-use mathlib.Core.List.{List, _++_}
-use Prim.Native.Nat.{ℕ}
-use native.Mathlib.Omega.{arith}
-use lib.ListN.{length, take, length-append}
-use lib.Seq.{length-take-le, take-at}
+use Rattle.wire.proofs.Basics.{sym, _≡_, refl, ℕ, List, _++_, length, take, length-append, length-take-le, take-at, arith}
 use Rattle.stream.specs.Whole.{Held, Exceeds}
 use Rattle.stream.specs.InsideWindows.{Grown}
 

@@ -1,11 +1,5 @@
 -- For the bytes that came, no second answer satisfies a contract of the input. Assumes nothing.
-use mathlib.Core.Path.{_≡_, ap, sym, _∙_, subst}
-use mathlib.Core.Bool.{true}
-use mathlib.Core.List.{List, [], _++_}
-use Prim.Native.Nat.{ℕ, _+_, _-_, _<_, min}
-use native.Mathlib.Omega.{arith}
-use lib.ListN.{length, take, drop}
-use lib.Seq.{slice}
+use Rattle.wire.proofs.Basics.{_∙_, sym, _≡_, ap, subst, ℕ, _+_, _<_, _-_, min, List, [], _++_, true, length, drop, take, slice, arith}
 use Rattle.wire.proofs.Choices.{never}
 use Rattle.stream.specs.declared.Kind.{Kind}
 use Rattle.stream.specs.declared.Input.{Input}

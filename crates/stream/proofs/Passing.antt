@@ -1,10 +1,6 @@
 -- Bytes that come after a place: what stays, what is unread then, and what is dropped. Assumes nothing.
-use mathlib.Core.Path.{_≡_, refl, ap, sym, _∙_, subst}
-use mathlib.Core.List.{List, [], _++_, append-nil, append-assoc}
-use Prim.Native.Nat.{ℕ, _+_, _-_, _≤_, _<_}
-use native.Mathlib.Omega.{arith}
-use lib.ListN.{length, take, drop, length-append}
-use lib.Seq.{slice, length-slice, drop-append-add, take-take}
+use Rattle.wire.proofs.Basics.{_∙_, sym, _≡_, ap, refl, subst, ℕ, _≤_, _+_, _<_, _-_, List, [], _++_, append-assoc, append-nil, length, drop, take, length-append, slice, take-take, arith}
+use lib.Seq.{length-slice, drop-append-add}
 use Rattle.stream.specs.InsideWindows.{Grown, Gone, Lacking}
 use Rattle.stream.proofs.Slices.{slice-split, slice-rest}
 

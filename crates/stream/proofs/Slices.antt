@@ -1,13 +1,8 @@
 -- Laws of the part of a list from one place up to another. Assumes nothing.
-use mathlib.Core.Path.{_≡_, refl, ap, sym, _∙_}
-use mathlib.Core.List.{List, [], _∷_, _++_}
-use Prim.Native.Nat.{ℕ, zero, suc, _+_, _-_, _≤_, _<_, min}
-use native.Mathlib.Nat.{zero-add, suc-add}
-use native.Mathlib.Numerals.{add-one}
-use native.Mathlib.Decide.{decLe}
-use native.Mathlib.Omega.{arith}
-use lib.ListN.{length, take, drop, set, getD, length-drop, take-append-drop, drop-of-length-le, length-set}
-use lib.Seq.{slice, take-nil, take-take, take-all, drop-drop, drop-append-le, take-append-le, length-take-le, take-suc-set, take-suc, drop-set-lt, getD-drop}
+use Rattle.wire.proofs.Basics.{_∙_, sym, _≡_, ap, refl, ℕ, _≤_, _+_, _<_, _-_, suc, zero, min, List, [], _∷_, _++_, length, drop, getD, take, length-drop, set, length-set, drop-of-length-le}
+use Rattle.wire.proofs.Basics.{take-append-drop, length-take-le, drop-drop, take-all, slice, getD-drop, take-suc, take-take, drop-append-le, zero-add, decLe, add-one, arith}
+use native.Mathlib.Nat.{suc-add}
+use lib.Seq.{take-nil, take-append-le, take-suc-set, drop-set-lt}
 
 pub take-drop : (m n : ℕ) (x : List ℕ) → take n (drop m x) ≡ drop m (take (m + n) x)
 take-drop zero n x = ap (λ (k : ℕ). take k x) (sym (zero-add n))

@@ -1,13 +1,8 @@
 -- How a record is taken from the unread bytes and from what comes. Assumes nothing.
-use mathlib.Core.Path.{_≡_, refl, ap, sym, _∙_, subst}
-use mathlib.Core.Bool.{true, false}
-use mathlib.Core.List.{List, [], _++_, append-assoc}
-use Prim.Native.Nat.{ℕ, zero, suc, _+_, _-_, _*_, _≤_, _<_, min}
-use native.Mathlib.Omega.{arith}
-use lib.ListN.{length, take, drop, getD, length-append, length-drop, List·getD-append}
-use lib.Seq.{slice, length-slice, take-take, drop-append-le, drop-drop, slice-empty}
-use lib.Dec.{leb}
-use borrow.Author.Tests.{le-leb, lt-leb}
+use Rattle.wire.proofs.Basics.{_∙_, sym, _≡_, ap, refl, subst, ℕ, _≤_, _+_, _<_, _-_, suc, zero, _*_, min, List, [], _++_, append-assoc, true, false, length, drop, getD, take, length-append}
+use Rattle.wire.proofs.Basics.{length-drop, drop-drop, slice, take-take, drop-append-le, leb, le-leb, lt-leb, arith}
+use lib.ListN.{List·getD-append}
+use lib.Seq.{length-slice, slice-empty}
 use Rattle.wire.specs.Bytes.{be}
 use Rattle.wire.proofs.Choices.{and-of, and-false}
 use Rattle.stream.specs.declared.Kind.{Kind}

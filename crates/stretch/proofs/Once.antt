@@ -1,7 +1,5 @@
 -- NO SECOND ANSWER satisfies the contract of `count_on`, for the machine shown. Assumes nothing.
-use mathlib.Core.Path.{_≡_, sym, _∙_}
-use mathlib.Core.List.{List}
-use Prim.Native.Nat.{ℕ}
+use Rattle.wire.proofs.Basics.{_∙_, sym, _≡_, ℕ, List}
 use Rattle.pit_marks.specs.declared.Sizes.{Sizes}
 use Rattle.stretch.specs.declared.Stretch.{Stretch}
 use Rattle.stretch.specs.Stretch.{Desk, kitOf, CountsOn}

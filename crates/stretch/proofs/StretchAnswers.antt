@@ -1,14 +1,6 @@
 -- WHAT A STRETCH ANSWERS: against which nothing stood, the answers to its entries; a refusal is no 0. Assumes nothing.
-use mathlib.Core.Path.{_≡_, refl, sym, ap, _∙_}
-use mathlib.Core.Bool.{Bool, true, false}
-use mathlib.Core.List.{List, [], _∷_, _++_}
-use Prim.Native.Nat.{ℕ, zero, suc, _+_}
-use native.Mathlib.Omega.{arith}
-use lib.Dec.{eqb, leb}
-use lib.IntN.{ℤ}
-use lib.ListN.{length, length-append}
+use Rattle.wire.proofs.Basics.{_∙_, sym, _≡_, ap, refl, ℕ, _+_, suc, zero, List, [], _∷_, _++_, true, false, Bool, length, length-append, eqb, leb, ℤ, eqb-false, arith}
 use lib.Seq.{length-sets}
-use borrow.Author.Tests.{eqb-false}
 use Rattle.wire.specs.Choice.{pick}
 use Rattle.wire.proofs.Choices.{zero-is-one, pick-all}
 use Rattle.steps.specs.Answers.{Reply, refusedBy, kept, repeat, delivered}

@@ -1,18 +1,7 @@
 -- Laws of numbers as text. Assumes nothing.
-use mathlib.Core.Path.{_≡_, refl, ap, sym, _∙_}
-use mathlib.Core.Bool.{Bool, true, false}
-use mathlib.Core.List.{List, [], _∷_, _++_}
-use Prim.Native.Nat.{ℕ, zero, suc, _+_, _-_, _*_, _/_, _%_, _^_, _≤_, _<_}
-use native.Mathlib.Nat.{pow-suc}
-use native.Mathlib.Numerals.{add-one}
-use native.Mathlib.Decide.{decLe}
-use native.Mathlib.Omega.{arith}
-use lib.ListN.{length, getD, take, length-append}
-use lib.Seq.{take-suc}
-use lib.IntN.{ℤ, pos, negsuc, natAbs}
+use Rattle.wire.proofs.Basics.{_∙_, sym, _≡_, ap, refl, ℕ, _≤_, _+_, _<_, _-_, suc, zero, _*_, _^_, _%_, _/_, List, [], _∷_, _++_, true, false, Bool, length, getD, take, length-append, take-suc, ltb}
+use Rattle.wire.proofs.Basics.{ℤ, pos, negsuc, natAbs, le-ltb, lt-ltb, ltb-false, ltb-true, pow-suc, decLe, add-one, arith}
 use lib.Signed.{ltZ}
-use lib.Dec.{ltb}
-use borrow.Author.Tests.{lt-ltb, le-ltb, ltb-true, ltb-false}
 use Rattle.wire.specs.Choice.{pick}
 use Rattle.wire.specs.Inside.{Within}
 use Rattle.wire.proofs.Choices.{never}

@@ -1,13 +1,6 @@
 -- The pits of a tile mean what the request says, over sets that hold the marks of lists; and the same of a call. Assumes nothing.
-use mathlib.Core.Path.{_≡_, refl, sym, ap, _∙_, subst}
-use mathlib.Core.Logic.{inl, inr, _↔_}
-use mathlib.Core.Bool.{Bool, true, false}
-use mathlib.Core.List.{List, [], _∷_}
-use Prim.Native.Nat.{ℕ, zero, suc, _%_, _≤_, _<_}
-use native.Mathlib.Omega.{arith}
-use lib.Dec.{ltb}
-use lib.ListN.{length, take}
-use borrow.Author.Tests.{ltb-false, eq-eqb}
+use Rattle.wire.proofs.Basics.{_∙_, sym, _≡_, ap, refl, subst, ℕ, _≤_, _<_, suc, zero, _%_, List, [], _∷_, true, false, Bool, inl, inr, length, take, ltb, eq-eqb, ltb-false, arith}
+use mathlib.Core.Logic.{_↔_}
 use Rattle.wire.specs.Choice.{pick}
 use Rattle.wire.specs.Overlay.{overlay}
 use Rattle.wire.specs.Slices.{_⇒_}

@@ -1,7 +1,5 @@
 -- NO SECOND ANSWER satisfies the contract of `pits_from`, nor leaves other outputs. Assumes nothing.
-use mathlib.Core.Path.{_≡_, sym, _∙_}
-use mathlib.Core.List.{List}
-use Prim.Native.Nat.{ℕ}
+use Rattle.wire.proofs.Basics.{_∙_, sym, _≡_, ℕ, List}
 use Rattle.wire.specs.Slices.{_⇒_}
 use Rattle.tile_pits.specs.declared.Pits.{Pits}
 use Rattle.tile_pits.specs.Pits.{Map, GivesPits}

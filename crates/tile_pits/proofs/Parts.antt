@@ -1,13 +1,6 @@
 -- A tile's part of the keys in lent words is what its lists mark: for the pits and for the sure ones alike. Assumes nothing.
-use mathlib.Core.Path.{_≡_, refl, sym, ap, _∙_, subst}
-use mathlib.Core.Logic.{inl, inr}
-use mathlib.Core.Bool.{true}
-use mathlib.Core.List.{List, [], _∷_, map}
-use Prim.Native.Nat.{ℕ, zero, suc, _+_, _-_, _%_, _≤_, _<_}
-use native.Mathlib.Omega.{arith}
-use lib.Dec.{ltb, eqb}
-use lib.ListN.{length, getD}
-use borrow.Author.Tests.{ltb-true, ltb-false, eqb-true, lt-ltb, eq-eqb}
+use Rattle.wire.proofs.Basics.{_∙_, sym, _≡_, ap, refl, subst, ℕ, _≤_, _+_, _<_, _-_, suc, zero, _%_, List, [], _∷_, map, true, inl, inr, length, getD, eqb, ltb, eq-eqb, lt-ltb, eqb-true, ltb-false}
+use Rattle.wire.proofs.Basics.{ltb-true, arith}
 use Rattle.wire.proofs.Choices.{either, and-l, and-r}
 use Rattle.words.specs.Builds.{build}
 use Rattle.words.proofs.Builds.{length-build, getD-build}

@@ -1,12 +1,5 @@
 -- The ways in which the pits of a tile are given. Assumes nothing.
-use mathlib.Core.Path.{_≡_, sym, ap, _∙_}
-use mathlib.Core.Bool.{true, false}
-use mathlib.Core.List.{List}
-use Prim.Native.Nat.{ℕ, suc, _+_, _%_, _≤_, _<_}
-use native.Mathlib.Omega.{arith}
-use lib.Dec.{ltb}
-use lib.ListN.{length, getD}
-use borrow.Author.Tests.{lt-ltb, le-ltb, eq-eqb, ne-eqb}
+use Rattle.wire.proofs.Basics.{_∙_, sym, _≡_, ap, ℕ, _≤_, _+_, _<_, suc, _%_, List, true, false, length, getD, ltb, eq-eqb, le-ltb, ne-eqb, lt-ltb, arith}
 use Rattle.wire.specs.Choice.{pick}
 use Rattle.wire.specs.Slices.{_⇒_}
 use Rattle.wire.proofs.Choices.{pick-all, or-of-right}

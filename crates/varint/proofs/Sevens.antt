@@ -1,15 +1,8 @@
 -- Seven-bit numbers: what is written reads back, and what is read is what would be written. Each law once over the number of groups. Assumes nothing.
-use mathlib.Core.Path.{_≡_, refl, ap, sym, _∙_, subst}
-use mathlib.Core.Bool.{Bool, true, false}
-use mathlib.Core.List.{List, [], _∷_, _++_}
-use Prim.Native.Nat.{ℕ, zero, suc, _+_, _-_, _*_, _/_, _%_, _^_, _≤_, _<_}
-use native.Mathlib.Nat.{pow-suc, one-le-pow, pow-le-pow-right, not-suc-le-zero}
-use native.Mathlib.Numerals.{add-one}
-use native.Mathlib.Omega.{arith}
-use lib.Dec.{eqb, ltb}
-use lib.ListN.{length, getD, set, drop, length-append, length-drop, drop-of-length-le}
-use lib.Seq.{drop-cons, drop-drop, drop-append-seam}
-use borrow.Author.Tests.{lt-ltb, le-ltb, ltb-true, ltb-false, eqb-false, ne-eqb}
+use Rattle.wire.proofs.Basics.{_∙_, sym, _≡_, ap, refl, subst, ℕ, _≤_, _+_, _<_, _-_, suc, zero, _*_, _^_, _%_, _/_, List, [], _∷_, _++_, true, false, Bool, length, drop, getD, length-append}
+use Rattle.wire.proofs.Basics.{length-drop, set, drop-of-length-le, drop-drop, drop-cons, drop-append-seam, eqb, ltb, le-ltb, ne-eqb, lt-ltb, ltb-false, ltb-true, eqb-false, not-suc-le-zero, pow-suc}
+use Rattle.wire.proofs.Basics.{pow-le-pow-right, add-one, arith}
+use native.Mathlib.Nat.{one-le-pow}
 use Rattle.wire.specs.Bytes.{Bytes}
 use Rattle.wire.specs.Choice.{pick}
 use Rattle.wire.specs.Overlay.{overlay}

@@ -1,10 +1,5 @@
 -- Laws of verdicts: the header's verdict says what the step list's does, and what is known of each case.
-use mathlib.Core.Path.{_≡_, refl, sym, _∙_, ap}
-use mathlib.Core.Bool.{Bool, true, false}
-use mathlib.Core.Option.{Option, none, some}
-use mathlib.Core.List.{List}
-use Prim.Native.Nat.{ℕ}
-use lib.ListN.{length, getD}
+use Rattle.wire.proofs.Basics.{_∙_, sym, _≡_, ap, refl, ℕ, List, true, false, Bool, some, none, Option, length, getD}
 use Rattle.wire.specs.Choice.{pick}
 use Rattle.datagram.specs.Limits.{maxFragments}
 use Rattle.datagram.specs.Read.{readDatagram, partOf}

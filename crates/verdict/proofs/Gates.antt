@@ -1,13 +1,5 @@
 -- What is known behind the gates: of a state that is not refused by 9, and of a header that was read.
-use mathlib.Core.Path.{_≡_, refl, _∙_, subst}
-use mathlib.Core.Bool.{Bool, true, false, _&&_}
-use mathlib.Core.List.{List}
-use Prim.Native.Nat.{ℕ, _<_, _^_}
-use native.Mathlib.Decide.{ℕ-discrete}
-use native.Mathlib.Omega.{arith}
-use lib.Dec.{eqb}
-use lib.ListN.{length, getD}
-use borrow.Author.Tests.{eqb-true}
+use Rattle.wire.proofs.Basics.{_∙_, _≡_, refl, subst, ℕ, _<_, _^_, List, true, false, Bool, _&&_, length, getD, eqb, eqb-true, ℕ-discrete, arith}
 use Rattle.wire.specs.Choice.{pick}
 use Rattle.wire.proofs.Choices.{never, and-l, and-r}
 use Rattle.datagram.specs.Limits.{maxFragments}

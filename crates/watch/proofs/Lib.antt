@@ -1,5 +1,4 @@
 pub mod Places
-pub mod Differences
 pub mod WatchCases
 pub mod Unique
 pub mod Runs

@@ -1,14 +1,6 @@
 -- Laws of a sender's place in a list. Assumes nothing.
-use mathlib.Core.Path.{_≡_, refl, ap, sym, _∙_}
-use mathlib.Core.Bool.{Bool, true, false}
-use mathlib.Core.List.{List, [], _∷_, _++_}
-use Prim.Native.Nat.{ℕ, suc, _+_, _≤_, _<_}
-use native.Mathlib.Numerals.{add-one}
-use native.Mathlib.Omega.{arith}
-use lib.ListN.{length, drop, getD, drop-of-length-le}
-use lib.Seq.{drop-cons}
-use lib.Dec.{eqb}
-use borrow.Author.Tests.{eq-eqb, ne-eqb, eqb-true}
+use Rattle.wire.proofs.Basics.{_∙_, sym, _≡_, ap, refl, ℕ, _≤_, _+_, _<_, suc, List, [], _∷_, _++_, true, false, Bool, length, drop, getD, drop-of-length-le, drop-cons, eqb, eq-eqb, ne-eqb, eqb-true}
+use Rattle.wire.proofs.Basics.{add-one, arith}
 use Rattle.wire.specs.Choice.{pick}
 use Rattle.watch.specs.Senders.{place}
 

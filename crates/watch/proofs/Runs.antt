@@ -1,52 +1,20 @@
 -- A run of one sender's numbers: s+1, s+2, .. misses nothing, for as long as one likes and across the wrap, and what any run of Forwards
 -- reports missing is the distance gone less the arrivals. Assumes nothing.
-use mathlib.Core.Path.{_≡_, refl, ap, sym, _∙_, subst}
-use mathlib.Core.Bool.{Bool, true, false}
-use mathlib.Core.List.{List, [], _∷_, map}
-use Prim.Native.Nat.{ℕ, zero, suc, _+_, _-_, _%_, _^_, _≤_, _<_}
-use native.Mathlib.Numerals.{add-one}
-use native.Mathlib.Omega.{arith}
-use lib.ListN.{length, take, set, getD, replicate, length-set}
-use lib.Seq.{set-getD, getD-take, getD-set-same, take-suc-set, length-take-le}
-use lib.IntN.{ℤ, pos, negsuc}
-use lib.Dec.{leb}
-use Rattle.wire.specs.Choice.{pick}
-use Rattle.wire.specs.Signed.{signed, unsigned}
+use Rattle.wire.proofs.Basics.{_∙_, sym, _≡_, ap, refl, subst, ℕ, _≤_, _+_, _<_, _-_, suc, zero, _^_, _%_, List, [], _∷_, map, true, length, getD, take, set, replicate, length-set, length-take-le}
+use Rattle.wire.proofs.Basics.{getD-take, getD-set-same, add-one, arith}
+use lib.Seq.{set-getD, take-suc-set}
 use Rattle.wire.specs.Sum.{sum}
-use Rattle.wire.proofs.Signs.{signed-low, unsigned-signed}
 use Rattle.watch.specs.declared.Watch.{Watch}
-use Rattle.watch.specs.Limits.{maxSenders, mostLate}
-use Rattle.watch.specs.Noted.{Noted, first, forward, late, restarted}
-use Rattle.watch.specs.Difference.{difference, told}
+use Rattle.watch.specs.Limits.{maxSenders}
+use Rattle.differences.specs.Limits.{mostLate}
+use Rattle.differences.specs.Noted.{Noted, first, forward, restarted, moves}
+use Rattle.differences.specs.Difference.{difference, told}
 use Rattle.watch.specs.Senders.{empty, place, senderPlace, moved}
-use Rattle.watch.specs.Watching.{asked, moves, after}
+use Rattle.watch.specs.Watching.{asked, after}
 use Rattle.watch.specs.Runs.{answers, afterAll, shown, distance, final, Counters, Steps, Whole, Last}
-use Rattle.watch.proofs.Differences.{restarted-number, back-restarts}
+use Rattle.differences.proofs.Differences.{restarted-number, back-restarts, forward-distance, step-told, cons-eq}
 use Rattle.watch.proofs.Places.{place-at, place-new}
 use Rattle.watch.proofs.WatchCases.{asked-known, asked-new, moved-known, moved-new, after-moves}
-
--- ---- one step
-
--- Forward says by how much
-below-forward : (t : Bool) (k n m : ℕ) → pick t (late (suc n)) (restarted k) ≡ forward m → ⊥
-below-forward true k n m e = let z : _≡_ {A = ℕ} 0 1 = cc in omega arith
-below-forward false k n m e = let z : _≡_ {A = ℕ} 0 1 = cc in omega arith
-
-told-forward : (k : ℕ) (d : ℤ) (m : ℕ) → told k d ≡ forward m → d ≡ pos (suc m)
-told-forward k (pos zero) m e = absurd (let z : _≡_ {A = ℕ} 0 1 = cc in omega arith)
-told-forward k (pos (suc n)) m e = cc
-told-forward k (negsuc n) m e = absurd (below-forward (leb (suc n) mostLate) k n m e)
-
--- so the counter went one further than is missing
-pub forward-distance : (n s m : ℕ) → told n (difference n s) ≡ forward m → (n + (2 ^ 32 - s)) % 2 ^ 32 ≡ suc m
-forward-distance n s m e =
-    sym (unsigned-signed 32 ((n + (2 ^ 32 - s)) % 2 ^ 32) (omega arith)) ∙ ap (unsigned 32) (told-forward n (difference n s) m e)
-
--- a step forward is one more than the numbers that it leaves out
-pub step-told : (s d : ℕ) → s < 2 ^ 32 → 1 ≤ d → d < 2 ^ 31 → let n : ℕ = (s + d) % 2 ^ 32 in told n (difference n s) ≡ forward (d - 1)
-step-told s d h l k =
-    let u : ((s + d) % 2 ^ 32 + (2 ^ 32 - s)) % 2 ^ 32 ≡ suc (d - 1) = omega arith in
-    ap (told ((s + d) % 2 ^ 32)) (ap (signed 32) u ∙ signed-low 32 (suc (d - 1)) (omega arith))
 
 module _ {w : Watch} {sender s : ℕ} (last : Last w sender s) where
   -- what is asked of a sender that has a last number goes by the difference to it
@@ -155,9 +123,6 @@ gone-more s n m l missing hs hn e g =
       arrivals = omega (arith, g .arrivals);
       arrived = (let p : (s + ((n + (2 ^ 32 - s)) % 2 ^ 32 + distance n l)) % 2 ^ 32 ≡ (n + distance n l) % 2 ^ 32 = omega arith in p) ∙ g .arrived;
     }
-
-pub cons-eq : {x : Noted} {a b : List Noted} {y : Noted} → _≡_ {A = List Noted} (x ∷ a) (y ∷ b) → (x ≡ y) × (a ≡ b)
-cons-eq e = (cc, cc)
 
 -- Over any run of Forwards the sum of the missing is the distance gone less the arrivals, and the distance leads from the first last number
 -- to the final one.

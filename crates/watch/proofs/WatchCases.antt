@@ -1,15 +1,11 @@
 -- The watch by its cases, one law for each answer and each move. Assumes nothing.
-use mathlib.Core.Path.{_≡_, refl, sym, _∙_}
-use mathlib.Core.Bool.{true, false}
-use Prim.Native.Nat.{ℕ, _+_, _≤_, _<_}
-use lib.ListN.{set, getD}
-use borrow.Author.Tests.{lt-ltb, le-ltb, le-leb, lt-leb}
+use Rattle.wire.proofs.Basics.{_∙_, sym, _≡_, refl, ℕ, _≤_, _+_, _<_, true, false, getD, set, le-ltb, lt-ltb, le-leb, lt-leb}
 use Rattle.watch.specs.declared.Watch.{Watch}
 use Rattle.watch.specs.Limits.{maxSenders}
-use Rattle.watch.specs.Noted.{Noted, first, same, late, restarted, refused}
-use Rattle.watch.specs.Difference.{difference, told}
+use Rattle.differences.specs.Noted.{Noted, first, same, late, restarted, refused, moves}
+use Rattle.differences.specs.Difference.{difference, told}
 use Rattle.watch.specs.Senders.{senderPlace, setLast, moved}
-use Rattle.watch.specs.Watching.{asked, askedAt, moves, after}
+use Rattle.watch.specs.Watching.{asked, askedAt, after}
 
 module _ (w : Watch) (sender number : ℕ) where
   -- it claims more than 16

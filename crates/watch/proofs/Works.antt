@@ -1,6 +1,5 @@
 -- Every worked case gives what the paper says, computed in one statement. Assumes nothing.
-use mathlib.Core.Path.{_≡_, refl}
-use mathlib.Core.List.{map}
+use Rattle.wire.proofs.Basics.{_≡_, refl, map}
 use Rattle.watch.specs.Senders.{setLast, moved}
 use Rattle.watch.specs.Watching.{askedAt, asked, after}
 use Rattle.watch.specs.Worked.{noted, Case, cases}

@@ -5,7 +5,7 @@ use Prim.Native.Nat.{ℕ, _+_, _-_, _%_, _^_, _≤_, _<_}
 use lib.ListN.{length, getD}
 use Rattle.watch.specs.declared.Watch.{Watch}
 use Rattle.watch.specs.Limits.{maxSenders}
-use Rattle.watch.specs.Noted.{Noted}
+use Rattle.differences.specs.Noted.{Noted}
 use Rattle.watch.specs.Senders.{senderPlace}
 use Rattle.watch.specs.Watching.{asked, after}
 

@@ -1,6 +1,5 @@
 -- What the watch says of a sender's number, and the watch afterwards. Definitions only.
 use mathlib.Core.Path.{_≡_}
-use mathlib.Core.Bool.{Bool, true, false}
 use Prim.Native.Nat.{ℕ}
 use lib.ListN.{getD}
 use lib.Dec.{ltb, leb}
@@ -8,8 +7,8 @@ use Rattle.wire.specs.Choice.{pick, _when_else_}
 use Rattle.watch.specs.declared.Watch.{Watch}
 use Rattle.watch.specs.declared.Seen.{Seen}
 use Rattle.watch.specs.Limits.{maxSenders}
-use Rattle.watch.specs.Noted.{Noted, first, forward, same, late, restarted, refused, notes}
-use Rattle.watch.specs.Difference.{difference, told}
+use Rattle.differences.specs.Noted.{Noted, first, refused, notes, moves}
+use Rattle.differences.specs.Difference.{difference, told}
 use Rattle.watch.specs.Senders.{senderPlace, moved}
 
 -- at a sender's place: First for a new sender while there is room, else what the difference to its last number says
@@ -21,15 +20,6 @@ askedAt w number at =
 
 unfoldable pub asked : Watch → ℕ → ℕ → Noted
 asked w sender number = pick (leb (w .count) maxSenders) (askedAt w number (senderPlace w sender)) (refused 14)
-
--- Same, Late and a refusal do not move the watch
-abbrev pub moves : Noted → Bool
-moves first = true
-moves (forward missing) = true
-moves same = false
-moves (late by) = false
-moves (restarted number) = true
-moves (refused number) = false
 
 unfoldable pub after : Watch → ℕ → ℕ → Watch
 after w sender number = pick (moves (asked w sender number)) (moved w sender number) w

@@ -3,7 +3,7 @@ use mathlib.Core.List.{List, [], _∷_, _++_, map}
 use Prim.Native.Nat.{ℕ}
 use lib.ListN.{replicate}
 use Rattle.watch.specs.declared.Watch.{Watch}
-use Rattle.watch.specs.Noted.{Noted, first, forward, same, late, restarted, refused}
+use Rattle.differences.specs.Noted.{Noted, first, forward, same, late, restarted, refused}
 use Rattle.watch.specs.Senders.{empty}
 use Rattle.watch.specs.Watching.{asked, after}
 

@@ -1,37 +1,21 @@
 // The sequence watch: for each of at most 16 senders the last number that moved it, in order of first number. It answers what a new
 // number says about those between. The state goes in by value and comes back.
 ghost use mathlib.Core.Path.{_≡_};
-ghost use mathlib.Core.Bool.{true};
 ghost use Prim.Native.Nat.{_≤_};
-ghost use lib.IntN.{pos, natAbs};
-ghost use lib.Signed.{ltZ};
 ghost use lib.ListN.{length, take};
-ghost use Rattle.watch.specs.Noted.{notes, notedCode};
-ghost use Rattle.watch.specs.Difference.{difference, told};
+ghost use Rattle.differences.specs.Noted.{notes};
 ghost use Rattle.watch.specs.Senders.{empty, place, moved};
-ghost use Rattle.watch.specs.Watching.{asked, moves, Result};
+ghost use Rattle.watch.specs.Watching.{asked, Result};
+use differences::Answer;
 
 // How many senders a watch has room for.
 pub const SENDERS: usize = 16;
-
-// Late by as much stays Late; by more it is a restart.
-pub const MOST_LATE: u32 = 1024;
 
 // The first `count` places are in use: a sender, and the last number that moved its watch.
 pub struct Watch {
     pub senders: [u64; SENDERS],
     pub lasts: [u32; SENDERS],
     pub count: usize,
-}
-
-// What the watch says of a number: how many are missing before it, by how many it is late, or that the sender restarted there.
-pub enum Answer {
-    First,
-    Forward(u32),
-    Same,
-    Late(u32),
-    Restarted(u32),
-    Refused(u32),
 }
 
 // The answer and the watch afterwards.
@@ -49,47 +33,6 @@ pub fn new() -> Watch
         lasts: [0; SENDERS],
         count: 0,
     }
-}
-
-// New minus last, modulo 2^32, read as a signed number. The upper half is counted down from -1, since no cast may lose bits.
-pub fn sequence_difference(new: u32, last: u32) -> i32
-    ensures { λ r. ⌜ r ≡ difference new last ⌝ }
-{
-    let u = std::num::wrapping_sub_u32(new, last);
-    if u < 2147483648 {
-        return u as i32;
-    }
-    let k = 4294967295 - u;
-    let m = k as i32;
-    -1 - m
-}
-
-// The negation of a number below 0. That of the lowest is no i32, so it is taken by way of -1 - d.
-fn negated(d: i32) -> u32
-    requires { ⌜ ltZ d (pos 0) ≡ true ⌝ }
-    ensures { λ r. ⌜ r ≡ natAbs d ⌝ }
-{
-    let m = -1 - d;
-    let k = m as u32;
-    k + 1
-}
-
-// What a difference says of a number.
-pub fn tell(number: u32, d: i32) -> Answer
-    ensures { λ r. ⌜ notes r ≡ told number d ⌝ }
-{
-    if d < 0 {
-        let by = negated(d);
-        if by <= MOST_LATE {
-            return Answer::Late(by);
-        }
-        return Answer::Restarted(number);
-    }
-    let u = d as u32;
-    if u == 0 {
-        return Answer::Same;
-    }
-    Answer::Forward(u - 1)
 }
 
 // Where a sender stands among the first `count`, or `count`.
@@ -117,7 +60,10 @@ pub fn ask(w: Watch, sender: u64, number: u32) -> Answer
     }
     let at = find(&w.senders, count, sender);
     if at < count {
-        return tell(number, sequence_difference(number, w.lasts[at]));
+        return differences::tell(
+            number,
+            differences::sequence_difference(number, w.lasts[at]),
+        );
     }
     if at < SENDERS {
         return Answer::First;
@@ -146,40 +92,12 @@ pub fn move_to(w: Watch, sender: u64, number: u32) -> Watch
     next
 }
 
-// Whether an answer moves the watch: Same, Late and a refusal do not.
-pub fn does_move(answer: Answer) -> bool
-    ensures { λ r. ⌜ r ≡ moves (notes answer) ⌝ }
-{
-    match answer {
-        Answer::First => true,
-        Answer::Forward(_) => true,
-        Answer::Same => false,
-        Answer::Late(_) => false,
-        Answer::Restarted(_) => true,
-        Answer::Refused(_) => false,
-    }
-}
-
-// What the watch says, as one number: the kind times 2^32 and the number beside it, or the number of the refusal.
-pub fn noted_code(answer: Answer) -> u64
-    ensures { λ r. ⌜ r ≡ notedCode (notes answer) ⌝ }
-{
-    match answer {
-        Answer::First => 4294967296,
-        Answer::Forward(missing) => 2 * 4294967296 + missing as u64,
-        Answer::Same => 3 * 4294967296,
-        Answer::Late(by) => 4 * 4294967296 + by as u64,
-        Answer::Restarted(number) => 5 * 4294967296 + number as u64,
-        Answer::Refused(number) => number as u64,
-    }
-}
-
 // Asks, and moves the watch where the answer does.
 pub fn see(w: Watch, sender: u64, number: u32) -> Seen
     ensures { λ r. ⌜ Result w sender number r ⌝ }
 {
     let answer = ask(w, sender, number);
-    if does_move(answer) {
+    if differences::does_move(answer) {
         let watch = move_to(w, sender, number);
         return Seen { answer, watch };
     }

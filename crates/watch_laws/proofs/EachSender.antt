@@ -1,25 +1,16 @@
 -- ONE WATCH FOR EACH SENDER. Assumes nothing.
-use mathlib.Core.Path.{_≡_, refl, sym, ap, _∙_, subst}
-use mathlib.Core.Logic.{_≢_, inl, inr}
-use mathlib.Core.Bool.{Bool, true, false}
-use mathlib.Core.Option.{Option, none, some}
-use mathlib.Core.List.{List, [], _∷_, _++_}
-use Prim.Native.Nat.{ℕ, suc, _+_, _≤_, _<_}
-use native.Mathlib.Numerals.{add-one}
-use native.Mathlib.Omega.{arith}
-use native.Mathlib.Decide.{decLt, ℕ-discrete}
-use lib.Dec.{eqb, ltb}
-use lib.ListN.{length, take, set, getD, length-set}
-use lib.Seq.{set-getD, getD-take, getD-set-same, getD-set-other, take-suc-set, length-take-le}
-use borrow.Author.Tests.{eq-eqb, ne-eqb, lt-ltb, le-ltb}
+use Rattle.wire.proofs.Basics.{_∙_, sym, _≡_, ap, refl, subst, ℕ, _≤_, _+_, _<_, suc, List, [], _∷_, _++_, true, false, Bool, inl, inr, _≢_, some, none, Option, length, getD, take, set, length-set}
+use Rattle.wire.proofs.Basics.{length-take-le, getD-set-other, getD-take, getD-set-same, eqb, ltb, eq-eqb, le-ltb, ne-eqb, lt-ltb, ℕ-discrete, add-one, arith}
+use native.Mathlib.Decide.{decLt}
+use lib.Seq.{set-getD, take-suc-set}
 use Rattle.wire.specs.Choice.{pick}
 use Rattle.wire.proofs.Choices.{either}
 use Rattle.watch.specs.declared.Watch.{Watch}
 use Rattle.watch.specs.Limits.{maxSenders}
-use Rattle.watch.specs.Noted.{Noted, first, refused}
-use Rattle.watch.specs.Difference.{difference, told}
+use Rattle.differences.specs.Noted.{Noted, first, refused, moves}
+use Rattle.differences.specs.Difference.{difference, told}
 use Rattle.watch.specs.Senders.{place, senderPlace}
-use Rattle.watch.specs.Watching.{asked, moves, after}
+use Rattle.watch.specs.Watching.{asked, after}
 use Rattle.watch.specs.Runs.{answers}
 use Rattle.watch.specs.Worked.{Come, noted}
 use Rattle.watch.proofs.Places.{place-le, place-at, place-new}

@@ -1,6 +1,5 @@
 -- The worked senders are answered as worked. Assumes nothing.
-use mathlib.Core.Path.{_≡_, refl}
-use mathlib.Core.List.{map}
+use Rattle.wire.proofs.Basics.{_≡_, refl, map}
 use Rattle.watch.specs.Senders.{empty, setLast, moved}
 use Rattle.watch.specs.Watching.{askedAt, asked, after}
 use Rattle.watch.specs.Worked.{noted}

@@ -10,9 +10,9 @@ use lib.ListN.{getD}
 use Rattle.wire.specs.Choice.{pick}
 use Rattle.watch.specs.declared.Watch.{Watch}
 use Rattle.watch.specs.Limits.{maxSenders}
-use Rattle.watch.specs.Noted.{Noted, first, forward, same, late, restarted, refused}
+use Rattle.differences.specs.Noted.{Noted, first, forward, same, late, restarted, refused, moves}
 use Rattle.watch.specs.Senders.{senderPlace}
-use Rattle.watch.specs.Watching.{asked, moves, after}
+use Rattle.watch.specs.Watching.{asked, after}
 use Rattle.watch.specs.Runs.{answers, Whole}
 use Rattle.watch.specs.Worked.{Come, noted}
 

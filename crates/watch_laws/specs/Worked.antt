@@ -2,7 +2,7 @@
 use mathlib.Core.List.{List, [], _∷_, _++_, map}
 use Prim.Native.Nat.{ℕ, _+_, _*_}
 use lib.ListN.{replicate}
-use Rattle.watch.specs.Noted.{Noted, first, forward, same, late, restarted}
+use Rattle.differences.specs.Noted.{Noted, first, forward, same, late, restarted}
 use Rattle.watch.specs.Worked.{Come, of}
 
 pub record Mixed : Type 0 where

@@ -1,9 +1,5 @@
 -- Laws of truth values and of choices by them. Assumes nothing.
-use mathlib.Core.Path.{_≡_, refl}
-use mathlib.Core.Logic.{_⊎_, inl, inr}
-use mathlib.Core.Bool.{Bool, true, false, _&&_, _||_}
-use Prim.Native.Nat.{ℕ}
-use native.Mathlib.Omega.{arith}
+use Rattle.wire.proofs.Basics.{_≡_, refl, ℕ, true, false, Bool, _&&_, _||_, inl, inr, _⊎_, arith}
 use Rattle.wire.specs.Choice.{pick}
 
 pub either : (b : Bool) → (b ≡ true) ⊎ (b ≡ false)

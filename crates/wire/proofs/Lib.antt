@@ -1,3 +1,4 @@
+pub mod Basics
 pub mod Choices
 pub mod Halves
 pub mod Numbers

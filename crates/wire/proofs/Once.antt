@@ -1,7 +1,5 @@
 -- No second answer satisfies a contract of this crate. Assumes nothing.
-use mathlib.Core.Path.{_≡_, sym, _∙_}
-use mathlib.Core.List.{List}
-use Prim.Native.Nat.{ℕ}
+use Rattle.wire.proofs.Basics.{_∙_, sym, _≡_, ℕ, List}
 use Rattle.wire.specs.Bytes.{Number}
 
 -- Every contract of the form `r ≡ definition inputs`, here and in the crates above, allows one answer: any two that satisfy it are the same.

@@ -1,13 +1,7 @@
 -- Laws of `overlay`. Assumes nothing.
-use mathlib.Core.Path.{_≡_, refl, ap, sym, _∙_}
-use mathlib.Core.List.{List, [], _∷_, _++_, append-assoc}
-use Prim.Native.Nat.{ℕ, zero, suc, _+_, _-_, _/_, _%_, _≤_, _<_, min}
-use native.Mathlib.Nat.{zero-add, suc-add, le-of-suc-le-suc, not-suc-le-zero}
-use native.Mathlib.Numerals.{add-one}
-use native.Mathlib.Omega.{arith}
-use native.Mathlib.Decide.{decLe}
-use lib.ListN.{length, getD, set, take, drop}
-use lib.Seq.{take-suc, take-all, take-append-seam, drop-at, length-take-le, sets}
+use Rattle.wire.proofs.Basics.{_∙_, sym, _≡_, ap, refl, ℕ, _≤_, _+_, _<_, _-_, suc, zero, _%_, min, _/_, List, [], _∷_, _++_, append-assoc, length, drop, getD, take, set, length-take-le, sets}
+use Rattle.wire.proofs.Basics.{take-all, drop-at, take-suc, take-append-seam, not-suc-le-zero, zero-add, le-of-suc-le-suc, decLe, add-one, arith}
+use native.Mathlib.Nat.{suc-add}
 use Rattle.wire.specs.Bytes.{bytes}
 use Rattle.wire.specs.Overlay.{overlay}
 use Rattle.wire.proofs.Numbers.{length-bytes}

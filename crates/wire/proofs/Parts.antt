@@ -1,15 +1,7 @@
 -- Parts of a list, its elements worked on, and comparing one with bytes. Assumes nothing.
-use mathlib.Core.Path.{_≡_, refl, sym, _∙_, ap}
-use mathlib.Core.Bool.{Bool, true, false, _&&_}
-use mathlib.Core.List.{List, [], _∷_, map}
-use Prim.Native.Nat.{ℕ, _+_, _-_, _≤_, _<_, min}
-use native.Mathlib.Numerals.{add-one}
-use native.Mathlib.Omega.{arith}
-use native.Mathlib.Decide.{decLe}
-use lib.Dec.{eqb}
-use lib.ListN.{length, getD, take, drop, length-drop, drop-of-length-le}
-use lib.Seq.{drop-cons, getD-take, getD-drop, length-take-le, take-all, take-at, sets, sets-eq}
-use borrow.Author.Tests.{eq-eqb, eqb-true}
+use Rattle.wire.proofs.Basics.{_∙_, sym, _≡_, ap, refl, ℕ, _≤_, _+_, _<_, _-_, min, List, [], _∷_, map, true, false, Bool, _&&_, length, drop, getD, take, length-drop, drop-of-length-le}
+use Rattle.wire.proofs.Basics.{length-take-le, sets, take-all, getD-drop, take-at, drop-cons, getD-take, eqb, eq-eqb, eqb-true, decLe, add-one, arith}
+use lib.Seq.{sets-eq}
 use Rattle.wire.specs.Same.{same}
 use Rattle.wire.proofs.Choices.{never, and-false}
 

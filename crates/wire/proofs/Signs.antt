@@ -1,14 +1,10 @@
 -- Laws of the signed numbers, each once over the width b, and the tie to the numbers of i8 to i64 in the code.
-use mathlib.Core.Path.{_≡_, refl, ap, sym, _∙_, subst}
-use mathlib.Core.Bool.{Bool, true, false}
-use Prim.Native.Nat.{ℕ, zero, suc, _+_, _-_, _*_, _≤_, _<_, _^_}
-use native.Mathlib.Nat.{pow-suc, zero-add}
-use native.Mathlib.Omega.{arith}
+use Rattle.wire.proofs.Basics.{_∙_, sym, _≡_, ap, refl, subst, ℕ, _≤_, _+_, _<_, _-_, suc, zero, _*_, _^_, true, false, Bool, ltb, ℤ, pos, negsuc, natAbs, le-ltb, lt-ltb, ltb-false, ltb-true}
+use Rattle.wire.proofs.Basics.{zero-add, pow-suc, arith}
 use lib.Pow.{pow-mono}
-use lib.IntN.{ℤ, pos, negsuc, _-ℤ_, natAbs}
+use lib.IntN.{_-ℤ_}
 use lib.Signed.{mag, ltZ, nonNeg}
-use lib.Dec.{T, ltb}
-use borrow.Author.Tests.{ltb-true, ltb-false, lt-ltb, le-ltb}
+use lib.Dec.{T}
 use mir.Syntax.{Width, w8, w16, w32, w64, w128}
 use mir.Val.{toZ, ofZ, sel, bits, hbits, SFits, Fits}
 use mir.ValLaws.{toZ-pos, toZ-neg, toZ-fits, toZ-ofZ, pow-bits, half-full}

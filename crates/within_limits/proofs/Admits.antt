@@ -1,13 +1,5 @@
 -- Calls within a log's limits beside calls without: where the limits admit what the receiver accepts, both leave the same, or both refuse. Assumes nothing.
-use mathlib.Core.Path.{_≡_, refl, sym, ap, subst, _∙_}
-use mathlib.Core.Logic.{_⊎_, inl, inr}
-use mathlib.Core.Bool.{Bool, true, false, _||_}
-use mathlib.Core.List.{List}
-use Prim.Native.Nat.{ℕ, _+_, _≤_, min}
-use native.Mathlib.Omega.{arith}
-use lib.Dec.{eqb, leb, ltb}
-use lib.ListN.{length, drop}
-use borrow.Author.Tests.{ltb-false, le-ltb}
+use Rattle.wire.proofs.Basics.{_∙_, sym, _≡_, ap, refl, subst, ℕ, _≤_, _+_, min, List, true, false, Bool, _||_, inl, inr, _⊎_, length, drop, eqb, ltb, leb, le-ltb, ltb-false, arith}
 use Rattle.wire.specs.Choice.{pick}
 use Rattle.wire.proofs.Choices.{either, or-l, or-r, pick-all}
 use Rattle.datagram.specs.Limits.{maxFragments, maxDatagram}

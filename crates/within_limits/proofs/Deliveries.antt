@@ -1,9 +1,5 @@
 -- A call within a log's limits is the step list's within them; what it delivers lies in what holds it; and it leads to no state that other calls do not reach.
-use mathlib.Core.Path.{_≡_, refl, sym, ap, subst, _∙_}
-use mathlib.Core.Logic.{inl, inr}
-use mathlib.Core.Bool.{true}
-use mathlib.Core.List.{List}
-use Prim.Native.Nat.{ℕ}
+use Rattle.wire.proofs.Basics.{_∙_, sym, _≡_, ap, refl, subst, ℕ, List, true, inl, inr}
 use Rattle.wire.proofs.Choices.{either}
 use Rattle.datagram.specs.Said.{said}
 use Rattle.steps.specs.declared.PayloadAt.{PayloadAt}

@@ -1,8 +1,5 @@
 -- No second outcome satisfies the contract: two that do are one, with every word and byte of what was lent. Assumes nothing.
-use mathlib.Core.Path.{_≡_}
-use mathlib.Core.Bool.{false}
-use mathlib.Core.List.{List}
-use Prim.Native.Nat.{ℕ}
+use Rattle.wire.proofs.Basics.{_≡_, ℕ, List, false}
 use Rattle.steps.specs.declared.Answer.the-variants.{Refused}
 use Rattle.steps.specs.Receive.{stay}
 use Rattle.receiver_state.specs.View.{shaped}

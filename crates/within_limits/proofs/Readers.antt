@@ -1,9 +1,5 @@
 -- The datagram reader within a log's limits. Assumes nothing.
-use mathlib.Core.Path.{_≡_, refl}
-use mathlib.Core.List.{List}
-use Prim.Native.Nat.{ℕ, _≤_, min}
-use native.Mathlib.Omega.{arith}
-use borrow.Author.Tests.{eq-eqb}
+use Rattle.wire.proofs.Basics.{_≡_, refl, ℕ, _≤_, min, List, eq-eqb, arith}
 use Rattle.datagram.specs.Limits.{maxFragments}
 use Rattle.datagram.specs.Read.{magicIn, smallMagic, readDatagram}
 use Rattle.datagram.specs.declared.Header.{Header}

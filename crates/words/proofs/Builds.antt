@@ -1,10 +1,5 @@
 -- Lists that are built, element by element.
-use mathlib.Core.Path.{_≡_, refl, sym, _∙_, ap}
-use mathlib.Core.List.{List}
-use Prim.Native.Nat.{ℕ, zero, suc, _<_}
-use native.Mathlib.Omega.{arith}
-use lib.ListN.{length, getD}
-use lib.Seq.{ext-getD}
+use Rattle.wire.proofs.Basics.{_∙_, sym, _≡_, ap, refl, ℕ, _<_, suc, zero, List, length, getD, ext-getD, arith}
 use Rattle.words.specs.Builds.{build}
 
 module _ {A : Type 0} where

@@ -1,12 +1,5 @@
 -- A block that was laid lies within the output. Assumes nothing.
-use mathlib.Core.Path.{_≡_, refl, sym, _∙_, ap}
-use mathlib.Core.Bool.{Bool, true, false}
-use mathlib.Core.List.{List}
-use Prim.Native.Nat.{ℕ, _+_, _≤_}
-use native.Mathlib.Omega.{arith}
-use lib.Dec.{ltb}
-use lib.ListN.{length}
-use borrow.Author.Tests.{ltb-false}
+use Rattle.wire.proofs.Basics.{_∙_, sym, _≡_, ap, refl, ℕ, _≤_, _+_, List, true, false, Bool, length, ltb, ltb-false, arith}
 use Rattle.wire.specs.Choice.{_when_else_}
 use Rattle.moss.specs.Limits.{maxMessage}
 use Rattle.moss.specs.Packet.{gives, refuses}

@@ -1,7 +1,6 @@
 -- Refusal 77 first. Assumes nothing.
-use mathlib.Core.Path.{sym, _∙_}
+use Rattle.wire.proofs.Basics.{_∙_, sym, needs}
 use Rattle.ack_blocks.proofs.BlockTurns.{asked-long, asked-fits}
-use borrow.Author.Needs.{needs}
 use Rattle.ack_blocks.proofs.ask.Statement.{statement}
 use Rattle.ack_blocks.proofs.ask.Tie as tie
 

@@ -1,9 +1,6 @@
 -- What is wrong with a block, refusals 71, 70, 72, 73, 74 in that order. Assumes nothing.
-use mathlib.Core.Path.{sym, _∙_}
-use native.Mathlib.Omega.{arith}
-use lib.ListN.{drop, length-drop}
+use Rattle.wire.proofs.Basics.{_∙_, sym, drop, length-drop, arith, needs}
 use Rattle.ack_blocks.proofs.BlockCases.{fault-kind, fault-cut, fault-run, fault-map, fault-none}
-use borrow.Author.Needs.{needs}
 use Rattle.ack_blocks.proofs.fault_at.Statement.{statement}
 use Rattle.ack_blocks.proofs.fault_at.Tie as tie
 
@@ -55,13 +52,10 @@ returns-5 c =
     sym (fault-none s (omega (arith, k .kind-at .ensures)) (omega (arith, z .size-at .ensures .0, length-drop (a .at) (a .b .now))) (λ h. at-if3 .if3 .left (k .kind-at .ensures ∙ h)) (λ h. c .if4 .left (k .kind-at .ensures ∙ h)))
 
 pub fault-at-spec : {M : Type 1} → statement M
-fault-at-spec =
-    tie.close
-    (tie.spec
+fault-at-spec = tie.close (tie.spec
     (λ c κs. search needs)
     returns
-    (λ c. search needs)
-    (λ c κs. search needs)
+    (λ c. search needs) (λ c κs. search needs)
     returns-2
     (λ c κs. search needs)
     returns-3

@@ -1,11 +1,6 @@
 -- A number of the block at a place. Assumes nothing.
-use mathlib.Core.Path.{_≡_, ap, sym, _∙_, subst}
-use Prim.Native.Nat.{ℕ, _+_, _^_, _<_, min}
-use native.Mathlib.Omega.{arith}
-use lib.ListN.{drop}
-use lib.Seq.{drop-drop}
+use Rattle.wire.proofs.Basics.{_∙_, sym, _≡_, ap, subst, ℕ, _+_, _<_, _^_, min, drop, drop-drop, arith, needs}
 use Rattle.wire.specs.Bytes.{be}
-use borrow.Author.Needs.{needs}
 use Rattle.ack_blocks.proofs.field.Statement.{statement}
 use Rattle.ack_blocks.proofs.field.Tie as tie
 

@@ -1,12 +1,8 @@
 -- Whether a block acknowledges a number. Assumes nothing.
-use mathlib.Core.Path.{ap, sym, _∙_}
-use Prim.Native.Nat.{ℕ}
-use lib.ListN.{drop}
-use lib.Dec.{eqb}
+use Rattle.wire.proofs.Basics.{_∙_, sym, ap, ℕ, drop, eqb, needs}
 use Rattle.ack_blocks.specs.Blocks.{Block, has, between, inMap}
 use Rattle.ack_blocks.specs.Read.{bitsIn, mapIn}
 use Rattle.ack_blocks.proofs.BlockCases.{block-single, block-run, block-map}
-use borrow.Author.Needs.{needs}
 use Rattle.ack_blocks.proofs.has_at.Statement.{statement}
 use Rattle.ack_blocks.proofs.has_at.Tie as tie
 
@@ -47,14 +43,10 @@ returns-3 c =
     ∙ ap (λ (k : Block). has k (a .n)) (sym e)
 
 pub has-at-spec : {M : Type 1} → statement M
-has-at-spec =
-    tie.close
-    (tie.spec
-    (λ c κs. search needs)
-    (λ c κs. search needs)
+has-at-spec = tie.close (tie.spec
+    (λ c κs. search needs) (λ c κs. search needs)
     returns
-    (λ c κs. search needs)
-    (λ c κs. search needs)
+    (λ c κs. search needs) (λ c κs. search needs)
     returns-2
     (λ c κs. search needs)
     returns-3)

@@ -1,5 +1,5 @@
 -- First to last, both of them. Assumes nothing.
-use borrow.Author.Tests.{lt-leb, le-leb}
+use Rattle.wire.proofs.Basics.{le-leb, lt-leb}
 use Rattle.ack_blocks.proofs.is_between.Statement.{statement}
 use Rattle.ack_blocks.proofs.is_between.Tie as tie
 

@@ -1,12 +1,8 @@
 -- A bitmap: its bits, its last number, its padding. Assumes nothing.
 use Rattle.ack_blocks.proofs.BlockCases.{padding-is, step-is, step-some, map-none, map-over, map-good, map-padded}
-use mathlib.Core.Path.{_≡_, ap, sym, _∙_}
-use Prim.Native.Nat.{_+_, _-_, _*_, _≤_, _<_}
-use native.Mathlib.Omega.{arith}
-use lib.ListN.{drop}
+use Rattle.wire.proofs.Basics.{_∙_, sym, _≡_, ap, _≤_, _+_, _<_, _-_, _*_, drop, arith, needs}
 use Rattle.ack_blocks.specs.Limits.{largest}
 use Rattle.ack_blocks.specs.Read.{firstIn, bitsIn, mapBytes}
-use borrow.Author.Needs.{needs}
 use Rattle.ack_blocks.proofs.map_fault.Statement.{statement}
 use Rattle.ack_blocks.proofs.map_fault.Tie as tie
 
@@ -71,21 +67,12 @@ returns-4 c =
     sym (map-padded s some (fits else2) (λ h. c .if3 .left (p ∙ h)))
 
 pub map-fault-spec : {M : Type 1} → statement M
-map-fault-spec =
-    tie.close
-    (tie.spec
+map-fault-spec = tie.close (tie.spec
     (λ c κs. search needs)
     returns
-    (λ c κs. search needs)
-    (λ c. search needs)
-    (λ c. search needs)
+    (λ c κs. search needs) (λ c. search needs) (λ c. search needs)
     returns-2
-    (λ c κs. search needs)
-    (λ c. search needs)
-    (λ c. search needs)
-    (λ c. search needs)
-    (λ c. search needs)
-    (λ c κs. search needs)
+    (λ c κs. search needs) (λ c. search needs) (λ c. search needs) (λ c. search needs) (λ c. search needs) (λ c κs. search needs)
     (λ c. step-some _ (few (c .before)))
     returns-3
     returns-4)

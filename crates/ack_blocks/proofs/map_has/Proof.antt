@@ -1,12 +1,7 @@
 -- The bit of a number, by its place. Assumes nothing.
-use mathlib.Core.Path.{ap, sym, _∙_}
-use Prim.Native.Nat.{ℕ, _-_, _^_, _%_, _/_, _<_}
-use native.Mathlib.Omega.{arith}
-use lib.ListN.{drop}
-use lib.Dec.{eqb}
+use Rattle.wire.proofs.Basics.{_∙_, sym, ap, ℕ, _<_, _-_, _^_, _%_, _/_, drop, eqb, arith, needs}
 use Rattle.ack_blocks.specs.Read.{bitsIn, mapIn}
 use Rattle.ack_blocks.proofs.BlockCases.{map-before, map-past, map-bit, map-byte}
-use borrow.Author.Needs.{needs}
 use Rattle.ack_blocks.proofs.map_has.Statement.{statement}
 use Rattle.ack_blocks.proofs.map_has.Tie as tie
 
@@ -38,14 +33,9 @@ returns-3 c =
     sym (map-bit (a .first) (bitsIn s) (mapIn s) (a .n) (at-if1 .if1 .left) below ∙ ap (λ (x : ℕ). eqb (x / 2 ^ (7 - i % 8) % 2) 1) (sym byte))
 
 pub map-has-spec : {M : Type 1} → statement M
-map-has-spec =
-    tie.close
-    (tie.spec
+map-has-spec = tie.close (tie.spec
     returns
     (λ c κs. search needs)
     returns-2
-    (λ c. search needs)
-    (λ c κs. search needs)
-    (λ c. search needs)
-    (λ c. search needs)
+    (λ c. search needs) (λ c κs. search needs) (λ c. search needs) (λ c. search needs)
     returns-3)

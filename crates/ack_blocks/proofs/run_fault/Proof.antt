@@ -1,10 +1,6 @@
 -- Last below first. Assumes nothing.
-use mathlib.Core.Path.{sym}
-use native.Mathlib.Omega.{arith}
-use lib.ListN.{drop}
-use borrow.Author.Tests.{lt-ltb, le-ltb}
+use Rattle.wire.proofs.Basics.{sym, drop, le-ltb, lt-ltb, arith, needs}
 use Rattle.ack_blocks.specs.Read.{firstIn, lastIn}
-use borrow.Author.Needs.{needs}
 use Rattle.ack_blocks.proofs.run_fault.Statement.{statement}
 use Rattle.ack_blocks.proofs.run_fault.Tie as tie
 

@@ -1,11 +1,7 @@
 -- The bytes of a block. Assumes nothing.
-use mathlib.Core.Path.{_≡_, ap, sym, _∙_}
-use Prim.Native.Nat.{ℕ, _+_}
-use native.Mathlib.Omega.{arith}
-use lib.ListN.{drop}
+use Rattle.wire.proofs.Basics.{_∙_, sym, _≡_, ap, ℕ, _+_, drop, arith, needs}
 use Rattle.ack_blocks.specs.Read.{bitsIn, mapBytes}
 use Rattle.ack_blocks.proofs.BlockCases.{size-single, size-run, size-map}
-use borrow.Author.Needs.{needs}
 use Rattle.ack_blocks.proofs.size_at.Statement.{statement}
 use Rattle.ack_blocks.proofs.size_at.Tie as tie
 
@@ -37,13 +33,9 @@ returns-3 c =
     (ap (λ (n : ℕ). 11 + n) m ∙ sym e, (omega arith, omega arith))
 
 pub size-at-spec : {M : Type 1} → statement M
-size-at-spec =
-    tie.close
-    (tie.spec
+size-at-spec = tie.close (tie.spec
     (λ c κs. search needs)
     returns
     returns-2
-    (λ c κs. search needs)
-    (λ c κs. search needs)
-    (λ c. search needs)
+    (λ c κs. search needs) (λ c κs. search needs) (λ c. search needs)
     returns-3)

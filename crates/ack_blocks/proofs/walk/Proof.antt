@@ -1,13 +1,8 @@
 -- The loop: what was found, and what the blocks left acknowledge, is the answer. Assumes nothing.
-use mathlib.Core.Path.{_≡_, ap, sym, _∙_}
-use Prim.Native.Nat.{_+_, _-_}
-use native.Mathlib.Omega.{arith}
-use lib.ListN.{length, drop}
-use mathlib.Core.Bool.{Bool, _||_}
+use Rattle.wire.proofs.Basics.{_∙_, sym, _≡_, ap, _+_, _-_, Bool, _||_, length, drop, arith, needs}
 use Rattle.ack_blocks.specs.Read.{gives, refuses, blocksIn, told}
 use Rattle.ack_blocks.specs.InsideWalk.{also}
 use Rattle.ack_blocks.proofs.BlockTurns.{also-none, walk-next, walk-bad, walk-end}
-use borrow.Author.Needs.{needs}
 use Rattle.ack_blocks.proofs.walk.Statement.{statement}
 use Rattle.ack_blocks.proofs.walk.Tie as tie
 
@@ -68,19 +63,13 @@ returns-3 c =
     sym (l .inv ∙ walk-end (a .b .now) (l .found) (a .n) (l .at) (at-loop-test .loop-test .left) ∙ ap gives (c .if2 .left))
 
 pub walk-spec : {M : Type 1} → statement M
-walk-spec =
-    tie.close
-    (tie.spec
+walk-spec = tie.close (tie.spec
     Inv-loop
     μ-loop
     loop-holds
     (λ c κs. record { place = omega arith; fits = omega arith })
     returns
-    (λ c κs. search needs)
-    (λ c κs. search needs)
-    (λ c κs. search needs)
-    (λ c. search needs)
-    (λ c. search needs)
+    (λ c κs. search needs) (λ c κs. search needs) (λ c κs. search needs) (λ c. search needs) (λ c. search needs)
     loop-again
     returns-2
     returns-3)

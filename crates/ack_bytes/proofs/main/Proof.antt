@@ -1,35 +1,14 @@
 -- Arrays are lent as slices, each as long as it says: by a law, since they are too long to count. Assumes nothing.
-use mathlib.Core.Path.{sym}
-use borrow.Author.Needs.{needs}
+use Rattle.wire.proofs.Basics.{sym, needs}
 use Rattle.output.proofs.Zeros.{zeros}
 use Rattle.ack_bytes.proofs.main.Statement.{statement}
 use Rattle.ack_bytes.proofs.main.Tie as tie
 
-slice-aggregate-run : tie.Need-slice-aggregate-run
-slice-aggregate-run c = zeros _
-
-slice-aggregate-run-2 : tie.Need-slice-aggregate-run-2
-slice-aggregate-run-2 c = zeros _
-
-slice-aggregate-run-3 : tie.Need-slice-aggregate-run-3
-slice-aggregate-run-3 c = zeros _
-
-slice-aggregate-run-4 : tie.Need-slice-aggregate-run-4
-slice-aggregate-run-4 c = zeros _
-
-run-requires : tie.Need-run-requires
-run-requires c κs = ((sym (zeros _), sym (zeros _)), search needs)
-
-returns : tie.Need-returns
-returns c = tt
-
 pub main-spec : {M : Type 1} → statement M
-main-spec =
-    tie.close
-    (tie.spec
-    slice-aggregate-run
-    slice-aggregate-run-2
-    slice-aggregate-run-3
-    slice-aggregate-run-4
-    run-requires
-    returns)
+main-spec = tie.close (tie.spec
+    (λ c. zeros _)
+    (λ c. zeros _)
+    (λ c. zeros _)
+    (λ c. zeros _)
+    (λ c κs. ((sym (zeros _), sym (zeros _)), search needs))
+    (λ c. tt))

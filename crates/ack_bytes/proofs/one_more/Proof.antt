@@ -1,15 +1,10 @@
 -- A record's line. Assumes nothing.
-use mathlib.Core.Path.{_≡_, ap, sym, _∙_}
-use Prim.Native.Nat.{ℕ, _/_, _≤_}
-use native.Mathlib.Omega.{arith}
-use lib.ListN.{length, take}
-use lib.Seq.{sets}
+use Rattle.wire.proofs.Basics.{_∙_, sym, _≡_, ap, ℕ, _≤_, _/_, length, take, sets, arith, needs}
 use Rattle.output.proofs.Sending.{pours-then, pours-is}
 use Rattle.ack_bytes.specs.Lines.{listLimit, numbersOf}
 use Rattle.wire.proofs.Parts.{front-of}
 use Rattle.record_lines.proofs.BodyNumbers.{length-numbers}
 use Rattle.ack_bytes.proofs.Records.{line-longer, line-cut, line-written}
-use borrow.Author.Needs.{needs}
 use Rattle.ack_bytes.proofs.one_more.Statement.{statement}
 use Rattle.ack_bytes.proofs.one_more.Tie as tie
 
@@ -55,22 +50,10 @@ returns-3 c =
     (line-written (a .n) b held (f .if2 .left) (a .blocks .now) _ (z .pre .1) _ _ is (w .write-blocks .ensures))
 
 pub one-more-spec : {M : Type 1} → statement M
-one-more-spec =
-    tie.close
-    (tie.spec
-    (λ c κs. search needs)
-    (λ c κs. search needs)
-    (λ c. search needs)
+one-more-spec = tie.close (tie.spec
+    (λ c κs. search needs) (λ c κs. search needs) (λ c. search needs)
     returns
-    (λ c. search needs)
-    (λ c κs. search needs)
-    (λ c. search needs)
+    (λ c. search needs) (λ c κs. search needs) (λ c. search needs)
     returns-2
-    (λ c κs. search needs)
-    (λ c κs. search needs)
-    (λ c κs. search needs)
-    (λ c κs. search needs)
-    (λ c. search needs)
-    (λ c. search needs)
-    (λ c. search needs)
+    (λ c κs. search needs) (λ c κs. search needs) (λ c κs. search needs) (λ c κs. search needs) (λ c. search needs) (λ c. search needs) (λ c. search needs)
     returns-3)

@@ -1,7 +1,7 @@
 -- The blocks in hexadecimal, if there are any. Assumes nothing.
 use Rattle.output.proofs.Sending.{pours-then, pours-is}
 use Rattle.ack_bytes.proofs.Records.{bytes-none, bytes-some}
-use borrow.Author.Needs.{needs}
+use Rattle.wire.proofs.Basics.{needs}
 use Rattle.ack_bytes.proofs.pour_bytes.Statement.{statement}
 use Rattle.ack_bytes.proofs.pour_bytes.Tie as tie
 
@@ -23,17 +23,8 @@ returns-2 c =
     pours-is (pours-then (pours-then (word .pour2 .ensures) (hex .pour-hex .ensures)) (end .pour3 .ensures)) (bytes-some (a .blocks .now) (choice .if1 .left))
 
 pub pour-bytes-spec : {M : Type 1} → statement M
-pour-bytes-spec =
-    tie.close
-    (tie.spec
-    (λ c. search needs)
-    (λ c κs. search needs)
-    (λ c. search needs)
+pour-bytes-spec = tie.close (tie.spec
+    (λ c. search needs) (λ c κs. search needs) (λ c. search needs)
     returns
-    (λ c. search needs)
-    (λ c κs. search needs)
-    (λ c κs. search needs)
-    (λ c. search needs)
-    (λ c κs. search needs)
-    (λ c. search needs)
+    (λ c. search needs) (λ c κs. search needs) (λ c κs. search needs) (λ c. search needs) (λ c κs. search needs) (λ c. search needs)
     returns-2)

@@ -1,9 +1,8 @@
 -- What was written as text, by its cases. Assumes nothing.
-use mathlib.Core.Path.{ap, sym, _∙_}
+use Rattle.wire.proofs.Basics.{_∙_, sym, ap, needs}
 use Rattle.output.proofs.Sending.{pours-is}
 use Rattle.ack_bytes.specs.Lines.{bytesText}
 use Rattle.ack_bytes.specs.InsideLines.{writtenText}
-use borrow.Author.Needs.{needs}
 use Rattle.ack_bytes.proofs.pour_written.Statement.{statement}
 use Rattle.ack_bytes.proofs.pour_written.Tie as tie
 
@@ -26,16 +25,8 @@ returns-2 c =
     pours-is (at-refused .pour-counted-line .ensures) (ap (writtenText (a .blocks .now)) (sym (at-w2 .w2 .given .1)))
 
 pub pour-written-spec : {M : Type 1} → statement M
-pour-written-spec =
-    tie.close
-    (tie.spec
-    (λ c. search needs)
-    (λ c κs. search needs)
-    (λ c κs. search needs)
-    (λ c. search needs)
-    (λ c. search needs)
-    (λ c. search needs)
-    (λ c κs. search needs)
+pour-written-spec = tie.close (tie.spec
+    (λ c. search needs) (λ c κs. search needs) (λ c κs. search needs) (λ c. search needs) (λ c. search needs) (λ c. search needs) (λ c κs. search needs)
     (λ c. search needs)
     returns
     (λ c. search needs)

@@ -1,13 +1,8 @@
 -- The numbers of a record. The loop's invariant: the i numbers passed are stored. Assumes nothing.
-use mathlib.Core.Path.{_≡_, refl, ap, _∙_}
-use mathlib.Core.List.{List}
-use Prim.Native.Nat.{ℕ, _+_, _-_, _/_, _≤_}
-use native.Mathlib.Omega.{arith}
-use lib.ListN.{length, set}
-use lib.Seq.{sets, length-sets}
+use Rattle.wire.proofs.Basics.{_∙_, _≡_, ap, refl, ℕ, _≤_, _+_, _-_, _/_, List, length, set, sets, arith, needs}
+use lib.Seq.{length-sets}
 use Rattle.ack_bytes.specs.Lines.{numbersOf}
 use Rattle.record_lines.proofs.BodyNumbers.{taken-one}
-use borrow.Author.Needs.{needs}
 use Rattle.ack_bytes.proofs.take_list.Statement.{statement}
 use Rattle.ack_bytes.proofs.take_list.Tie as tie
 
@@ -16,9 +11,6 @@ Inv-loop body list₀ n i₀ list i = (i ≤ n) × (length list ≡ length list�
 
 abbrev μ-loop : tie.MeasureT-loop
 μ-loop body list₀ n i₀ list i = n - i
-
-loop-holds : tie.Need-loop-holds Inv-loop μ-loop
-loop-holds c = (omega arith, refl, refl)
 
 loop-again : tie.Need-loop-again Inv-loop μ-loop
 loop-again c =
@@ -40,18 +32,11 @@ returns c =
     (refl, l .inv .2 ∙ ap (λ (k : ℕ). sets (a .list .now) 0 (numbersOf k (a .body .now))) e)
 
 pub take-list-spec : {M : Type 1} → statement M
-take-list-spec =
-    tie.close
-    (tie.spec
+take-list-spec = tie.close (tie.spec
     Inv-loop
     μ-loop
-    loop-holds
-    (λ c. search needs)
-    (λ c κs. search needs)
-    (λ c. search needs)
-    (λ c. search needs)
-    (λ c. search needs)
-    (λ c. search needs)
+    (λ c. (omega arith, refl, refl))
+    (λ c. search needs) (λ c κs. search needs) (λ c. search needs) (λ c. search needs) (λ c. search needs) (λ c. search needs)
     loop-again
     (λ c. search needs)
     returns)

@@ -1,7 +1,5 @@
 -- The bytes of a single and of a run. Assumes nothing.
-use mathlib.Core.Path.{ap, sym, _∙_}
-use native.Mathlib.Omega.{arith}
-use lib.ListN.{length}
+use Rattle.wire.proofs.Basics.{_∙_, sym, ap, length, arith}
 use Rattle.ack_blocks.specs.Blocks.{Block, blockBytes}
 use Rattle.ack_writer.proofs.BlockOfRun.{one-single, one-run, single-length, run-length}
 use Rattle.ack_writer.proofs.block_length.Statement.{statement}

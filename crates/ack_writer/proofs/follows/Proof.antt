@@ -1,6 +1,6 @@
 -- One more than the last number. Assumes nothing.
 use Rattle.ack_writer.proofs.BlockOfRun.{follows-zero, follows-some}
-use borrow.Author.Needs.{needs}
+use Rattle.wire.proofs.Basics.{needs}
 use Rattle.ack_writer.proofs.follows.Statement.{statement}
 use Rattle.ack_writer.proofs.follows.Tie as tie
 

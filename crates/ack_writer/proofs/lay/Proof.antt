@@ -1,12 +1,7 @@
 -- The loop: what is laid and what is left are the whole. Assumes nothing.
-use mathlib.Core.Path.{_≡_, sym, _∙_}
-use Prim.Native.Nat.{ℕ, _-_}
-use native.Mathlib.Omega.{arith}
-use lib.ListN.{length}
-use borrow.Author.Tests.{not-true, not-false}
+use Rattle.wire.proofs.Basics.{_∙_, sym, _≡_, ℕ, _-_, length, not-false, not-true, arith, needs}
 use Rattle.ack_writer.proofs.Runs.{room-makes}
 use Rattle.ack_writer.proofs.ListTurns.{Sofar, sofar-start, sofar-next, sofar-falls, sofar-room, sofar-laid}
-use borrow.Author.Needs.{needs}
 use Rattle.ack_writer.proofs.lay.Statement.{statement}
 use Rattle.ack_writer.proofs.lay.Tie as tie
 
@@ -65,18 +60,14 @@ returns-2 c =
     }
 
 pub lay-spec : {M : Type 1} → statement M
-lay-spec =
-    tie.close
-    (tie.spec
+lay-spec = tie.close (tie.spec
     Inv-loop
     μ-loop
     loop-holds
     (λ c κs. search needs)
     (λ c. c .before .before .before .before .loop .inv .size)
     returns
-    (λ c. search needs)
-    (λ c. search needs)
-    (λ c κs. search needs)
+    (λ c. search needs) (λ c. search needs) (λ c κs. search needs)
     loop-less
     loop-again
     (λ c κs. search needs)

@@ -1,13 +1,10 @@
 -- The block of a run at a place. Assumes nothing.
-use mathlib.Core.Path.{refl, ap, sym, _∙_}
-use Prim.Native.Nat.{ℕ, _+_}
-use lib.ListN.{length-append}
+use Rattle.wire.proofs.Basics.{_∙_, sym, ap, refl, ℕ, _+_, length-append, needs}
 use Rattle.wire.specs.Overlay.{overlay}
 use Rattle.wire.proofs.Numbers.{length-bytes}
 use Rattle.ack_blocks.specs.Blocks.{Block, blockBytes}
 use Rattle.ack_writer.proofs.Runs.{put-next}
 use Rattle.ack_writer.proofs.BlockOfRun.{one-single, one-run}
-use borrow.Author.Needs.{needs}
 use Rattle.ack_writer.proofs.put_block.Statement.{statement}
 use Rattle.ack_writer.proofs.put_block.Tie as tie
 
@@ -34,18 +31,8 @@ returns-2 c =
     ∙ ap (λ (k : Block). overlay (a .out .now) (a .at) (blockBytes k)) (sym (one-run (a .first) (a .last) (at-if1 .if1 .left)))
 
 pub put-block-spec : {M : Type 1} → statement M
-put-block-spec =
-    tie.close
-    (tie.spec
-    (λ c κs. search needs)
-    (λ c. search needs)
-    (λ c κs. search needs)
-    (λ c. search needs)
+put-block-spec = tie.close (tie.spec
+    (λ c κs. search needs) (λ c. search needs) (λ c κs. search needs) (λ c. search needs)
     returns
-    (λ c κs. search needs)
-    (λ c. search needs)
-    (λ c κs. search needs)
-    (λ c. search needs)
-    (λ c κs. search needs)
-    (λ c. search needs)
+    (λ c κs. search needs) (λ c. search needs) (λ c κs. search needs) (λ c. search needs) (λ c κs. search needs) (λ c. search needs)
     returns-2)

@@ -1,9 +1,6 @@
 -- A block, while the place is not past the most bytes. Assumes nothing.
-use mathlib.Core.Path.{refl, ap, _∙_}
-use native.Mathlib.Omega.{arith}
-use lib.ListN.{length}
+use Rattle.wire.proofs.Basics.{_∙_, ap, refl, length, arith, needs}
 use Rattle.wire.proofs.Overlays.{length-overlay}
-use borrow.Author.Needs.{needs}
 use Rattle.ack_writer.proofs.put_next.Statement.{statement}
 use Rattle.ack_writer.proofs.put_next.Tie as tie
 

@@ -1,5 +1,5 @@
 -- Refusals 77 and 76. Assumes nothing.
-use mathlib.Core.Path.{sym}
+use Rattle.wire.proofs.Basics.{sym}
 use Rattle.ack_writer.proofs.Runs.{room-long, room-short, room-enough}
 use Rattle.ack_writer.proofs.room_for.Statement.{statement}
 use Rattle.ack_writer.proofs.room_for.Tie as tie

@@ -1,12 +1,7 @@
 -- The loop: the run so far and what is left are the blocks from its first number. Assumes nothing.
-use mathlib.Core.Path.{_≡_, sym, _∙_}
-use Prim.Native.Nat.{_-_, _≤_, _<_}
-use native.Mathlib.Omega.{arith}
-use lib.ListN.{length, getD, drop}
-use borrow.Author.Tests.{not-true, not-false}
+use Rattle.wire.proofs.Basics.{_∙_, sym, _≡_, _≤_, _<_, _-_, length, drop, getD, not-false, not-true, arith, needs}
 use Rattle.ack_writer.specs.Write.{rising, risingFrom, blocksFrom, blocksOf}
 use Rattle.ack_writer.proofs.Runs.{rising-start, rising-on, rising-breaks, rising-end, blocks-start, run-on, run-breaks, run-ends}
-use borrow.Author.Needs.{needs}
 use Rattle.ack_writer.proofs.run_from.Statement.{statement}
 use Rattle.ack_writer.proofs.run_from.Tie as tie
 
@@ -65,20 +60,13 @@ returns-2 c =
     }
 
 pub run-from-spec : {M : Type 1} → statement M
-run-from-spec =
-    tie.close
-    (tie.spec
+run-from-spec = tie.close (tie.spec
     Inv-loop
     μ-loop
-    (λ c. search needs)
-    (λ c. search needs)
-    (λ c. search needs)
+    (λ c. search needs) (λ c. search needs) (λ c. search needs)
     loop-holds
-    (λ c. search needs)
-    (λ c. search needs)
-    (λ c κs. search needs)
+    (λ c. search needs) (λ c. search needs) (λ c κs. search needs)
     returns
-    (λ c. search needs)
-    (λ c. search needs)
+    (λ c. search needs) (λ c. search needs)
     loop-again
     returns-2)

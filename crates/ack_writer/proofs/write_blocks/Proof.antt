@@ -1,16 +1,10 @@
 -- The blocks at the start of the output, or a refusal, which writes nothing. Assumes nothing.
-use mathlib.Core.Path.{sym, ap}
-use Prim.Native.Nat.{ℕ}
-use lib.ListN.{length-replicate}
+use Rattle.wire.proofs.Basics.{sym, ap, ℕ, length-replicate, needs}
 use Rattle.ack_blocks.specs.Limits.{maxBlocks}
 use Rattle.ack_writer.specs.Write.{writes}
 use Rattle.ack_writer.proofs.ListTurns.{front-of, front-size, leaves, puts}
-use borrow.Author.Needs.{needs}
 use Rattle.ack_writer.proofs.write_blocks.Statement.{statement}
 use Rattle.ack_writer.proofs.write_blocks.Tie as tie
-
-enum-told : tie.Need-enum-told
-enum-told c = search needs
 
 returns : tie.Need-returns
 returns c =
@@ -37,16 +31,12 @@ returns-2 c =
     puts (a .list .now) _ _ (a .out .now) _ _ _ (at-lay .lay .ensures) (r .r .given .1) (length-replicate {A = ℕ} maxBlocks 0) (at-put-bytes .put-bytes .ensures)
 
 pub write-blocks-spec : {M : Type 1} → statement M
-write-blocks-spec =
-    tie.close
-    (tie.spec
+write-blocks-spec = tie.close (tie.spec
     (λ c. sym (length-replicate {A = ℕ} maxBlocks 0))
-    (λ c κs. search needs)
+    (λ c κs. search needs) (λ c. search needs)
     (λ c. search needs)
-    enum-told
     returns
     array-share-prefix-blocks
     (λ c. front-size _ _ (array-share-prefix-blocks (c .before)))
-    (λ c κs. search needs)
-    (λ c. search needs)
+    (λ c κs. search needs) (λ c. search needs)
     returns-2)

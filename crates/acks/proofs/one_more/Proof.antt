@@ -1,16 +1,10 @@
 -- A record's line. Assumes nothing.
-use mathlib.Core.Path.{ap, sym, _∙_}
-use mathlib.Core.Bool.{Bool}
-use mathlib.Core.List.{_++_}
-use native.Mathlib.Omega.{arith}
-use lib.ListN.{length, drop, length-drop}
-use lib.Seq.{take-all}
+use Rattle.wire.proofs.Basics.{_∙_, sym, ap, _++_, Bool, length, drop, length-drop, take-all, arith, needs}
 use Rattle.ack_blocks.specs.Read.{Given, asked}
 use Rattle.text.specs.Text.{decimal}
 use Rattle.output.proofs.Sending.{pours-then, pours-is}
 use Rattle.acks.specs.Lines.{answerText}
 use Rattle.acks.proofs.Records.{answer-short, answer-whole}
-use borrow.Author.Needs.{needs}
 use Rattle.acks.proofs.one_more.Statement.{statement}
 use Rattle.acks.proofs.one_more.Tie as tie
 
@@ -43,17 +37,8 @@ returns-2 c =
     (q .ask .ensures ∙ (λ i. asked (blocks i) (number i)) ∙ sym (answer-whole b (at-if1 .if1 .left))))
 
 pub one-more-spec : {M : Type 1} → statement M
-one-more-spec =
-    tie.close
-    (tie.spec
-    (λ c κs. search needs)
-    (λ c. search needs)
-    (λ c κs. search needs)
-    (λ c. search needs)
+one-more-spec = tie.close (tie.spec
+    (λ c κs. search needs) (λ c. search needs) (λ c κs. search needs) (λ c. search needs)
     returns
-    (λ c κs. search needs)
-    (λ c κs. search needs)
-    (λ c κs. search needs)
-    (λ c κs. search needs)
-    (λ c. search needs)
+    (λ c κs. search needs) (λ c κs. search needs) (λ c κs. search needs) (λ c κs. search needs) (λ c. search needs)
     returns-2)

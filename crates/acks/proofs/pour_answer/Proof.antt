@@ -1,15 +1,11 @@
 -- The answer as text, by its cases. Assumes nothing.
-use mathlib.Core.Path.{ap, sym}
+use Rattle.wire.proofs.Basics.{sym, ap, needs}
 use Rattle.output.proofs.Sending.{pours-is}
 use Rattle.ack_blocks.specs.Read.{answers}
 use Rattle.ack_blocks.specs.declared.Answer.{Answer}
 use Rattle.acks.specs.Lines.{answerText}
-use borrow.Author.Needs.{needs}
 use Rattle.acks.proofs.pour_answer.Statement.{statement}
 use Rattle.acks.proofs.pour_answer.Tie as tie
-
-enum-told : tie.Need-enum-told
-enum-told c = search needs
 
 returns : tie.Need-returns
 returns c =
@@ -30,20 +26,10 @@ returns-3 c =
     pours-is (at-refused .pour-counted-line .ensures) (ap (λ (x : Answer). answerText (answers x)) (sym (at-a .a .given .1)))
 
 pub pour-answer-spec : {M : Type 1} → statement M
-pour-answer-spec =
-    tie.close
-    (tie.spec
-    enum-told
+pour-answer-spec = tie.close (tie.spec
     (λ c. search needs)
-    (λ c κs. search needs)
-    (λ c. search needs)
-    (λ c. search needs)
-    (λ c κs. search needs)
-    (λ c. search needs)
-    (λ c. search needs)
-    (λ c. search needs)
-    (λ c κs. search needs)
-    (λ c. search needs)
+    (λ c. search needs) (λ c κs. search needs) (λ c. search needs) (λ c. search needs) (λ c κs. search needs) (λ c. search needs) (λ c. search needs)
+    (λ c. search needs) (λ c κs. search needs) (λ c. search needs)
     returns
     (λ c. search needs)
     returns-2

@@ -1,11 +1,8 @@
 -- `checksum::checksum` meets its contract. The loop's invariant: t is the sum of the bytes passed. Assumes nothing.
-use Prim.Native.Nat.{_-_}
-use native.Mathlib.Omega.{arith}
-use lib.ListN.{length}
+use Rattle.wire.proofs.Basics.{_-_, length, arith, needs}
 use Rattle.checksum.specs.InsideStrides.{Summed}
 use Rattle.wire.specs.Sum.{sum}
 use Rattle.checksum.proofs.Strides.{summed-more}
-use borrow.Author.Needs.{needs}
 use Rattle.checksum.proofs.checksum.Statement.{statement}
 use Rattle.checksum.proofs.checksum.Tie as tie
 
@@ -25,25 +22,13 @@ loop-again c =
     let b = at .before .before .args .b .now in
     summed-more b (at .loop .i) 64 (at .loop .t) _ (at .loop .inv) (omega arith) (c .sum-of-stride .ensures .0)
 
-sum-on-by-eight-requires : tie.Need-sum-on-by-eight-requires Inv-loop μ-loop
-sum-on-by-eight-requires c κs = c .before .loop .inv
-
-returns : tie.Need-returns Inv-loop μ-loop
-returns c = c .sum-on-by-eight .ensures
-
 pub checksum-spec : {M : Type 1} → statement M
-checksum-spec =
-    tie.close
-    (tie.spec
+checksum-spec = tie.close (tie.spec
     Inv-loop
     μ-loop
     loop-holds
-    (λ c. search needs)
-    (λ c κs. search needs)
-    (λ c. search needs)
-    (λ c. search needs)
-    (λ c. search needs)
+    (λ c. search needs) (λ c κs. search needs) (λ c. search needs) (λ c. search needs) (λ c. search needs)
     loop-again
-    sum-on-by-eight-requires
+    (λ c κs. c .before .loop .inv)
     (λ c. search needs)
-    returns)
+    (λ c. c .sum-on-by-eight .ensures))

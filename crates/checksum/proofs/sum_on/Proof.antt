@@ -1,11 +1,7 @@
 -- `checksum::sum_on` meets its contract. The loop's invariant: t is the sum of the bytes passed. Assumes nothing.
-use mathlib.Core.Path.{_∙_, sym}
-use Prim.Native.Nat.{_-_}
-use native.Mathlib.Omega.{arith}
-use lib.ListN.{length}
+use Rattle.wire.proofs.Basics.{_∙_, sym, _-_, length, arith, needs}
 use Rattle.checksum.specs.InsideStrides.{Summed}
 use Rattle.checksum.proofs.Strides.{sum-byte, summed-more, summed-all}
-use borrow.Author.Needs.{needs}
 use Rattle.checksum.proofs.sum_on.Statement.{statement}
 use Rattle.checksum.proofs.sum_on.Tie as tie
 
@@ -14,9 +10,6 @@ Inv-loop b from before t₀ i₀ t i = Summed b i t
 
 abbrev μ-loop : tie.MeasureT-loop
 μ-loop b from before t₀ i₀ t i = length b - i
-
-loop-holds : tie.Need-loop-holds Inv-loop μ-loop
-loop-holds c = c .before .pre
 
 loop-again : tie.Need-loop-again Inv-loop μ-loop
 loop-again c =
@@ -29,16 +22,10 @@ returns : tie.Need-returns Inv-loop μ-loop
 returns c = summed-all (c .before .before .before .args .b .now) (c .before .loop .i) _ (c .before .loop .inv) (omega arith)
 
 pub sum-on-spec : {M : Type 1} → statement M
-sum-on-spec =
-    tie.close
-    (tie.spec
+sum-on-spec = tie.close (tie.spec
     Inv-loop
     μ-loop
-    loop-holds
-    (λ c. search needs)
-    (λ c κs. search needs)
-    (λ c. search needs)
-    (λ c. search needs)
-    (λ c. search needs)
+    (λ c. c .before .pre)
+    (λ c. search needs) (λ c κs. search needs) (λ c. search needs) (λ c. search needs) (λ c. search needs)
     loop-again
     returns)

@@ -1,10 +1,7 @@
 -- `checksum::sum_on_by_eight` meets its contract. The loop's invariant: t is the sum of the bytes passed. Assumes nothing.
-use Prim.Native.Nat.{_-_}
-use native.Mathlib.Omega.{arith}
-use lib.ListN.{length}
+use Rattle.wire.proofs.Basics.{_-_, length, arith, needs}
 use Rattle.checksum.specs.InsideStrides.{Summed}
 use Rattle.checksum.proofs.Strides.{summed-more}
-use borrow.Author.Needs.{needs}
 use Rattle.checksum.proofs.sum_on_by_eight.Statement.{statement}
 use Rattle.checksum.proofs.sum_on_by_eight.Tie as tie
 
@@ -14,33 +11,18 @@ Inv-loop b from before t₀ i₀ t i = Summed b i t
 abbrev μ-loop : tie.MeasureT-loop
 μ-loop b from before t₀ i₀ t i = length b - i
 
-loop-holds : tie.Need-loop-holds Inv-loop μ-loop
-loop-holds c = c .before .pre
-
 loop-again : tie.Need-loop-again Inv-loop μ-loop
 loop-again c =
     let at = c .before .before in
     let b = at .before .before .args .b .now in
     summed-more b (at .loop .i) 8 (at .loop .t) _ (at .loop .inv) (omega arith) (c .sum-of-eight .ensures .0)
 
-sum-on-requires : tie.Need-sum-on-requires Inv-loop μ-loop
-sum-on-requires c κs = c .before .loop .inv
-
-returns : tie.Need-returns Inv-loop μ-loop
-returns c = c .sum-on .ensures
-
 pub sum-on-by-eight-spec : {M : Type 1} → statement M
-sum-on-by-eight-spec =
-    tie.close
-    (tie.spec
+sum-on-by-eight-spec = tie.close (tie.spec
     Inv-loop
     μ-loop
-    loop-holds
-    (λ c. search needs)
-    (λ c κs. search needs)
-    (λ c. search needs)
-    (λ c. search needs)
-    (λ c. search needs)
+    (λ c. c .before .pre)
+    (λ c. search needs) (λ c κs. search needs) (λ c. search needs) (λ c. search needs) (λ c. search needs)
     loop-again
-    sum-on-requires
-    returns)
+    (λ c κs. c .before .loop .inv)
+    (λ c. c .sum-on .ensures))

@@ -1,13 +1,8 @@
 -- The stretch through a fresh receiver, into empty sets, and then its answer. Assumes nothing.
-use mathlib.Core.Path.{_≡_, ap}
-use mathlib.Core.Logic.{inl, inr}
-use mathlib.Core.List.{[], _∷_}
-use Prim.Native.Nat.{ℕ}
-use native.Mathlib.Omega.{arith}
+use Rattle.wire.proofs.Basics.{_≡_, ap, ℕ, [], _∷_, inl, inr, replicate, length-replicate, arith, needs}
 use types.Run.{OneOf}
 use denote.Enum.Declared.{tagOf}
 use Rattle.stretch.proofs.Stop.{the-type}
-use lib.ListN.{replicate, length-replicate}
 use Rattle.wire.specs.Bytes.{Bytes}
 use Rattle.receiver_state.specs.View.{stateWords, nameBytes}
 use Rattle.count_rules.specs.Count.{maxTiles, maxPits}
@@ -17,7 +12,6 @@ use Rattle.pit_payloads.specs.Looks.{book}
 use Rattle.stretch.specs.Stretch.{desk}
 use Rattle.count.specs.Inside.{own}
 use Rattle.count.proofs.Ends.{refused-then, given-then}
-use borrow.Author.Needs.{needs}
 use Rattle.count.proofs.afresh.Statement.{statement}
 use Rattle.count.proofs.afresh.Tie as tie
 
@@ -60,29 +54,9 @@ returns-2 c =
     (λ k e. not-three _ (ap (tagOf the-type) e) (c .before .before .before .before .before .before .match .keys2)) _ (c .given .ensures)
 
 pub afresh-spec : {M : Type 1} → statement M
-afresh-spec =
-    tie.close
-    (tie.spec
-    (λ c. search needs)
-    (λ c. search needs)
-    (λ c κs. search needs)
-    (λ c. search needs)
-    (λ c. search needs)
-    (λ c. search needs)
-    (λ c. search needs)
-    (λ c. search needs)
-    (λ c κs. search needs)
-    (λ c. search needs)
-    (λ c κs. search needs)
-    (λ c. search needs)
-    (λ c. search needs)
-    (λ c. search needs)
+afresh-spec = tie.close (tie.spec
+    (λ c. search needs) (λ c. search needs) (λ c κs. search needs) (λ c. search needs) (λ c. search needs) (λ c. search needs) (λ c. search needs)
+    (λ c. search needs) (λ c κs. search needs) (λ c. search needs) (λ c κs. search needs) (λ c. search needs) (λ c. search needs) (λ c. search needs)
     returns
-    (λ c. search needs)
-    (λ c. search needs)
-    (λ c. search needs)
-    (λ c κs. search needs)
-    (λ c. search needs)
-    (λ c. search needs)
-    (λ c. search needs)
+    (λ c. search needs) (λ c. search needs) (λ c. search needs) (λ c κs. search needs) (λ c. search needs) (λ c. search needs) (λ c. search needs)
     returns-2)

@@ -1,7 +1,7 @@
 -- No line for none, else its pieces. Assumes nothing.
 use Rattle.output.proofs.Sending.{pours-none, pours-is, pours-then}
 use Rattle.count_lines.proofs.OneLineMore.{refused-none, refused-some}
-use borrow.Author.Needs.{needs}
+use Rattle.wire.proofs.Basics.{needs}
 use Rattle.count_lines.proofs.pour_refused.Statement.{statement}
 use Rattle.count_lines.proofs.pour_refused.Tie as tie
 
@@ -19,13 +19,7 @@ returns-2 c =
     pours-is (pours-then (first .pour-counted .ensures) (t .pour-counted-line .ensures)) (refused-some (a .number) (a .n) (test .if1 .left))
 
 pub pour-refused-spec : {M : Type 1} → statement M
-pour-refused-spec =
-    tie.close
-    (tie.spec
+pour-refused-spec = tie.close (tie.spec
     returns
-    (λ c. search needs)
-    (λ c κs. search needs)
-    (λ c. search needs)
-    (λ c κs. search needs)
-    (λ c. search needs)
+    (λ c. search needs) (λ c κs. search needs) (λ c. search needs) (λ c κs. search needs) (λ c. search needs)
     returns-2)

@@ -1,9 +1,5 @@
 -- The loop's invariant: the lines of the i tiles passed went out. Where the output is closed, the rest takes no more. Assumes nothing.
-use mathlib.Core.Path.{_≡_, refl, ap, _∙_}
-use Prim.Native.Nat.{ℕ, suc, _≤_, _-_}
-use native.Mathlib.Omega.{arith}
-use lib.ListN.{length, getD}
-use borrow.Author.Needs.{needs}
+use Rattle.wire.proofs.Basics.{_∙_, _≡_, ap, refl, ℕ, _≤_, _-_, suc, length, getD, arith, needs}
 use Rattle.output.specs.Output.{Pours}
 use Rattle.output.proofs.Sending.{pours-none, pours-then, pours-is, pours-shut}
 use Rattle.count_lines.specs.Lines.{tileLine, tileLines}
@@ -59,18 +55,11 @@ returns-2 c =
     pours-is (l .loop .inv .2) (ap (λ (k : ℕ). tileLines k (a .tile .now) (a .pits .now) (a .sure .now)) e)
 
 pub pour-tiles-spec : {M : Type 1} → statement M
-pour-tiles-spec =
-    tie.close
-    (tie.spec
+pour-tiles-spec = tie.close (tie.spec
     Inv-loop
     μ-loop
     (λ c. let a = c .before .before .before .before .args in (omega arith, refl, pours-none (a .out .now) (a .at)))
-    (λ c κs. search needs)
-    (λ c κs. search needs)
-    (λ c κs. search needs)
-    (λ c κs. search needs)
-    (λ c. search needs)
-    (λ c. search needs)
+    (λ c κs. search needs) (λ c κs. search needs) (λ c κs. search needs) (λ c κs. search needs) (λ c. search needs) (λ c. search needs)
     returns
     (λ c. search needs)
     loop-again

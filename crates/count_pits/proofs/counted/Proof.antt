@@ -1,5 +1,5 @@
 -- The lines went into the buffer, and all of them are written out. Assumes nothing.
-use borrow.Author.Needs.{needs}
+use Rattle.wire.proofs.Basics.{needs}
 use Rattle.count_pits.proofs.counted.Statement.{statement}
 use Rattle.count_pits.proofs.counted.Tie as tie
 
@@ -10,13 +10,6 @@ returns c =
     record { end = p .pour-log .result; poured = p .pour-log .ensures; told = c .write-out .ensures }
 
 pub counted-spec : {M : Type 1} → statement M
-counted-spec =
-    tie.close
-    (tie.spec
-    (λ c κs. search needs)
-    (λ c κs. search needs)
-    (λ c. search needs)
-    (λ c. search needs)
-    (λ c. search needs)
-    (λ c. search needs)
+counted-spec = tie.close (tie.spec
+    (λ c κs. search needs) (λ c κs. search needs) (λ c. search needs) (λ c. search needs) (λ c. search needs) (λ c. search needs)
     returns)

@@ -1,14 +1,10 @@
 -- `count_pits::pour_count` meets its contract. Assumes nothing.
-use mathlib.Core.Path.{sym, ap}
+use Rattle.wire.proofs.Basics.{sym, ap, needs}
 use Rattle.output.proofs.Sending.{pours-is}
 use Rattle.count.specs.declared.Answer.{Answer}
 use Rattle.count_pits.specs.Lines.{linesBy}
-use borrow.Author.Needs.{needs}
 use Rattle.count_pits.proofs.pour_count.Statement.{statement}
 use Rattle.count_pits.proofs.pour_count.Tie as tie
-
-enum-told : tie.Need-enum-told
-enum-told c = search needs
 
 returns : tie.Need-returns
 returns c =
@@ -27,14 +23,9 @@ returns-2 c =
     pours-is (t .pour-refusal .ensures) (sym (ap (λ (x : Answer). linesBy x (a .counted .report)) (told .answer .given .1)))
 
 pub pour-count-spec : {M : Type 1} → statement M
-pour-count-spec =
-    tie.close
-    (tie.spec
-    enum-told
-    (λ c κs. search needs)
+pour-count-spec = tie.close (tie.spec
     (λ c. search needs)
-    (λ c κs. search needs)
-    (λ c. search needs)
+    (λ c κs. search needs) (λ c. search needs) (λ c κs. search needs) (λ c. search needs)
     returns
     (λ c. search needs)
     returns-2)

@@ -1,6 +1,6 @@
 -- The lines of a report, one group behind the other. Assumes nothing.
 use Rattle.output.proofs.Sending.{pours-then}
-use borrow.Author.Needs.{needs}
+use Rattle.wire.proofs.Basics.{needs}
 use Rattle.count_pits.proofs.pour_report.Statement.{statement}
 use Rattle.count_pits.proofs.pour_report.Tie as tie
 
@@ -20,16 +20,8 @@ returns c =
     pours-then (pours-then (pours-then (totals .pour-totals .ensures) (refusals .pour-refusals .ensures)) (lists .pour-lists .ensures)) (tiles .pour-tiles .ensures)
 
 pub pour-report-spec : {M : Type 1} → statement M
-pour-report-spec =
-    tie.close
-    (tie.spec
-    (λ c κs. search needs)
-    (λ c. search needs)
-    (λ c κs. search needs)
-    (λ c κs. search needs)
-    (λ c. search needs)
-    (λ c. search needs)
+pour-report-spec = tie.close (tie.spec
+    (λ c κs. search needs) (λ c. search needs) (λ c κs. search needs) (λ c κs. search needs) (λ c. search needs) (λ c. search needs)
     slice-aggregate-pour-tiles-3
-    (λ c κs. search needs)
-    (λ c. search needs)
+    (λ c κs. search needs) (λ c. search needs)
     returns)

@@ -1,7 +1,6 @@
 -- `cutter::plan` meets its contract. Assumes nothing.
-use borrow.Author.Tests.{le-leb, lt-leb, lt-ltb, le-ltb}
+use Rattle.wire.proofs.Basics.{le-ltb, lt-ltb, le-leb, lt-leb, needs}
 use Rattle.cutter.specs.Cut.{planOf}
-use borrow.Author.Needs.{needs}
 use Rattle.cutter.proofs.plan.Statement.{statement}
 use Rattle.cutter.proofs.plan.Tie as tie
 
@@ -61,12 +60,9 @@ returns-5 c =
     )
 
 pub plan-spec : {M : Type 1} → statement M
-plan-spec =
-    tie.close
-    (tie.spec
+plan-spec = tie.close (tie.spec
     returns
-    (λ c κs. search needs)
-    (λ c. search needs)
+    (λ c κs. search needs) (λ c. search needs)
     returns-2
     returns-3
     (λ c κs. search needs)

@@ -1,9 +1,8 @@
 -- `cutter::put_head` meets its contract. Assumes nothing.
-use lib.ListN.{length-append}
+use Rattle.wire.proofs.Basics.{length-append, needs}
 use Rattle.wire.proofs.Numbers.{length-bytes}
 use Rattle.wire.proofs.Overlays.{overlay-next}
 use Rattle.cutter.specs.Cut.{headBytes}
-use borrow.Author.Needs.{needs}
 use Rattle.cutter.proofs.put_head.Statement.{statement}
 use Rattle.cutter.proofs.put_head.Tie as tie
 
@@ -24,15 +23,7 @@ returns c =
     overlay-next d _ _ _ _ 18 w5 (simp (length-append, length-bytes)) (p6 .put6 .ensures)
 
 pub put-head-spec : {M : Type 1} → statement M
-put-head-spec =
-    tie.close
-    (tie.spec
-    (λ c. search needs)
-    (λ c κs. search needs)
-    (λ c κs. search needs)
-    (λ c κs. search needs)
-    (λ c κs. search needs)
-    (λ c κs. search needs)
-    (λ c κs. search needs)
-    (λ c. search needs)
+put-head-spec = tie.close (tie.spec
+    (λ c. search needs) (λ c κs. search needs) (λ c κs. search needs) (λ c κs. search needs) (λ c κs. search needs) (λ c κs. search needs)
+    (λ c κs. search needs) (λ c. search needs)
     returns)

@@ -1,10 +1,8 @@
 -- `cutter::put_small` meets its contract. Assumes nothing.
-use native.Mathlib.Omega.{arith}
-use lib.ListN.{length-append}
+use Rattle.wire.proofs.Basics.{length-append, arith, needs}
 use Rattle.wire.proofs.Numbers.{length-bytes}
 use Rattle.wire.proofs.Overlays.{overlay-next}
 use Rattle.cutter.specs.Cut.{smallBytes}
-use borrow.Author.Needs.{needs}
 use Rattle.cutter.proofs.put_small.Statement.{statement}
 use Rattle.cutter.proofs.put_small.Tie as tie
 
@@ -24,16 +22,7 @@ returns c =
     overlay-next d _ _ _ _ _ w4 (simp (length-append, length-bytes) (omega arith)) (at-put-bytes2 .put-bytes2 .ensures)
 
 pub put-small-spec : {M : Type 1} → statement M
-put-small-spec =
-    tie.close
-    (tie.spec
-    (λ c. search needs)
-    (λ c κs. search needs)
-    (λ c κs. search needs)
-    (λ c κs. search needs)
-    (λ c. search needs)
-    (λ c κs. search needs)
-    (λ c. search needs)
-    (λ c κs. search needs)
-    (λ c. search needs)
+put-small-spec = tie.close (tie.spec
+    (λ c. search needs) (λ c κs. search needs) (λ c κs. search needs) (λ c κs. search needs) (λ c. search needs) (λ c κs. search needs) (λ c. search needs)
+    (λ c κs. search needs) (λ c. search needs)
     returns)

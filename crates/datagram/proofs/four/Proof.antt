@@ -1,6 +1,6 @@
 -- `datagram::four` meets its contract. Assumes nothing.
 use Rattle.wire.proofs.Numbers.{be-four}
-use borrow.Author.Needs.{needs}
+use Rattle.wire.proofs.Basics.{needs}
 use Rattle.datagram.proofs.four.Statement.{statement}
 use Rattle.datagram.proofs.four.Tie as tie
 

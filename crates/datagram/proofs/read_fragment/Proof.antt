@@ -1,17 +1,10 @@
 -- `datagram::read_fragment` meets its contract. Assumes nothing.
-use mathlib.Core.Path.{_≡_, ap, sym, _∙_}
-use mathlib.Core.List.{List}
-use Prim.Native.Nat.{ℕ}
-use native.Mathlib.Omega.{arith}
-use borrow.Author.Tests.{eq-eqb, ne-eqb, lt-ltb, le-ltb, lt-leb, le-leb}
-use lib.Dec.{eqb, ltb}
-use lib.ListN.{drop}
+use Rattle.wire.proofs.Basics.{_∙_, sym, _≡_, ap, ℕ, List, drop, eqb, ltb, eq-eqb, le-ltb, ne-eqb, lt-ltb, le-leb, lt-leb, arith, needs}
 use Rattle.wire.specs.Choice.{pick}
 use Rattle.datagram.specs.Name.{nameLength}
 use Rattle.datagram.specs.Read.{sizeIn, numberIn, place, zeroTo, formed, readFragment}
 use Rattle.datagram.specs.declared.Read.the-variants.{Refused}
 use Rattle.datagram.proofs.Names.{named-rest, found-short}
-use borrow.Author.Needs.{needs}
 use Rattle.datagram.proofs.read_fragment.Statement.{statement}
 use Rattle.datagram.proofs.read_fragment.Tie as tie
 
@@ -80,9 +73,6 @@ returns-5 c =
     let fits = c .before .before in
     c .formed-of .ensures ∙ sym (past-six fits ∙ rw (ne-eqb _ _ (rw (numbered fits) at (c .before .if5 .taken))))
 
-enum-told : tie.Need-enum-told
-enum-told c = search needs
-
 -- fragment 0: the name that was found, and what then decides
 abbrev fits : tie.After-name-length → tie.Else4
 fits c = c .before .before .before
@@ -115,25 +105,18 @@ returns-7 c =
     c .formed-of2 .ensures ∙ sym (past-number found ∙ ap (zeroTo (datagram found)) (named found ∙ known .c .given .1))
 
 pub read-fragment-spec : {M : Type 1} → statement M
-read-fragment-spec =
-    tie.close
-    (tie.spec
+read-fragment-spec = tie.close (tie.spec
     (λ c κs. search needs)
     returns
     returns-2
     (λ c κs. search needs)
     returns-3
-    (λ c κs. search needs)
-    (λ c. search needs)
+    (λ c κs. search needs) (λ c. search needs)
     returns-4
     (λ c κs. search needs)
     returns-5
+    (λ c. search needs) (λ c. search needs) (λ c. search needs) (λ c κs. search needs) (λ c. search needs)
     (λ c. search needs)
-    (λ c. search needs)
-    (λ c. search needs)
-    (λ c κs. search needs)
-    (λ c. search needs)
-    enum-told
     returns-6
     add-formed-of
     (λ c κs. search needs)

@@ -1,19 +1,13 @@
 -- `datagram::read_small` meets its contract. Assumes nothing.
-use mathlib.Core.Path.{_≡_, _∙_}
-use native.Mathlib.Omega.{arith}
-use lib.ListN.{drop}
+use Rattle.wire.proofs.Basics.{_∙_, _≡_, drop, arith, needs}
 use Rattle.datagram.specs.Name.{nameLength}
 use Rattle.datagram.specs.Read.{readSmall}
 use Rattle.datagram.proofs.Names.{named-rest, found-short}
-use borrow.Author.Needs.{needs}
 use Rattle.datagram.proofs.read_small.Statement.{statement}
 use Rattle.datagram.proofs.read_small.Tie as tie
 
 abbrev start : tie.After-name-length → tie.Start
 start c = c .before .before .before
-
-enum-told : tie.Need-enum-told
-enum-told c = search needs
 
 -- the name that was found
 named : (c : tie.After-name-length) → nameLength (drop 8 (start c .args .d .now)) ≡ c .name-length .result
@@ -36,18 +30,10 @@ returns-2 c =
     rw (named (known .before .before) ∙ known .c .given .1, c .four .ensures, room .room .ensures)
 
 pub read-small-spec : {M : Type 1} → statement M
-read-small-spec =
-    tie.close
-    (tie.spec
+read-small-spec = tie.close (tie.spec
+    (λ c. search needs) (λ c. search needs) (λ c. search needs) (λ c κs. search needs) (λ c. search needs)
     (λ c. search needs)
-    (λ c. search needs)
-    (λ c. search needs)
-    (λ c κs. search needs)
-    (λ c. search needs)
-    enum-told
     returns
     add-at
-    (λ c κs. search needs)
-    (λ c κs. search needs)
-    (λ c. search needs)
+    (λ c κs. search needs) (λ c κs. search needs) (λ c. search needs)
     returns-2)

@@ -1,7 +1,6 @@
 -- `datagram::two` meets its contract. Assumes nothing.
-use native.Mathlib.Omega.{arith}
+use Rattle.wire.proofs.Basics.{arith, needs}
 use Rattle.wire.proofs.Numbers.{be-two}
-use borrow.Author.Needs.{needs}
 use Rattle.datagram.proofs.two.Statement.{statement}
 use Rattle.datagram.proofs.two.Tie as tie
 
@@ -11,14 +10,6 @@ returns c =
     (be-two (a .d .now) (a .at) _ _ (c .before .before .byte .ensures .0) (c .byte2 .ensures .0), omega arith)
 
 pub two-spec : {M : Type 1} → statement M
-two-spec =
-    tie.close
-    (tie.spec
-    (λ c. search needs)
-    (λ c κs. search needs)
-    (λ c. search needs)
-    (λ c. search needs)
-    (λ c. search needs)
-    (λ c κs. search needs)
-    (λ c. search needs)
+two-spec = tie.close (tie.spec
+    (λ c. search needs) (λ c κs. search needs) (λ c. search needs) (λ c. search needs) (λ c. search needs) (λ c κs. search needs) (λ c. search needs)
     returns)

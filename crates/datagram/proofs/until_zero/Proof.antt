@@ -1,14 +1,8 @@
 -- `datagram::until_zero` meets its contract. The loop's invariant: no byte passed is zero. Assumes nothing.
-use mathlib.Core.Path.{_≡_, sym, _∙_}
-use Prim.Native.Nat.{_≤_, _+_, _-_, min}
-use native.Mathlib.Omega.{arith}
-use native.Mathlib.Decide.{decLe}
-use native.Mathlib.Nat.{zero-add}
-use lib.ListN.{length, drop}
+use Rattle.wire.proofs.Basics.{_∙_, sym, _≡_, _≤_, _+_, _-_, min, length, drop, zero-add, decLe, arith, needs}
 use Rattle.datagram.specs.Limits.{maxName}
 use Rattle.datagram.specs.Name.{untilZero}
 use Rattle.datagram.proofs.Names.{zero-here, zero-later, zero-end}
-use borrow.Author.Needs.{needs}
 use Rattle.datagram.proofs.until_zero.Statement.{statement}
 use Rattle.datagram.proofs.until_zero.Tie as tie
 
@@ -17,9 +11,6 @@ Inv-loop b n i₀ i = (i ≤ n) × (n ≡ min (length b) (maxName + 1)) × (unti
 
 abbrev μ-loop : tie.MeasureT-loop
 μ-loop b n i₀ i = n - i
-
-loop-holds : tie.Need-loop-holds Inv-loop μ-loop
-loop-holds c = (omega arith, c .least .ensures, sym (zero-add _))
 
 returns : tie.Need-returns Inv-loop μ-loop
 returns c =
@@ -43,17 +34,13 @@ returns-2 c =
     ]
 
 pub until-zero-spec : {M : Type 1} → statement M
-until-zero-spec =
-    tie.close
-    (tie.spec
+until-zero-spec = tie.close (tie.spec
     Inv-loop
     μ-loop
-    (λ c. search needs)
-    (λ c κs. search needs)
-    loop-holds
+    (λ c. search needs) (λ c κs. search needs)
+    (λ c. (omega arith, c .least .ensures, sym (zero-add _)))
     (λ c. search needs)
     returns
-    (λ c. search needs)
-    (λ c. search needs)
+    (λ c. search needs) (λ c. search needs)
     loop-again
     returns-2)

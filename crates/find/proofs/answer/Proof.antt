@@ -1,13 +1,11 @@
 -- The place of the first entry of the key, or the refusal. Assumes nothing.
-use mathlib.Core.Path.{sym, ap, _∙_}
-use native.Mathlib.Omega.{arith}
+use Rattle.wire.proofs.Basics.{_∙_, sym, ap, arith, needs}
 use Rattle.wire.specs.Bytes.{Bytes}
 use Rattle.output.proofs.Sending.{pours-is}
 use Rattle.log_index.specs.Index.{Answer, firstEntry}
 use Rattle.index_builder.specs.Adds.{says}
 use Rattle.index_builder.proofs.Promises.{index-entries, finds-first}
 use Rattle.index_lines.specs.Lines.{placeLine, answerLine}
-use borrow.Author.Needs.{needs}
 use Rattle.find.proofs.answer.Statement.{statement}
 use Rattle.find.proofs.answer.Tie as tie
 
@@ -34,18 +32,9 @@ returns-2 c =
     pours-is (t .pour-refused .ensures) (ap (λ (w : Answer). answerLine w (firstEntry (a .log .now) (a .sender) (a .sequence))) h)
 
 pub answer-spec : {M : Type 1} → statement M
-answer-spec =
-    tie.close
-    (tie.spec
-    (λ c κs. search needs)
-    (λ c. search needs)
-    (λ c κs. search needs)
-    (λ c κs. search needs)
-    (λ c. search needs)
-    (λ c κs. search needs)
-    (λ c. search needs)
+answer-spec = tie.close (tie.spec
+    (λ c κs. search needs) (λ c. search needs) (λ c κs. search needs) (λ c κs. search needs) (λ c. search needs) (λ c κs. search needs) (λ c. search needs)
     (λ c. search needs)
     returns
-    (λ c. search needs)
-    (λ c. search needs)
+    (λ c. search needs) (λ c. search needs)
     returns-2)

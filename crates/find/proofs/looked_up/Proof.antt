@@ -1,5 +1,5 @@
 -- Nothing is asked of the buffers but their lengths, which are those written. Assumes nothing.
-use borrow.Author.Needs.{needs}
+use Rattle.wire.proofs.Basics.{needs}
 use Rattle.output.proofs.Zeros.{zeros}
 use Rattle.find.proofs.looked_up.Statement.{statement}
 use Rattle.find.proofs.looked_up.Tie as tie

@@ -1,11 +1,7 @@
 -- The loop: the digits so far and those to come are the number. Assumes nothing.
-use mathlib.Core.Path.{_≡_, sym, ap, _∙_}
-use Prim.Native.Nat.{_-_, _≤_}
-use native.Mathlib.Omega.{arith}
-use lib.ListN.{length, drop}
+use Rattle.wire.proofs.Basics.{_∙_, sym, _≡_, ap, _≤_, _-_, length, drop, arith, needs}
 use Rattle.find.specs.Numbers.{digitsFrom, numberIn, says}
 use Rattle.find.proofs.Digits.{no-digits, some-digits, digits-next, digits-none, digits-end}
-use borrow.Author.Needs.{needs}
 use Rattle.find.proofs.number_in.Statement.{statement}
 use Rattle.find.proofs.number_in.Tie as tie
 
@@ -24,9 +20,6 @@ loop-holds : tie.Need-loop-holds Inv-loop μ-loop
 loop-holds c =
     let a = c .before .before .args in
     (omega arith, some-digits (a .most) (a .text .now) (c .if1 .left))
-
-enum-told : tie.Need-enum-told Inv-loop μ-loop
-enum-told c = search needs
 
 returns-2 : tie.Need-returns-2 Inv-loop μ-loop
 returns-2 c =
@@ -50,19 +43,14 @@ returns-3 c =
     digits-end (a .most) (l .v) (a .text .now) (l .i) (c .loop-test .left) ∙ l .inv .1
 
 pub number-in-spec : {M : Type 1} → statement M
-number-in-spec =
-    tie.close
-    (tie.spec
+number-in-spec = tie.close (tie.spec
     Inv-loop
     μ-loop
     returns
     loop-holds
+    (λ c. search needs) (λ c κs. search needs) (λ c. search needs)
     (λ c. search needs)
-    (λ c κs. search needs)
-    (λ c. search needs)
-    enum-told
     returns-2
-    (λ c. search needs)
-    (λ c. search needs)
+    (λ c. search needs) (λ c. search needs)
     loop-again
     returns-3)

@@ -1,7 +1,6 @@
 -- A digit, and no number above the most. Assumes nothing.
-use native.Mathlib.Omega.{arith}
+use Rattle.wire.proofs.Basics.{arith, needs}
 use Rattle.find.proofs.Digits.{below-digits, above-digits, above-most, one-digit}
-use borrow.Author.Needs.{needs}
 use Rattle.find.proofs.with_digit.Statement.{statement}
 use Rattle.find.proofs.with_digit.Tie as tie
 

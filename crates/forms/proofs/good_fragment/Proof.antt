@@ -1,12 +1,7 @@
 -- `forms::good_fragment` meets its contract. Assumes nothing.
-use mathlib.Core.Path.{sym, _∙_}
-use borrow.Author.Tests.{not-true, not-false, eq-eqb, ne-eqb, lt-leb, le-leb}
-use borrow.Author.Needs.{needs}
+use Rattle.wire.proofs.Basics.{_∙_, sym, eq-eqb, ne-eqb, le-leb, not-false, not-true, lt-leb, needs}
 use Rattle.forms.proofs.good_fragment.Statement.{statement}
 use Rattle.forms.proofs.good_fragment.Tie as tie
-
-returns : tie.Need-returns
-returns c = rw (sym (c .before .good-start .ensures) ∙ not-true _ (c .if1 .taken))
 
 returns-2 : tie.Need-returns-2
 returns-2 c =
@@ -27,4 +22,4 @@ returns-4 c =
 
 pub good-fragment-spec : {M : Type 1} → statement M
 good-fragment-spec =
-    tie.close (tie.spec (λ c κs. search needs) returns (λ c. search needs) returns-2 (λ c. search needs) returns-3 returns-4)
+    tie.close (tie.spec (λ c κs. search needs) (λ c. rw (sym (c .before .good-start .ensures) ∙ not-true _ (c .if1 .taken))) (λ c. search needs) returns-2 (λ c. search needs) returns-3 returns-4)

@@ -1,8 +1,5 @@
 -- `fragment_fit::agree` meets its contract. Assumes nothing.
-use mathlib.Core.Path.{sym}
-use Prim.Native.Nat.{_+_}
-use borrow.Author.Tests.{lt-ltb, le-ltb}
-use borrow.Author.Needs.{needs}
+use Rattle.wire.proofs.Basics.{sym, _+_, le-ltb, lt-ltb, needs}
 use Rattle.fragment_fit.proofs.Aparts.{near, far}
 use Rattle.fragment_fit.proofs.agree.Statement.{statement}
 use Rattle.fragment_fit.proofs.agree.Tie as tie
@@ -20,15 +17,8 @@ returns-4 : tie.Need-returns-4
 returns-4 c = let a = c .before .before .args in rw (le-ltb _ _ (c .before .if1 .left)) (sym (far (a .k) (a .offset + a .len) (a .j) (a .other) (c .if3 .left)))
 
 pub agree-spec : {M : Type 1} → statement M
-agree-spec =
-    tie.close
-    (tie.spec
-    (λ c. search needs)
-    (λ c. search needs)
-    (λ c. search needs)
-    (λ c. search needs)
-    (λ c. search needs)
-    (λ c. search needs)
+agree-spec = tie.close (tie.spec
+    (λ c. search needs) (λ c. search needs) (λ c. search needs) (λ c. search needs) (λ c. search needs) (λ c. search needs)
     returns
     returns-2
     returns-3

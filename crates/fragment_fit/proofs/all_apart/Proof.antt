@@ -1,12 +1,5 @@
 -- `fragment_fit::all_apart` meets its contract. The loop's invariant: none of the j fragments passed is held and crosses. Assumes nothing.
-use mathlib.Core.Path.{_≡_, refl, sym, _∙_, ap}
-use mathlib.Core.Bool.{true}
-use mathlib.Core.Logic.{⊎-elim}
-use Prim.Native.Nat.{ℕ, _-_, _*_, _/_, _%_, _^_, _≤_}
-use native.Mathlib.Omega.{arith}
-use lib.Dec.{ltb}
-use borrow.Author.Tests.{not-true, not-false}
-use borrow.Author.Needs.{needs}
+use Rattle.wire.proofs.Basics.{_∙_, sym, _≡_, ap, refl, ℕ, _≤_, _-_, _*_, _^_, _%_, _/_, true, ⊎-elim, ltb, not-false, not-true, arith, needs}
 use Rattle.steps.specs.Search.{allBelow}
 use Rattle.fragment_fit.specs.Inside.{apartAt}
 use Rattle.fragment_fit.proofs.Aparts.{run-passes, run-fails, run-word, zero-apart}
@@ -18,9 +11,6 @@ Inv-loop held ledger n k offset len j₀ j = (j ≤ n) × (allBelow j (apartAt h
 
 abbrev μ-loop : tie.MeasureT-loop
 μ-loop held ledger n k offset len j₀ j = n - j
-
-loop-holds : tie.Need-loop-holds Inv-loop μ-loop
-loop-holds c = (omega arith, refl)
 
 returns : tie.Need-returns Inv-loop μ-loop
 returns c =
@@ -54,19 +44,12 @@ returns-2 c =
     sym (rw e at (c .before .loop .inv .1))
 
 pub all-apart-spec : {M : Type 1} → statement M
-all-apart-spec =
-    tie.close
-    (tie.spec
+all-apart-spec = tie.close (tie.spec
     Inv-loop
     μ-loop
-    loop-holds
-    (λ c κs. search needs)
-    (λ c κs. search needs)
-    (λ c. search needs)
-    (λ c. search needs)
-    (λ c κs. search needs)
+    (λ c. (omega arith, refl))
+    (λ c κs. search needs) (λ c κs. search needs) (λ c. search needs) (λ c. search needs) (λ c κs. search needs)
     returns
-    (λ c. search needs)
-    (λ c. search needs)
+    (λ c. search needs) (λ c. search needs)
     loop-again
     returns-2)

@@ -1,9 +1,5 @@
 -- `fragment_fit::few_apart` meets its contract. Assumes nothing.
-use mathlib.Core.Path.{_≡_, sym, ap, _∙_}
-use Prim.Native.Nat.{ℕ, _-_, _*_, _/_, _^_}
-use mathlib.Core.Bool.{false}
-use borrow.Author.Tests.{not-true, not-false}
-use borrow.Author.Needs.{needs}
+use Rattle.wire.proofs.Basics.{_∙_, sym, _≡_, ap, ℕ, _-_, _*_, _^_, _/_, false, not-false, not-true, needs}
 use Rattle.steps.specs.Search.{allBelow}
 use Rattle.fragment_fit.specs.Inside.{apartAt, apartIn}
 use Rattle.fragment_fit.proofs.Aparts.{few-below, few-all, zero-apart}
@@ -35,10 +31,7 @@ returns-2 c =
     let a = c .before .before .before .before .before .before .args in
     sym (zero-apart _ (a .n - a .k) (a .ledger .now) (2 * a .k) false (a .offset) (a .len) (c .if2 .taken)) ∙ those-above (c .before)
 
-returns-3 : tie.Need-returns-3
-returns-3 c = c .run-apart2 .ensures ∙ those-above (c .before .before)
-
 pub few-apart-spec : {M : Type 1} → statement M
 few-apart-spec =
     tie.close
-    (tie.spec (λ c κs. search needs) (λ c κs. search needs) returns (λ c. search needs) returns-2 (λ c. search needs) (λ c. search needs) (λ c κs. search needs) returns-3)
+    (tie.spec (λ c κs. search needs) (λ c κs. search needs) returns (λ c. search needs) returns-2 (λ c. search needs) (λ c. search needs) (λ c κs. search needs) (λ c. c .run-apart2 .ensures ∙ those-above (c .before .before)))

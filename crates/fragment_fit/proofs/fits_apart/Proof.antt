@@ -1,9 +1,5 @@
 -- `fragment_fit::fits_apart` meets its contract. Assumes nothing.
-use mathlib.Core.Path.{_≡_, sym, ap, _∙_}
-use Prim.Native.Nat.{ℕ}
-use native.Mathlib.Omega.{arith}
-use borrow.Author.Tests.{not-true, not-false}
-use borrow.Author.Needs.{needs}
+use Rattle.wire.proofs.Basics.{_∙_, sym, _≡_, ap, ℕ, not-false, not-true, arith, needs}
 use Rattle.steps.specs.Search.{allBelow}
 use Rattle.fragment_fit.specs.Fits.{fitsIn}
 use Rattle.fragment_fit.specs.Inside.{apartAt}
@@ -27,13 +23,7 @@ beside c =
     ap (λ (x : ℕ). allBelow (a .n) (apartAt (a .held .now) (a .ledger .now) x (a .offset) (a .len))) (c .as-size .ensures .0)
     ∙ near-apart (a .held .now) (a .ledger .now) (a .n) (a .k) (a .offset) (a .len) (sym (asked .near-fit .ensures) ∙ not-false _ (c .before .if1 .left))
 
-returns-2 : tie.Need-returns-2
-returns-2 c = c .few-apart .ensures ∙ beside (c .before .before)
-
-returns-3 : tie.Need-returns-3
-returns-3 c = c .all-apart .ensures ∙ beside (c .before .before)
-
 pub fits-apart-spec : {M : Type 1} → statement M
 fits-apart-spec =
     tie.close
-    (tie.spec (λ c κs. search needs) returns (λ c κs. search needs) (λ c κs. search needs) returns-2 (λ c κs. search needs) returns-3)
+    (tie.spec (λ c κs. search needs) returns (λ c κs. search needs) (λ c κs. search needs) (λ c. c .few-apart .ensures ∙ beside (c .before .before)) (λ c κs. search needs) (λ c. c .all-apart .ensures ∙ beside (c .before .before)))

@@ -1,14 +1,9 @@
 -- `fragment_fit::fits_each` meets its contract. The loop's invariant: the fragment agrees with every held one of the j passed. Assumes nothing.
-use mathlib.Core.Path.{_≡_, refl, sym, _∙_}
-use mathlib.Core.Bool.{true}
-use Prim.Native.Nat.{_-_, _≤_}
-use native.Mathlib.Omega.{arith}
-use borrow.Author.Tests.{not-true, not-false}
+use Rattle.wire.proofs.Basics.{_∙_, sym, _≡_, refl, _≤_, _-_, true, not-false, not-true, arith, needs}
 use Rattle.steps.specs.Search.{allBelow}
 use Rattle.steps.proofs.Tables.{all-not}
 use Rattle.fragment_fit.specs.Fits.{fitsIn}
 use Rattle.held_bits.proofs.Runs.{all-more}
-use borrow.Author.Needs.{needs}
 use Rattle.fragment_fit.proofs.fits_each.Statement.{statement}
 use Rattle.fragment_fit.proofs.fits_each.Tie as tie
 
@@ -17,9 +12,6 @@ Inv-loop held ledger n k offset len j₀ j = (j ≤ n) × (allBelow j (fitsIn he
 
 abbrev μ-loop : tie.MeasureT-loop
 μ-loop held ledger n k offset len j₀ j = n - j
-
-loop-holds : tie.Need-loop-holds Inv-loop μ-loop
-loop-holds c = (omega arith, refl)
 
 returns : tie.Need-returns Inv-loop μ-loop
 returns c =
@@ -40,15 +32,12 @@ returns-2 c =
     sym (rw e at (c .before .loop .inv .1))
 
 pub fits-each-spec : {M : Type 1} → statement M
-fits-each-spec =
-    tie.close
-    (tie.spec
+fits-each-spec = tie.close (tie.spec
     Inv-loop
     μ-loop
-    loop-holds
+    (λ c. (omega arith, refl))
     (λ c κs. search needs)
     returns
-    (λ c. search needs)
-    (λ c. search needs)
+    (λ c. search needs) (λ c. search needs)
     loop-again
     returns-2)

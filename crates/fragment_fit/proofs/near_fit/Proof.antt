@@ -1,9 +1,6 @@
 -- `fragment_fit::near_fit` meets its contract. Assumes nothing.
-use mathlib.Core.Path.{sym, _∙_}
-use mathlib.Core.Logic.{⊎-elim}
-use borrow.Author.Tests.{not-true, not-false}
+use Rattle.wire.proofs.Basics.{_∙_, sym, ⊎-elim, not-false, not-true, needs}
 use Rattle.fragment_fit.proofs.Aparts.{first-fits, first-free, near-breaks, near-other, near-only}
-use borrow.Author.Needs.{needs}
 use Rattle.fragment_fit.proofs.near_fit.Statement.{statement}
 use Rattle.fragment_fit.proofs.near_fit.Tie as tie
 
@@ -34,15 +31,9 @@ returns-3 c =
     sym (near-only (a .held .now) (a .ledger .now) (a .n) (a .k) (a .offset) (a .len) first (rw k at (c .if3 .left)))
 
 pub near-fit-spec : {M : Type 1} → statement M
-near-fit-spec =
-    tie.close
-    (tie.spec
-    (λ c κs. search needs)
-    (λ c. search needs)
-    (λ c κs. search needs)
+near-fit-spec = tie.close (tie.spec
+    (λ c κs. search needs) (λ c. search needs) (λ c κs. search needs)
     returns
-    (λ c. search needs)
-    (λ c. search needs)
-    (λ c κs. search needs)
+    (λ c. search needs) (λ c. search needs) (λ c κs. search needs)
     returns-2
     returns-3)

@@ -1,11 +1,5 @@
 -- `fragment_fit::run_apart` meets its contract. The loop's invariant: crossed of the b fragments passed are held and cross. Assumes nothing.
-use mathlib.Core.Path.{_≡_, refl, ap}
-use mathlib.Core.Bool.{not}
-use mathlib.Core.Logic.{⊎-elim}
-use Prim.Native.Nat.{_-_, _≤_}
-use native.Mathlib.Omega.{arith}
-use lib.Dec.{eqb}
-use borrow.Author.Needs.{needs}
+use Rattle.wire.proofs.Basics.{_≡_, ap, refl, _≤_, _-_, not, ⊎-elim, eqb, arith, needs}
 use Rattle.steps.specs.Search.{allBelow}
 use Rattle.fragment_fit.specs.Inside.{apartIn}
 use Rattle.fragment_fit.proofs.Aparts.{none-more, one-more}
@@ -17,9 +11,6 @@ Inv-loop w ledger at m below offset len crossed₀ b₀ crossed b = (b ≤ m) ×
 
 abbrev μ-loop : tie.MeasureT-loop
 μ-loop w ledger at m below offset len crossed₀ b₀ crossed b = m - b
-
-loop-holds : tie.Need-loop-holds Inv-loop μ-loop
-loop-holds c = (omega arith, omega arith, refl)
 
 loop-again : tie.Need-loop-again Inv-loop μ-loop
 loop-again c =
@@ -41,23 +32,11 @@ returns c =
     rw e at (c .before .loop .inv .2)
 
 pub run-apart-spec : {M : Type 1} → statement M
-run-apart-spec =
-    tie.close
-    (tie.spec
+run-apart-spec = tie.close (tie.spec
     Inv-loop
     μ-loop
-    loop-holds
-    (λ c. search needs)
-    (λ c. search needs)
-    (λ c. search needs)
-    (λ c. search needs)
-    (λ c. search needs)
-    (λ c. search needs)
-    (λ c. search needs)
-    (λ c κs. search needs)
-    (λ c. search needs)
-    (λ c. search needs)
-    (λ c. search needs)
-    (λ c. search needs)
+    (λ c. (omega arith, omega arith, refl))
+    (λ c. search needs) (λ c. search needs) (λ c. search needs) (λ c. search needs) (λ c. search needs) (λ c. search needs) (λ c. search needs)
+    (λ c κs. search needs) (λ c. search needs) (λ c. search needs) (λ c. search needs) (λ c. search needs)
     loop-again
     returns)

@@ -1,7 +1,6 @@
 -- What is said of a datagram. Assumes nothing.
-use mathlib.Core.Path.{sym, ap, _∙_}
+use Rattle.wire.proofs.Basics.{_∙_, sym, ap, needs}
 use Rattle.gaps.specs.Lines.{saidOf, afterOf}
-use borrow.Author.Needs.{needs}
 use Rattle.gaps.proofs.judge.Statement.{statement}
 use Rattle.gaps.proofs.judge.Tie as tie
 
@@ -22,12 +21,7 @@ returns-2 c =
     record { answer = ap (saidOf w) e; watch = ap (afterOf w) e }
 
 pub judge-spec : {M : Type 1} → statement M
-judge-spec =
-    tie.close
-    (tie.spec
-    (λ c κs. search needs)
-    (λ c. search needs)
-    (λ c κs. search needs)
-    (λ c. search needs)
+judge-spec = tie.close (tie.spec
+    (λ c κs. search needs) (λ c. search needs) (λ c κs. search needs) (λ c. search needs)
     returns
     returns-2)

@@ -1,15 +1,11 @@
 -- The answer as text, by its cases. Assumes nothing.
-use mathlib.Core.Path.{sym, ap}
-use Rattle.watch.specs.declared.Answer.{Answer}
-use Rattle.watch.specs.Noted.{notes}
+use Rattle.wire.proofs.Basics.{sym, ap, needs}
+use Rattle.differences.specs.declared.Answer.{Answer}
+use Rattle.differences.specs.Noted.{notes}
 use Rattle.output.proofs.Sending.{pours-is}
 use Rattle.gaps.specs.Lines.{answerText}
-use borrow.Author.Needs.{needs}
 use Rattle.gaps.proofs.pour_answer.Statement.{statement}
 use Rattle.gaps.proofs.pour_answer.Tie as tie
-
-enum-told : tie.Need-enum-told
-enum-told c = search needs
 
 returns : tie.Need-returns
 returns c =
@@ -42,31 +38,11 @@ returns-6 c =
     pours-is (p .pour-counted-line4 .ensures) (ap (λ (a : Answer). answerText (notes a)) (sym (p .before .before .before .before .answer4 .given .1)))
 
 pub pour-answer-spec : {M : Type 1} → statement M
-pour-answer-spec =
-    tie.close
-    (tie.spec
-    enum-told
+pour-answer-spec = tie.close (tie.spec
     (λ c. search needs)
-    (λ c κs. search needs)
-    (λ c. search needs)
-    (λ c. search needs)
-    (λ c. search needs)
-    (λ c κs. search needs)
-    (λ c. search needs)
-    (λ c. search needs)
-    (λ c κs. search needs)
-    (λ c. search needs)
-    (λ c. search needs)
-    (λ c. search needs)
-    (λ c κs. search needs)
-    (λ c. search needs)
-    (λ c. search needs)
-    (λ c. search needs)
-    (λ c κs. search needs)
-    (λ c. search needs)
-    (λ c. search needs)
-    (λ c. search needs)
-    (λ c κs. search needs)
+    (λ c. search needs) (λ c κs. search needs) (λ c. search needs) (λ c. search needs) (λ c. search needs) (λ c κs. search needs) (λ c. search needs)
+    (λ c. search needs) (λ c κs. search needs) (λ c. search needs) (λ c. search needs) (λ c. search needs) (λ c κs. search needs) (λ c. search needs)
+    (λ c. search needs) (λ c. search needs) (λ c κs. search needs) (λ c. search needs) (λ c. search needs) (λ c. search needs) (λ c κs. search needs)
     (λ c. search needs)
     returns
     (λ c. search needs)

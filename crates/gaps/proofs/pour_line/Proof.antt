@@ -1,6 +1,6 @@
 -- A line: its number, then the answer. Assumes nothing.
 use Rattle.output.proofs.Sending.{pours-then}
-use borrow.Author.Needs.{needs}
+use Rattle.wire.proofs.Basics.{needs}
 use Rattle.gaps.proofs.pour_line.Statement.{statement}
 use Rattle.gaps.proofs.pour_line.Tie as tie
 

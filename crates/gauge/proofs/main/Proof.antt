@@ -1,5 +1,5 @@
 -- Arrays are lent as slices, each as long as it says: by a law, since they are too long to count. Assumes nothing.
-use borrow.Author.Needs.{needs}
+use Rattle.wire.proofs.Basics.{needs}
 use Rattle.output.proofs.Zeros.{zeros}
 use Rattle.gauge.proofs.main.Statement.{statement}
 use Rattle.gauge.proofs.main.Tie as tie
@@ -21,9 +21,7 @@ returns c =
     tt
 
 pub main-spec : {M : Type 1} → statement M
-main-spec =
-    tie.close
-    (tie.spec
+main-spec = tie.close (tie.spec
     slice-aggregate-run
     slice-aggregate-run-2
     run-requires

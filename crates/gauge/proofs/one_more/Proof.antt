@@ -1,10 +1,9 @@
 -- A packet is heard, and its line goes out. Assumes nothing.
-use mathlib.Core.Path.{ap}
-use Rattle.watch.specs.Noted.{Noted}
+use Rattle.wire.proofs.Basics.{ap, needs}
+use Rattle.differences.specs.Noted.{Noted}
 use Rattle.moss.specs.Packet.{packetOf}
 use Rattle.output.proofs.Sending.{pours-is}
 use Rattle.gauge.specs.Lines.{line}
-use borrow.Author.Needs.{needs}
 use Rattle.gauge.proofs.one_more.Statement.{statement}
 use Rattle.gauge.proofs.one_more.Tie as tie
 
@@ -19,10 +18,6 @@ returns c =
     }
 
 pub one-more-spec : {M : Type 1} → statement M
-one-more-spec =
-    tie.close
-    (tie.spec
-    (λ c κs. search needs)
-    (λ c κs. search needs)
-    (λ c. search needs)
+one-more-spec = tie.close (tie.spec
+    (λ c κs. search needs) (λ c κs. search needs) (λ c. search needs)
     returns)

@@ -1,9 +1,5 @@
 -- Lengths, each after a space. The loop's invariant: what went out and the lengths of the blocks that are left are those of all. Assumes nothing.
-use mathlib.Core.Path.{_≡_, refl, sym, ap, _∙_}
-use mathlib.Core.List.{List, [], _∷_, _++_, append-nil, append-assoc}
-use Prim.Native.Nat.{ℕ, _+_, _-_}
-use native.Mathlib.Omega.{arith}
-use lib.ListN.{length, drop}
+use Rattle.wire.proofs.Basics.{_∙_, sym, _≡_, ap, refl, ℕ, _+_, _-_, List, [], _∷_, _++_, append-assoc, append-nil, length, drop, arith, needs}
 use Rattle.moss.specs.Blocks.{messagesIn}
 use Rattle.moss.specs.Packet.{fillFault}
 use Rattle.text.specs.Text.{decimal}
@@ -11,7 +7,6 @@ use Rattle.output.proofs.Sending.{pours-none, pours-then, pours-is}
 use Rattle.gauge.specs.Lines.{spaced}
 use Rattle.gauge.specs.Inside.{lengthsIn}
 use Rattle.gauge.proofs.Texts.{Passed, block-fits, rest-filled, lengths-next, lengths-end}
-use borrow.Author.Needs.{needs}
 use Rattle.gauge.proofs.pour_lengths.Statement.{statement}
 use Rattle.gauge.proofs.pour_lengths.Tie as tie
 
@@ -28,17 +23,11 @@ loop-holds c =
     let a = s .args in
     (s .pre, refl, record { text = []; gone = pours-none (a .out .now) (a .at); whole = refl })
 
-add-block : tie.Need-add-block Inv-loop μ-loop
-add-block c = omega (arith, c .before .before .before .before .before .number .ensures .fits)
-
 add-block-2 : tie.Need-add-block-2 Inv-loop μ-loop
 add-block-2 c =
     let m = c .before .before .before .before .before in
     let l = m .before .before in
     omega (arith, block-fits (l .before .before .before .args .p .now) (l .loop .block) (m .number .result) (m .before .loop-test .taken) (l .loop .inv .0) (m .number .ensures .value))
-
-loop-less : tie.Need-loop-less Inv-loop μ-loop
-loop-less c = omega (arith, c .before .before .before .before .before .before .loop-test .taken)
 
 loop-again : tie.Need-loop-again Inv-loop μ-loop
 loop-again c =
@@ -76,18 +65,14 @@ returns c =
     ∙ passed .whole)
 
 pub pour-lengths-spec : {M : Type 1} → statement M
-pour-lengths-spec =
-    tie.close
-    (tie.spec
+pour-lengths-spec = tie.close (tie.spec
     Inv-loop
     μ-loop
     loop-holds
-    (λ c κs. search needs)
-    (λ c. search needs)
-    (λ c κs. search needs)
-    add-block
+    (λ c κs. search needs) (λ c. search needs) (λ c κs. search needs)
+    (λ c. omega (arith, c .before .before .before .before .before .number .ensures .fits))
     add-block-2
-    loop-less
+    (λ c. omega (arith, c .before .before .before .before .before .before .loop-test .taken))
     loop-again
     (λ c. search needs)
     returns)

@@ -1,16 +1,12 @@
 -- A line: its number, then what is said of the packet. Assumes nothing.
-use mathlib.Core.Path.{sym, ap, _∙_}
-use Rattle.watch.specs.Noted.{notes}
+use Rattle.wire.proofs.Basics.{_∙_, sym, ap, needs}
+use Rattle.differences.specs.Noted.{notes}
 use Rattle.moss.specs.Packet.{packetOf}
 use Rattle.moss.specs.Answers.{reads}
 use Rattle.output.proofs.Sending.{pours-then, pours-is}
 use Rattle.gauge.proofs.Texts.{line-refused, line-good}
-use borrow.Author.Needs.{needs}
 use Rattle.gauge.proofs.pour_line.Statement.{statement}
 use Rattle.gauge.proofs.pour_line.Tie as tie
-
-enum-told : tie.Need-enum-told
-enum-told c = search needs
 
 returns : tie.Need-returns
 returns c =
@@ -47,25 +43,12 @@ returns-2 c =
     (line-good (a .n) (a .p .now) (notes (a .answer)) (r .read .given .0 .0) _ (p .part .ensures) (sym (ap reads (r .read .given .1)) ∙ k .read-packet .ensures))
 
 pub pour-line-spec : {M : Type 1} → statement M
-pour-line-spec =
-    tie.close
-    (tie.spec
-    (λ c κs. search needs)
-    (λ c κs. search needs)
+pour-line-spec = tie.close (tie.spec
+    (λ c κs. search needs) (λ c κs. search needs) (λ c. search needs)
     (λ c. search needs)
-    enum-told
-    (λ c κs. search needs)
-    (λ c. search needs)
-    (λ c κs. search needs)
-    (λ c. search needs)
+    (λ c κs. search needs) (λ c. search needs) (λ c κs. search needs) (λ c. search needs)
     returns
-    (λ c. search needs)
-    (λ c κs. search needs)
-    (λ c κs. search needs)
-    (λ c κs. search needs)
-    (λ c κs. search needs)
+    (λ c. search needs) (λ c κs. search needs) (λ c κs. search needs) (λ c κs. search needs) (λ c κs. search needs)
     pour-messages-requires
-    (λ c. search needs)
-    (λ c κs. search needs)
-    (λ c. search needs)
+    (λ c. search needs) (λ c κs. search needs) (λ c. search needs)
     returns-2)

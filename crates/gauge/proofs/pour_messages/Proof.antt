@@ -1,13 +1,9 @@
 -- The lengths of a data packet's messages. Assumes nothing.
-use mathlib.Core.Path.{ap}
-use mathlib.Core.List.{List, _++_}
-use Prim.Native.Nat.{ℕ}
-use borrow.Author.Tests.{eq-eqb, ne-eqb}
+use Rattle.wire.proofs.Basics.{ap, ℕ, List, _++_, eq-eqb, ne-eqb, needs}
 use Rattle.wire.specs.Text.{ascii}
 use Rattle.output.proofs.Sending.{pours-none, pours-then, pours-is}
 use Rattle.gauge.specs.Lines.{spaced}
 use Rattle.gauge.proofs.Texts.{blocks-filled, blocks-lengths}
-use borrow.Author.Needs.{needs}
 use Rattle.gauge.proofs.pour_messages.Statement.{statement}
 use Rattle.gauge.proofs.pour_messages.Tie as tie
 
@@ -34,11 +30,8 @@ returns-2 c =
     rw (ne-eqb _ _ (c .if1 .left)) (pours-none (a .out .now) (a .at))
 
 pub pour-messages-spec : {M : Type 1} → statement M
-pour-messages-spec =
-    tie.close
-    (tie.spec
-    (λ c. search needs)
-    (λ c κs. search needs)
+pour-messages-spec = tie.close (tie.spec
+    (λ c. search needs) (λ c κs. search needs)
     pour-lengths-requires
     (λ c. search needs)
     returns

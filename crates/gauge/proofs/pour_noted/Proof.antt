@@ -1,15 +1,11 @@
 -- What is noted, as text, by its cases. Assumes nothing.
-use mathlib.Core.Path.{sym, ap}
-use Rattle.watch.specs.declared.Answer.{Answer}
-use Rattle.watch.specs.Noted.{notes}
+use Rattle.wire.proofs.Basics.{sym, ap, needs}
+use Rattle.differences.specs.declared.Answer.{Answer}
+use Rattle.differences.specs.Noted.{notes}
 use Rattle.output.proofs.Sending.{pours-is}
 use Rattle.gauge.specs.Lines.{notedText}
-use borrow.Author.Needs.{needs}
 use Rattle.gauge.proofs.pour_noted.Statement.{statement}
 use Rattle.gauge.proofs.pour_noted.Tie as tie
-
-enum-told : tie.Need-enum-told
-enum-told c = search needs
 
 returns : tie.Need-returns
 returns c =
@@ -42,31 +38,11 @@ returns-6 c =
     pours-is (t .pour-counted4 .ensures) (ap (λ (a : Answer). notedText (notes a)) (sym (t .before .before .before .before .answer4 .given .1)))
 
 pub pour-noted-spec : {M : Type 1} → statement M
-pour-noted-spec =
-    tie.close
-    (tie.spec
-    enum-told
+pour-noted-spec = tie.close (tie.spec
     (λ c. search needs)
-    (λ c κs. search needs)
-    (λ c. search needs)
-    (λ c. search needs)
-    (λ c. search needs)
-    (λ c κs. search needs)
-    (λ c. search needs)
-    (λ c. search needs)
-    (λ c κs. search needs)
-    (λ c. search needs)
-    (λ c. search needs)
-    (λ c. search needs)
-    (λ c κs. search needs)
-    (λ c. search needs)
-    (λ c. search needs)
-    (λ c. search needs)
-    (λ c κs. search needs)
-    (λ c. search needs)
-    (λ c. search needs)
-    (λ c. search needs)
-    (λ c κs. search needs)
+    (λ c. search needs) (λ c κs. search needs) (λ c. search needs) (λ c. search needs) (λ c. search needs) (λ c κs. search needs) (λ c. search needs)
+    (λ c. search needs) (λ c κs. search needs) (λ c. search needs) (λ c. search needs) (λ c. search needs) (λ c κs. search needs) (λ c. search needs)
+    (λ c. search needs) (λ c. search needs) (λ c κs. search needs) (λ c. search needs) (λ c. search needs) (λ c. search needs) (λ c κs. search needs)
     (λ c. search needs)
     returns
     (λ c. search needs)

@@ -1,8 +1,5 @@
 -- Packet by packet. The loop's invariant: the packets taken have their lines. Assumes nothing.
-use mathlib.Core.Path.{_≡_, refl, sym, ap, _∙_}
-use mathlib.Core.List.{List}
-use Prim.Native.Nat.{ℕ, _+_, _-_}
-use lib.ListN.{length}
+use Rattle.wire.proofs.Basics.{_∙_, sym, _≡_, ap, refl, ℕ, _+_, _-_, List, length, needs}
 use Rattle.stream.specs.declared.Kind.the-variants.{Bytes2}
 use Rattle.output.proofs.Sending.{pours-is}
 use Rattle.record_lines.specs.Streams.{many}
@@ -10,7 +7,6 @@ use Rattle.record_lines.proofs.RecordLoop.{Going, going-none, going-more, going
 use Rattle.moss.specs.Packet.{packetOf}
 use Rattle.gauge_watch.specs.Heard.{silent, asked, after}
 use Rattle.gauge.specs.Lines.{line, says}
-use borrow.Author.Needs.{needs}
 use Rattle.gauge.proofs.run.Statement.{statement}
 use Rattle.gauge.proofs.run.Tie as tie
 
@@ -65,28 +61,16 @@ returns-3 : tie.Need-returns-3 Inv-loop μ-loop
 returns-3 c = let f = c .before .before in let t = f .before .before in going-over (t .before .loop .inv .1) (t .loop-test .left) (f .finish2 .ensures)
 
 pub run-spec : {M : Type 1} → statement M
-run-spec =
-    tie.close
-    (tie.spec
+run-spec = tie.close (tie.spec
     Inv-loop
     μ-loop
     (λ c κs. search needs)
     loop-holds
-    (λ c κs. search needs)
-    (λ c. search needs)
-    (λ c κs. search needs)
-    (λ c. search needs)
-    (λ c. search needs)
+    (λ c κs. search needs) (λ c. search needs) (λ c κs. search needs) (λ c. search needs) (λ c. search needs)
     returns
-    (λ c. search needs)
-    (λ c κs. search needs)
-    (λ c κs. search needs)
-    (λ c. search needs)
-    (λ c. search needs)
+    (λ c. search needs) (λ c κs. search needs) (λ c κs. search needs) (λ c. search needs) (λ c. search needs)
     returns-2
     (λ c. search needs)
     loop-again
-    (λ c κs. search needs)
-    (λ c. search needs)
-    (λ c. search needs)
+    (λ c κs. search needs) (λ c. search needs) (λ c. search needs)
     returns-3)

@@ -1,14 +1,11 @@
 -- Arrays are lent as slices, each as long as it says: by a law, since they are too long to count. Assumes nothing.
-use mathlib.Core.Path.{sym}
-use borrow.Author.Needs.{needs}
+use Rattle.wire.proofs.Basics.{sym, needs}
 use Rattle.output.proofs.Zeros.{zeros}
 use Rattle.gauge_bytes.proofs.main.Statement.{statement}
 use Rattle.gauge_bytes.proofs.main.Tie as tie
 
 pub main-spec : {M : Type 1} → statement M
-main-spec =
-    tie.close
-    (tie.spec
+main-spec = tie.close (tie.spec
     (λ c. zeros _)
     (λ c. zeros _)
     (λ c. zeros _)

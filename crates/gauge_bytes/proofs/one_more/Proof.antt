@@ -1,17 +1,11 @@
 -- A record's line. Assumes nothing.
-use mathlib.Core.Path.{sym, ap, _∙_}
-use mathlib.Core.List.{_++_}
-use Prim.Native.Nat.{ℕ}
-use native.Mathlib.Omega.{arith}
-use lib.ListN.{length, drop, length-drop}
-use lib.Seq.{take-all}
+use Rattle.wire.proofs.Basics.{_∙_, sym, ap, ℕ, _++_, length, drop, length-drop, take-all, arith, needs}
 use Rattle.moss.specs.Packet.{Given}
 use Rattle.wire.specs.Bytes.{Bytes}
 use Rattle.text.specs.Text.{decimal}
 use Rattle.output.proofs.Sending.{pours-then, pours-is}
 use Rattle.gauge_bytes.specs.Lines.{recordBytes, answerText}
 use Rattle.gauge_bytes.proofs.Records.{answer-short, session-front, line-bytes, line-refused}
-use borrow.Author.Needs.{needs}
 use Rattle.gauge_bytes.proofs.one_more.Statement.{statement}
 use Rattle.gauge_bytes.proofs.one_more.Tie as tie
 
@@ -61,28 +55,11 @@ returns-3 c =
     (line-refused (a .n) b (a .packet .now) _ _ _ _ _ all (f .if1 .left) (z .before .before .before .pre) (s .session-at .ensures ∙ session-front b (f .if1 .left)) (v .word-at .ensures) blocks (k .write-packet .ensures) _ (t .w2 .given .1))
 
 pub one-more-spec : {M : Type 1} → statement M
-one-more-spec =
-    tie.close
-    (tie.spec
-    (λ c κs. search needs)
-    (λ c. search needs)
-    (λ c κs. search needs)
-    (λ c. search needs)
+one-more-spec = tie.close (tie.spec
+    (λ c κs. search needs) (λ c. search needs) (λ c κs. search needs) (λ c. search needs)
     returns
-    (λ c κs. search needs)
-    (λ c κs. search needs)
-    (λ c. search needs)
-    (λ c κs. search needs)
-    (λ c κs. search needs)
-    (λ c. search needs)
-    (λ c κs. search needs)
-    (λ c. search needs)
-    (λ c. search needs)
-    (λ c. search needs)
-    (λ c κs. search needs)
-    (λ c. search needs)
-    (λ c. search needs)
+    (λ c κs. search needs) (λ c κs. search needs) (λ c. search needs) (λ c κs. search needs) (λ c κs. search needs) (λ c. search needs) (λ c κs. search needs)
+    (λ c. search needs) (λ c. search needs) (λ c. search needs) (λ c κs. search needs) (λ c. search needs) (λ c. search needs)
     returns-2
-    (λ c. search needs)
-    (λ c. search needs)
+    (λ c. search needs) (λ c. search needs)
     returns-3)

@@ -1,10 +1,7 @@
 -- The first bytes of the packet in hexadecimal. Assumes nothing.
-use mathlib.Core.Path.{ap}
-use mathlib.Core.List.{List, [], _∷_, _++_}
-use Prim.Native.Nat.{ℕ}
+use Rattle.wire.proofs.Basics.{ap, ℕ, List, [], _∷_, _++_, needs}
 use Rattle.text.specs.Text.{hex}
 use Rattle.output.proofs.Sending.{pours-then, pours-is}
-use borrow.Author.Needs.{needs}
 use Rattle.gauge_bytes.proofs.pour_bytes.Statement.{statement}
 use Rattle.gauge_bytes.proofs.pour_bytes.Tie as tie
 
@@ -18,14 +15,6 @@ returns c =
     (ap (λ (l : List ℕ). (32 ∷ 98 ∷ 121 ∷ 116 ∷ 101 ∷ 115 ∷ 32 ∷ []) ++ hex l ++ 10 ∷ []) (p .part .ensures))
 
 pub pour-bytes-spec : {M : Type 1} → statement M
-pour-bytes-spec =
-    tie.close
-    (tie.spec
-    (λ c. search needs)
-    (λ c κs. search needs)
-    (λ c κs. search needs)
-    (λ c κs. search needs)
-    (λ c. search needs)
-    (λ c κs. search needs)
-    (λ c. search needs)
+pour-bytes-spec = tie.close (tie.spec
+    (λ c. search needs) (λ c κs. search needs) (λ c κs. search needs) (λ c κs. search needs) (λ c. search needs) (λ c κs. search needs) (λ c. search needs)
     returns)

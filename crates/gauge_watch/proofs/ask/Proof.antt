@@ -1,11 +1,8 @@
 -- What the watch says of a packet. Assumes nothing.
-use mathlib.Core.Path.{_≡_, sym, ap, _∙_}
-use lib.ListN.{length}
+use Rattle.wire.proofs.Basics.{_∙_, sym, _≡_, ap, length, not-false, not-true, needs}
 use mir.Syntax.{w32}
 use mir.ValLaws.{toZ-ofZ}
-use borrow.Author.Tests.{not-true, not-false}
-use borrow.Author.Needs.{needs}
-use Rattle.watch.specs.Difference.{difference, told}
+use Rattle.differences.specs.Difference.{difference, told}
 use Rattle.moss.specs.Limits.{sessionLength}
 use Rattle.moss.specs.Packet.{packetOf}
 use Rattle.moss.specs.declared.Header.{Header}
@@ -53,13 +50,9 @@ returns-3 c =
     ∙ sym (ap (asked (a .g)) (h .is) ∙ noted-same (a .g) (h .packet) (not-false _ (f .if1 .left)) (sym e ∙ sym (k .same-at .ensures) ∙ not-false _ (t .if2 .left)))
 
 pub ask-spec : {M : Type 1} → statement M
-ask-spec =
-    tie.close
-    (tie.spec
+ask-spec = tie.close (tie.spec
     returns
-    (λ c. search needs)
-    (λ c κs. search needs)
+    (λ c. search needs) (λ c κs. search needs)
     returns-2
-    (λ c κs. search needs)
-    (λ c κs. search needs)
+    (λ c κs. search needs) (λ c κs. search needs)
     returns-3)

@@ -1,10 +1,7 @@
 -- The answer and the gauge afterwards. Assumes nothing.
-use mathlib.Core.Path.{_≡_, sym, ap, _∙_}
-use native.Mathlib.Omega.{arith}
-use lib.ListN.{drop, replicate}
-use borrow.Author.Needs.{needs}
+use Rattle.wire.proofs.Basics.{_∙_, sym, _≡_, ap, true, false, drop, replicate, arith, needs}
 use Rattle.wire.specs.Overlay.{overlay}
-use Rattle.watch.specs.Watching.{moves}
+use Rattle.differences.specs.Noted.{moves}
 use Rattle.moss.specs.Limits.{sessionLength}
 use Rattle.moss.specs.Packet.{packetOf}
 use Rattle.moss.specs.declared.Header.{Header}
@@ -13,7 +10,6 @@ use Rattle.gauge_watch.specs.Heard.{asked, after, lastOf}
 use Rattle.gauge_watch.proofs.Hears.{Headed, headed, after-moves, after-stays, session-taken}
 use Rattle.gauge_watch.proofs.see_header.Statement.{statement}
 use Rattle.gauge_watch.proofs.see_header.Tie as tie
-use mathlib.Core.Bool.{true, false}
 use Rattle.gauge_watch.specs.Heard.{notedOf}
 
 its : (c : tie.Start) → Headed (packetOf (c .args .p .now)) (c .args .header)
@@ -57,12 +53,8 @@ returns-2 c =
     record { answer = k .ask .ensures; gauge = sym (ap (after (a .g)) (h .is) ∙ after-stays (a .g) (h .packet) staying) }
 
 pub see-header-spec : {M : Type 1} → statement M
-see-header-spec =
-    tie.close
-    (tie.spec
-    (λ c κs. search needs)
-    (λ c κs. search needs)
-    (λ c κs. search needs)
+see-header-spec = tie.close (tie.spec
+    (λ c κs. search needs) (λ c κs. search needs) (λ c κs. search needs)
     last-of-requires
     returns
     returns-2)

@@ -1,6 +1,5 @@
 -- A packet that is read, or the reader's refusal. Assumes nothing.
-use mathlib.Core.Path.{sym, ap, _∙_}
-use borrow.Author.Needs.{needs}
+use Rattle.wire.proofs.Basics.{_∙_, sym, ap, needs}
 use Rattle.moss.specs.Packet.{packetOf}
 use Rattle.moss.specs.Answers.{reads}
 use Rattle.gauge_watch.specs.Heard.{asked, after}
@@ -27,11 +26,8 @@ returns-2 c =
     record { answer = sym (ap (asked (a .g)) e); gauge = sym (ap (after (a .g)) e) }
 
 pub see-packet-spec : {M : Type 1} → statement M
-see-packet-spec =
-    tie.close
-    (tie.spec
-    (λ c κs. search needs)
-    (λ c. search needs)
+see-packet-spec = tie.close (tie.spec
+    (λ c κs. search needs) (λ c. search needs)
     see-header-requires
     (λ c. search needs)
     (λ c. c .see-header .ensures)

@@ -1,9 +1,5 @@
 -- `held_bits::all_held` meets its contract. The loop's invariant: the fragments from word q on are held. Assumes nothing.
-use mathlib.Core.Path.{_≡_, sym, _∙_}
-use Prim.Native.Nat.{_*_, _^_, _<_}
-use native.Mathlib.Omega.{arith}
-use borrow.Author.Tests.{eq-eqb, ne-eqb, not-true, not-false}
-use borrow.Author.Needs.{needs}
+use Rattle.wire.proofs.Basics.{_∙_, sym, _≡_, _<_, _*_, _^_, eq-eqb, ne-eqb, not-false, not-true, arith, needs}
 use Rattle.steps.specs.Search.{allBelow}
 use Rattle.steps.specs.Held.{isHeld}
 use Rattle.held_bits.proofs.Bits.{held-last, held-word}
@@ -54,17 +50,13 @@ returns-3 c =
     sym (rw e at (c .before .loop .inv))
 
 pub all-held-spec : {M : Type 1} → statement M
-all-held-spec =
-    tie.close
-    (tie.spec
+all-held-spec = tie.close (tie.spec
     Inv-loop
     μ-loop
-    (λ c κs. search needs)
-    (λ c κs. search needs)
+    (λ c κs. search needs) (λ c κs. search needs)
     returns
     loop-holds
-    (λ c. search needs)
-    (λ c κs. search needs)
+    (λ c. search needs) (λ c κs. search needs)
     returns-2
     (λ c. search needs)
     loop-again

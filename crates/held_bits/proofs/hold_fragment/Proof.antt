@@ -1,8 +1,5 @@
 -- `held_bits::hold_fragment` meets its contract. Assumes nothing.
-use mathlib.Core.Path.{_∙_}
-use Prim.Native.Nat.{_%_}
-use native.Mathlib.Omega.{arith}
-use borrow.Author.Needs.{needs}
+use Rattle.wire.proofs.Basics.{_∙_, _%_, arith, needs}
 use Rattle.steps.specs.Held.{hold}
 use Rattle.held_bits.proofs.Bits.{above-bits}
 use Rattle.held_bits.proofs.hold_fragment.Statement.{statement}

@@ -1,5 +1,5 @@
 -- `held_bits::is_held` meets its contract. Assumes nothing.
-use borrow.Author.Needs.{needs}
+use Rattle.wire.proofs.Basics.{needs}
 use Rattle.steps.specs.Held.{isHeld}
 use Rattle.held_bits.proofs.is_held.Statement.{statement}
 use Rattle.held_bits.proofs.is_held.Tie as tie

@@ -1,7 +1,6 @@
 -- `held_bits::low_set` meets its contract. Assumes nothing.
-use native.Mathlib.Omega.{arith}
+use Rattle.wire.proofs.Basics.{arith, needs}
 use lib.Pow.{pow-pos}
-use borrow.Author.Needs.{needs}
 use Rattle.held_bits.proofs.Bits.{above-bits, low-bits}
 use Rattle.held_bits.proofs.low_set.Statement.{statement}
 use Rattle.held_bits.proofs.low_set.Tie as tie

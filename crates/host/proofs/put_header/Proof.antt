@@ -1,11 +1,7 @@
 -- `host::put_header` meets its contract. Assumes nothing.
-use mathlib.Core.Path.{sym}
-use native.Mathlib.Omega.{arith}
-use lib.ListN.{length-set}
-use borrow.Author.Tests.{lt-ltb, le-ltb}
+use Rattle.wire.proofs.Basics.{sym, length-set, le-ltb, lt-ltb, arith, needs}
 use Rattle.wire.proofs.Overlays.{overlay-sets}
 use Rattle.host.specs.Fields.{fieldsOf}
-use borrow.Author.Needs.{needs}
 use Rattle.host.proofs.put_header.Statement.{statement}
 use Rattle.host.proofs.put_header.Tie as tie
 
@@ -24,12 +20,9 @@ returns-2 c =
     record { gave = rw t; left = rw (t, at-kind-of .kind-of .ensures) (sym (overlay-sets (a .fields .now) 0 (fieldsOf (a .h)))) }
 
 pub put-header-spec : {M : Type 1} → statement M
-put-header-spec =
-    tie.close
-    (tie.spec
+put-header-spec = tie.close (tie.spec
     returns
-    (λ c κs. search needs)
-    (λ c. search needs)
+    (λ c κs. search needs) (λ c. search needs)
     (λ c. simp length-set (omega arith))
     (λ c. simp length-set (omega arith))
     (λ c. simp length-set (omega arith))

@@ -1,12 +1,10 @@
 -- `host::qm_cut` meets its contract. Assumes nothing.
-use mathlib.Core.Path.{sym, ap, _∙_}
-use native.Mathlib.Omega.{arith}
+use Rattle.wire.proofs.Basics.{_∙_, sym, ap, arith, needs}
 use Rattle.cutter.specs.Cut.{says}
 use Rattle.cutter.specs.declared.Cut.{Cut}
 use Rattle.cutter.proofs.Sizes.{made, made-short}
 use Rattle.host.specs.Code.{codeOf}
 use Rattle.host.proofs.Accept.{cut-told}
-use borrow.Author.Needs.{needs}
 use Rattle.host.proofs.qm_cut.Statement.{statement}
 use Rattle.host.proofs.qm_cut.Tie as tie
 
@@ -37,16 +35,11 @@ returns-2 c =
     cut-told _ _ _ _ _ _ _ _ _ (at-cut-datagram .cut-datagram .ensures) (sym (ap (λ (r : Cut). codeOf (says r)) (at-n .n .given .1)))
 
 pub qm-cut-spec : {M : Type 1} → statement M
-qm-cut-spec =
-    tie.close
-    (tie.spec
-    (λ c κs. search needs)
-    (λ c. search needs)
+qm-cut-spec = tie.close (tie.spec
+    (λ c κs. search needs) (λ c. search needs)
     mul-result
     add-result
-    (λ c. search needs)
-    (λ c. search needs)
-    (λ c. search needs)
+    (λ c. search needs) (λ c. search needs) (λ c. search needs)
     returns
     (λ c. search needs)
     returns-2)

@@ -1,8 +1,7 @@
 -- `host::qm_read_datagram` meets its contract. Assumes nothing.
-use mathlib.Core.Path.{refl, sym, _∙_}
+use Rattle.wire.proofs.Basics.{_∙_, sym, refl, needs}
 use Rattle.datagram.specs.Limits.{maxPayload, maxFragments}
 use Rattle.host.proofs.Accept.{places-fit}
-use borrow.Author.Needs.{needs}
 use Rattle.host.proofs.qm_read_datagram.Statement.{statement}
 use Rattle.host.proofs.qm_read_datagram.Tie as tie
 
@@ -27,13 +26,9 @@ returns-2 c =
     rw (sym (at-read-datagram .read-datagram .ensures .answer) ∙ at-n .n .given .1) (record { gave = refl; left = refl })
 
 pub qm-read-datagram-spec : {M : Type 1} → statement M
-qm-read-datagram-spec =
-    tie.close
-    (tie.spec
-    (λ c κs. search needs)
-    (λ c. search needs)
+qm-read-datagram-spec = tie.close (tie.spec
+    (λ c κs. search needs) (λ c. search needs)
     put-header-requires
-    (λ c. search needs)
-    (λ c. search needs)
+    (λ c. search needs) (λ c. search needs)
     returns
     returns-2)

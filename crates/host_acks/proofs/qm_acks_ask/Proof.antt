@@ -1,7 +1,6 @@
 -- By whether there is room for the number that tells, and by the answer. Assumes nothing.
-use mathlib.Core.Path.{refl}
+use Rattle.wire.proofs.Basics.{refl, needs}
 use Rattle.host_acks.proofs.Telling.{ask-short, ask-told}
-use borrow.Author.Needs.{needs}
 use Rattle.host_acks.proofs.qm_acks_ask.Statement.{statement}
 use Rattle.host_acks.proofs.qm_acks_ask.Tie as tie
 
@@ -26,17 +25,9 @@ returns-4 c =
     ask-told _ _ _ (a .before .if1 .left) (a .ask .result) _ (a .ask .ensures) (v .answer .given .1) _ _ refl refl
 
 pub qm-acks-ask-spec : {M : Type 1} → statement M
-qm-acks-ask-spec =
-    tie.close
-    (tie.spec
+qm-acks-ask-spec = tie.close (tie.spec
     (λ c. ask-short _ _ _ (c .if1 .taken))
-    (λ c κs. search needs)
-    (λ c. search needs)
-    (λ c κs. search needs)
-    (λ c. search needs)
-    (λ c κs. search needs)
-    (λ c. search needs)
-    (λ c. search needs)
+    (λ c κs. search needs) (λ c. search needs) (λ c κs. search needs) (λ c. search needs) (λ c κs. search needs) (λ c. search needs) (λ c. search needs)
     returns-2
     (λ c. search needs)
     returns-3

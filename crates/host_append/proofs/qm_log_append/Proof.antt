@@ -1,6 +1,6 @@
 -- `host_append::qm_log_append` meets its contract. Assumes nothing.
 use Rattle.host_append.proofs.Telling.{append-spans, append-told}
-use borrow.Author.Needs.{needs}
+use Rattle.wire.proofs.Basics.{needs}
 use Rattle.host_append.proofs.qm_log_append.Statement.{statement}
 use Rattle.host_append.proofs.qm_log_append.Tie as tie
 

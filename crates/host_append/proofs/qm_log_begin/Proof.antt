@@ -1,6 +1,6 @@
 -- `host_append::qm_log_begin` meets its contract. Assumes nothing.
 use Rattle.host_append.proofs.Telling.{begin-spans, begin-told}
-use borrow.Author.Needs.{needs}
+use Rattle.wire.proofs.Basics.{needs}
 use Rattle.host_append.proofs.qm_log_begin.Statement.{statement}
 use Rattle.host_append.proofs.qm_log_begin.Tie as tie
 

@@ -1,11 +1,9 @@
 -- `host_append::told` meets its contract. Assumes nothing.
-use mathlib.Core.Path.{sym, ap, subst}
-use native.Mathlib.Omega.{arith}
+use Rattle.wire.proofs.Basics.{sym, ap, subst, arith, needs}
 use Rattle.log_append.specs.Writes.{says}
 use Rattle.log_append.specs.declared.Written.{Written}
 use Rattle.host_append.specs.Told.{lengthCode}
 use Rattle.host_append.specs.Inside.{Spans}
-use borrow.Author.Needs.{needs}
 use Rattle.host_append.proofs.told.Statement.{statement}
 use Rattle.host_append.proofs.told.Tie as tie
 
@@ -31,13 +29,10 @@ returns c =
     sym (ap (λ (w : Written). lengthCode (s .args .at) (says w)) (at-written .written .given .1))
 
 pub told-spec : {M : Type 1} → statement M
-told-spec =
-    tie.close
-    (tie.spec
+told-spec = tie.close (tie.spec
     (λ c. search needs)
     sub-result
     mul-result
-    (λ c. search needs)
-    (λ c. search needs)
+    (λ c. search needs) (λ c. search needs)
     returns
     (λ c. search needs))

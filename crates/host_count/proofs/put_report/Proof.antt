@@ -1,7 +1,6 @@
 -- Six groups, each where the one before ends. Assumes nothing.
-use mathlib.Core.Path.{refl}
+use Rattle.wire.proofs.Basics.{refl, needs}
 use Rattle.host_count.proofs.Groups.{laid}
-use borrow.Author.Needs.{needs}
 use Rattle.host_count.proofs.put_report.Statement.{statement}
 use Rattle.host_count.proofs.put_report.Tie as tie
 
@@ -58,20 +57,14 @@ returns c =
     (six .put-words6 .ensures)
 
 pub put-report-spec : {M : Type 1} → statement M
-put-report-spec =
-    tie.close
-    (tie.spec
-    (λ c. search needs)
-    (λ c κs. search needs)
+put-report-spec = tie.close (tie.spec
+    (λ c. search needs) (λ c κs. search needs)
     slice-aggregate-put-words-2
-    (λ c κs. search needs)
-    (λ c. search needs)
-    (λ c κs. search needs)
+    (λ c κs. search needs) (λ c. search needs) (λ c κs. search needs)
     slice-aggregate-put-words-4
     (λ c κs. search needs)
     slice-aggregate-put-words-5
     (λ c κs. search needs)
     slice-aggregate-put-words-6
-    (λ c κs. search needs)
-    (λ c. search needs)
+    (λ c κs. search needs) (λ c. search needs)
     returns)

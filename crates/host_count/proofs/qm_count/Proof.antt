@@ -1,9 +1,8 @@
 -- `host_count::qm_count` meets its contract. Assumes nothing.
-use mathlib.Core.Path.{sym, ap, _∙_}
+use Rattle.wire.proofs.Basics.{_∙_, sym, ap, needs}
 use Rattle.count.specs.declared.Answer.{Answer}
 use Rattle.count.specs.Counts.{loan}
 use Rattle.host_count.proofs.Telling.{codeBy, leftBy, not-counted, told-as-counted}
-use borrow.Author.Needs.{needs}
 use Rattle.host_count.proofs.qm_count.Statement.{statement}
 use Rattle.host_count.proofs.qm_count.Tie as tie
 
@@ -11,9 +10,6 @@ returns : tie.Need-returns
 returns c =
     let start = c .before .before .before .before .before in
     let a = start .args in not-counted (a .log .now) (loan (a .store .now) (a .ledger .now) (a .numbers .now)) (a .report .now) (c .if1 .taken)
-
-enum-told : tie.Need-enum-told
-enum-told c = search needs
 
 returns-2 : tie.Need-returns-2
 returns-2 c =
@@ -39,20 +35,10 @@ returns-3 c =
     (sym (ap (λ (z : Answer). leftBy z (l .count-log .result .report) (a .report .now)) e))
 
 pub qm-count-spec : {M : Type 1} → statement M
-qm-count-spec =
-    tie.close
-    (tie.spec
+qm-count-spec = tie.close (tie.spec
     returns
-    (λ c κs. search needs)
-    enum-told
-    (λ c κs. search needs)
-    (λ c. search needs)
-    (λ c. search needs)
-    (λ c. search needs)
-    (λ c. search needs)
-    (λ c. search needs)
+    (λ c κs. search needs) (λ c. search needs)
+    (λ c κs. search needs) (λ c. search needs) (λ c. search needs) (λ c. search needs) (λ c. search needs) (λ c. search needs)
     returns-2
-    (λ c. search needs)
-    (λ c. search needs)
-    (λ c. search needs)
+    (λ c. search needs) (λ c. search needs) (λ c. search needs)
     returns-3)

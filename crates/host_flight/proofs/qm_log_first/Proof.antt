@@ -1,8 +1,6 @@
 -- `host_flight::qm_log_first` meets its contract. Assumes nothing.
-use mathlib.Core.Path.{refl, sym, _∙_}
-use borrow.Author.Tests.{lt-ltb, le-ltb}
+use Rattle.wire.proofs.Basics.{_∙_, sym, refl, le-ltb, lt-ltb, needs}
 use Rattle.host_flight.proofs.Read.{first-short, first-told}
-use borrow.Author.Needs.{needs}
 use Rattle.host_flight.proofs.qm_log_first.Statement.{statement}
 use Rattle.host_flight.proofs.qm_log_first.Tie as tie
 
@@ -19,16 +17,8 @@ returns-3 c =
     first-told _ _ _ _ _ (le-ltb _ 3 (reading .before .if1 .left)) (sym (reading .first-entry .ensures) ∙ c .before .first2 .given .1) refl refl
 
 pub qm-log-first-spec : {M : Type 1} → statement M
-qm-log-first-spec =
-    tie.close
-    (tie.spec
+qm-log-first-spec = tie.close (tie.spec
     (λ c. first-short _ _ (lt-ltb _ 3 (c .if1 .taken)))
-    (λ c κs. search needs)
-    (λ c. search needs)
-    (λ c. search needs)
-    (λ c. search needs)
-    (λ c κs. search needs)
-    (λ c. search needs)
-    (λ c. search needs)
+    (λ c κs. search needs) (λ c. search needs) (λ c. search needs) (λ c. search needs) (λ c κs. search needs) (λ c. search needs) (λ c. search needs)
     returns-2
     returns-3)

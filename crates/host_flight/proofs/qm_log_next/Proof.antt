@@ -1,13 +1,8 @@
 -- `host_flight::qm_log_next` meets its contract. Assumes nothing.
-use mathlib.Core.Path.{refl, sym, _∙_}
-use borrow.Author.Tests.{lt-ltb, le-ltb}
+use Rattle.wire.proofs.Basics.{_∙_, sym, refl, le-ltb, lt-ltb, needs}
 use Rattle.host_flight.proofs.Read.{next-short, next-told}
-use borrow.Author.Needs.{needs}
 use Rattle.host_flight.proofs.qm_log_next.Statement.{statement}
 use Rattle.host_flight.proofs.qm_log_next.Tie as tie
-
-enum-told : tie.Need-enum-told
-enum-told c = search needs
 
 returns-2 : tie.Need-returns-2
 returns-2 c =
@@ -29,17 +24,11 @@ returns-4 c =
     next-told _ _ _ _ _ _ (le-ltb _ 6 (reading .before .if1 .left)) (sym (reading .next-entry .ensures) ∙ c .before .step2 .given .1) refl refl
 
 pub qm-log-next-spec : {M : Type 1} → statement M
-qm-log-next-spec =
-    tie.close
-    (tie.spec
+qm-log-next-spec = tie.close (tie.spec
     (λ c. next-short _ _ _ (lt-ltb _ 6 (c .if1 .taken)))
-    (λ c κs. search needs)
+    (λ c κs. search needs) (λ c. search needs) (λ c κs. search needs)
     (λ c. search needs)
-    (λ c κs. search needs)
-    enum-told
-    (λ c κs. search needs)
-    (λ c. search needs)
-    (λ c. search needs)
+    (λ c κs. search needs) (λ c. search needs) (λ c. search needs)
     returns-2
     (λ c. search needs)
     returns-3

@@ -1,7 +1,6 @@
 -- By whether there is room for the numbers that tell, and by where the message lies. Assumes nothing.
-use mathlib.Core.Path.{refl}
+use Rattle.wire.proofs.Basics.{refl, needs}
 use Rattle.host_gauge.proofs.Packing.{place-short, place-told}
-use borrow.Author.Needs.{needs}
 use Rattle.host_gauge.proofs.qm_moss_message.Statement.{statement}
 use Rattle.host_gauge.proofs.qm_moss_message.Tie as tie
 
@@ -19,15 +18,8 @@ returns-3 c =
     place-told _ _ _ (r .before .if1 .left) (r .message-place .result) _ (r .message-place .ensures) (v .place2 .given .1) _ _ refl refl
 
 pub qm-moss-message-spec : {M : Type 1} → statement M
-qm-moss-message-spec =
-    tie.close
-    (tie.spec
+qm-moss-message-spec = tie.close (tie.spec
     (λ c. place-short _ _ _ (c .if1 .taken))
-    (λ c κs. search needs)
-    (λ c. search needs)
-    (λ c. search needs)
-    (λ c κs. search needs)
-    (λ c. search needs)
-    (λ c. search needs)
+    (λ c κs. search needs) (λ c. search needs) (λ c. search needs) (λ c κs. search needs) (λ c. search needs) (λ c. search needs)
     returns-2
     returns-3)

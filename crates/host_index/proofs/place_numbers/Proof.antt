@@ -1,9 +1,8 @@
 -- `host_index::place_numbers` meets its contract. Assumes nothing.
-use mathlib.Core.Path.{sym, ap}
+use Rattle.wire.proofs.Basics.{sym, ap, needs}
 use Rattle.log_index.specs.Words.{says}
 use Rattle.log_index.specs.declared.Found.{Found}
 use Rattle.host_index.specs.Told.{placeNumbers}
-use borrow.Author.Needs.{needs}
 use Rattle.host_index.proofs.place_numbers.Statement.{statement}
 use Rattle.host_index.proofs.place_numbers.Tie as tie
 

@@ -1,6 +1,6 @@
 -- `host_index::qm_find` meets its contract. Assumes nothing.
 use Rattle.host_index.proofs.Telling.{find-short, find-told}
-use borrow.Author.Needs.{needs}
+use Rattle.wire.proofs.Basics.{needs}
 use Rattle.host_index.proofs.qm_find.Statement.{statement}
 use Rattle.host_index.proofs.qm_find.Tie as tie
 
@@ -14,14 +14,7 @@ returns-2 c =
     (putting .put-words .ensures)
 
 pub qm-find-spec : {M : Type 1} → statement M
-qm-find-spec =
-    tie.close
-    (tie.spec
+qm-find-spec = tie.close (tie.spec
     (λ c. find-short _ _ _ _ _ (c .if1 .taken))
-    (λ c κs. search needs)
-    (λ c κs. search needs)
-    (λ c κs. search needs)
-    (λ c. search needs)
-    (λ c κs. search needs)
-    (λ c. search needs)
+    (λ c κs. search needs) (λ c κs. search needs) (λ c κs. search needs) (λ c. search needs) (λ c κs. search needs) (λ c. search needs)
     returns-2)

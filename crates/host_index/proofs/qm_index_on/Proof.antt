@@ -1,6 +1,6 @@
 -- `host_index::qm_index_on` meets its contract. Assumes nothing.
 use Rattle.host_index.proofs.Telling.{on-few, on-told}
-use borrow.Author.Needs.{needs}
+use Rattle.wire.proofs.Basics.{needs}
 use Rattle.host_index.proofs.qm_index_on.Statement.{statement}
 use Rattle.host_index.proofs.qm_index_on.Tie as tie
 
@@ -17,9 +17,7 @@ returns c =
     on-told (a .log .now) (a .from) (a .index .now) (a .rows) (a .most) _ _ _ (went .index-on .ensures) (c .told .ensures)
 
 pub qm-index-on-spec : {M : Type 1} → statement M
-qm-index-on-spec =
-    tie.close
-    (tie.spec
+qm-index-on-spec = tie.close (tie.spec
     (λ c κs. search needs)
     told-requires
     (λ c. search needs)

@@ -1,6 +1,6 @@
 -- `host_index_file::qm_index_file_head` meets its contract. Assumes nothing.
 use Rattle.host_index_file.proofs.Telling.{head-short, head-told}
-use borrow.Author.Needs.{needs}
+use Rattle.wire.proofs.Basics.{needs}
 use Rattle.host_index_file.proofs.qm_index_file_head.Statement.{statement}
 use Rattle.host_index_file.proofs.qm_index_file_head.Tie as tie
 
@@ -19,11 +19,7 @@ returns-2 c =
     head-told (a .file .now) (a .head .now) _ _ (reading .read-head .result) (met .if1 .left) (reading .read-head .ensures) (t .0) (t .1)
 
 pub qm-index-file-head-spec : {M : Type 1} → statement M
-qm-index-file-head-spec =
-    tie.close
-    (tie.spec
+qm-index-file-head-spec = tie.close (tie.spec
     returns
-    (λ c κs. search needs)
-    (λ c κs. search needs)
-    (λ c. search needs)
+    (λ c κs. search needs) (λ c κs. search needs) (λ c. search needs)
     returns-2)

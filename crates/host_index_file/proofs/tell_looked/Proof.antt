@@ -1,14 +1,10 @@
 -- `host_index_file::tell_looked` meets its contract. Assumes nothing.
-use mathlib.Core.Path.{sym}
+use Rattle.wire.proofs.Basics.{sym, needs}
 use Rattle.wire.proofs.Overlays.{overlay-nil}
 use Rattle.host_index_file.specs.Told.{lookedCode, lookedNumbers}
 use Rattle.host_index_file.proofs.Telling.{tells}
-use borrow.Author.Needs.{needs}
 use Rattle.host_index_file.proofs.tell_looked.Statement.{statement}
 use Rattle.host_index_file.proofs.tell_looked.Tie as tie
-
-enum-told : tie.Need-enum-told
-enum-told c = search needs
 
 returns : tie.Need-returns
 returns c =
@@ -29,18 +25,11 @@ returns-3 c =
     tells lookedCode lookedNumbers _ _ (met .looked2 .given .1) (a .place .now) _ (sym (overlay-nil (a .place .now) 0))
 
 pub tell-looked-spec : {M : Type 1} → statement M
-tell-looked-spec =
-    tie.close
-    (tie.spec
-    (λ c. search needs)
-    (λ c. search needs)
-    (λ c κs. search needs)
-    (λ c. search needs)
+tell-looked-spec = tie.close (tie.spec
+    (λ c. search needs) (λ c. search needs) (λ c κs. search needs) (λ c. search needs)
     returns
-    enum-told
     (λ c. search needs)
-    (λ c κs. search needs)
-    (λ c. search needs)
+    (λ c. search needs) (λ c κs. search needs) (λ c. search needs)
     returns-2
     (λ c. search needs)
     returns-3)

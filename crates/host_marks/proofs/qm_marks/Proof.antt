@@ -1,7 +1,6 @@
 -- By whether there is room for the numbers that tell, and by what the numbers are. Assumes nothing.
-use mathlib.Core.Path.{refl}
+use Rattle.wire.proofs.Basics.{refl, needs}
 use Rattle.host_marks.proofs.Telling.{not-marked, marks-some, marks-refused}
-use borrow.Author.Needs.{needs}
 use Rattle.host_marks.proofs.qm_marks.Statement.{statement}
 use Rattle.host_marks.proofs.qm_marks.Tie as tie
 
@@ -37,23 +36,12 @@ returns-4 c =
     marks-refused (a .numbers .now) (a .rows .now) (a .told .now) (i .if1 .left) (m .marks-of .result) _ (m .marks-of .ensures) _ (v .given2 .given .1)
 
 pub qm-marks-spec : {M : Type 1} → statement M
-qm-marks-spec =
-    tie.close
-    (tie.spec
+qm-marks-spec = tie.close (tie.spec
     returns
-    (λ c κs. search needs)
-    (λ c. search needs)
-    (λ c. search needs)
-    (λ c κs. search needs)
-    (λ c. search needs)
-    (λ c. search needs)
-    (λ c κs. search needs)
-    (λ c. search needs)
-    (λ c. search needs)
-    (λ c. search needs)
+    (λ c κs. search needs) (λ c. search needs) (λ c. search needs) (λ c κs. search needs) (λ c. search needs) (λ c. search needs) (λ c κs. search needs)
+    (λ c. search needs) (λ c. search needs) (λ c. search needs)
     returns-2
-    (λ c. search needs)
-    (λ c. search needs)
+    (λ c. search needs) (λ c. search needs)
     returns-3
     (λ c. search needs)
     returns-4)

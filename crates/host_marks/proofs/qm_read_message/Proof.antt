@@ -1,6 +1,6 @@
 -- By whether there is room for the number that tells, and by the reader's answer. Assumes nothing.
 use Rattle.host_marks.proofs.Telling.{not-read, read-numbers, read-refused}
-use borrow.Author.Needs.{needs}
+use Rattle.wire.proofs.Basics.{needs}
 use Rattle.host_marks.proofs.qm_read_message.Statement.{statement}
 use Rattle.host_marks.proofs.qm_read_message.Tie as tie
 
@@ -27,16 +27,9 @@ returns-3 c =
     read-refused (a .message .now) (a .numbers .now) (a .told .now) (i .if1 .left) (r .read-message .result) _ (r .read-message .ensures) _ (v .found2 .given .1)
 
 pub qm-read-message-spec : {M : Type 1} → statement M
-qm-read-message-spec =
-    tie.close
-    (tie.spec
+qm-read-message-spec = tie.close (tie.spec
     returns
-    (λ c κs. search needs)
-    (λ c. search needs)
-    (λ c κs. search needs)
-    (λ c. search needs)
-    (λ c. search needs)
-    (λ c. search needs)
+    (λ c κs. search needs) (λ c. search needs) (λ c κs. search needs) (λ c. search needs) (λ c. search needs) (λ c. search needs)
     returns-2
     (λ c. search needs)
     returns-3)

@@ -1,7 +1,6 @@
 -- By whether there is room for the number that tells, and by the writer's answer. Assumes nothing.
-use mathlib.Core.Path.{refl}
+use Rattle.wire.proofs.Basics.{refl, needs}
 use Rattle.host_messages.proofs.Telling.{write-short, write-told}
-use borrow.Author.Needs.{needs}
 use Rattle.host_messages.proofs.qm_write_message.Statement.{statement}
 use Rattle.host_messages.proofs.qm_write_message.Tie as tie
 
@@ -19,16 +18,9 @@ returns-3 c =
     write-told _ _ _ _ (r .before .before .if1 .left) (r .write-message .result) _ _ (r .write-message .ensures) (v .made2 .given .1) _ _ refl refl
 
 pub qm-write-message-spec : {M : Type 1} → statement M
-qm-write-message-spec =
-    tie.close
-    (tie.spec
+qm-write-message-spec = tie.close (tie.spec
     (λ c. write-short _ _ _ _ (c .if1 .taken))
-    (λ c κs. search needs)
-    (λ c. search needs)
-    (λ c κs. search needs)
-    (λ c. search needs)
-    (λ c. search needs)
-    (λ c. search needs)
+    (λ c κs. search needs) (λ c. search needs) (λ c κs. search needs) (λ c. search needs) (λ c. search needs) (λ c. search needs)
     returns-2
     (λ c. search needs)
     returns-3)

@@ -1,7 +1,7 @@
 -- By whether there is room for the tiles. Assumes nothing.
 use Rattle.pit_marks.specs.Sets.{setsOf}
 use Rattle.host_pits.proofs.LineTelling.{not-written, written-so}
-use borrow.Author.Needs.{needs}
+use Rattle.wire.proofs.Basics.{needs}
 use Rattle.host_pits.proofs.qm_count_lines.Statement.{statement}
 use Rattle.host_pits.proofs.qm_count_lines.Tie as tie
 
@@ -28,19 +28,8 @@ returns-2 c =
     (earlier .before .before .if1 .left) _ _ _ (c .before .before .before .before .before .before .put-lines .ensures)
 
 pub qm-count-lines-spec : {M : Type 1} → statement M
-qm-count-lines-spec =
-    tie.close
-    (tie.spec
-    (λ c κs. search needs)
-    (λ c κs. search needs)
-    (λ c κs. search needs)
-    (λ c κs. search needs)
-    (λ c. search needs)
-    (λ c. search needs)
-    (λ c. search needs)
+qm-count-lines-spec = tie.close (tie.spec
+    (λ c κs. search needs) (λ c κs. search needs) (λ c κs. search needs) (λ c κs. search needs) (λ c. search needs) (λ c. search needs) (λ c. search needs)
     returns
-    (λ c κs. search needs)
-    (λ c. search needs)
-    (λ c. search needs)
-    (λ c. search needs)
+    (λ c κs. search needs) (λ c. search needs) (λ c. search needs) (λ c. search needs)
     returns-2)

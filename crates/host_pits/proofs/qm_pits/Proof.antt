@@ -1,7 +1,7 @@
 -- By whether there is room for the number that tells, and for the pits. Assumes nothing.
 use Rattle.tile_pits.specs.Pits.{mapOf}
 use Rattle.host_pits.proofs.Telling.{not-written, pits-many, pits-refused}
-use borrow.Author.Needs.{needs}
+use Rattle.wire.proofs.Basics.{needs}
 use Rattle.host_pits.proofs.qm_pits.Statement.{statement}
 use Rattle.host_pits.proofs.qm_pits.Tie as tie
 
@@ -30,18 +30,9 @@ returns-3 c =
     (i .if1 .left) (f .pits-from .result) _ _ (f .pits-from .ensures) _ (v .given2 .given .1)
 
 pub qm-pits-spec : {M : Type 1} → statement M
-qm-pits-spec =
-    tie.close
-    (tie.spec
+qm-pits-spec = tie.close (tie.spec
     returns
-    (λ c κs. search needs)
-    (λ c. search needs)
-    (λ c κs. search needs)
-    (λ c. search needs)
-    (λ c. search needs)
-    (λ c. search needs)
-    (λ c. search needs)
+    (λ c κs. search needs) (λ c. search needs) (λ c κs. search needs) (λ c. search needs) (λ c. search needs) (λ c. search needs) (λ c. search needs)
     returns-2
-    (λ c. search needs)
-    (λ c. search needs)
+    (λ c. search needs) (λ c. search needs)
     returns-3)

@@ -1,8 +1,7 @@
 -- `host_receiver::later_numbers` meets its contract. Assumes nothing.
-use mathlib.Core.Path.{sym, ap}
+use Rattle.wire.proofs.Basics.{sym, ap, needs}
 use Rattle.steps.specs.declared.Emptied.{Emptied}
 use Rattle.host_receiver.specs.Outcomes.{laterNumbers}
-use borrow.Author.Needs.{needs}
 use Rattle.host_receiver.proofs.later_numbers.Statement.{statement}
 use Rattle.host_receiver.proofs.later_numbers.Tie as tie
 

@@ -3,11 +3,7 @@ use Rattle.host_receiver.proofs.Telling.{lacks-numbers, has-numbers}
 use Rattle.host_receiver.proofs.no_room.Statement.{statement}
 use Rattle.host_receiver.proofs.no_room.Tie as tie
 
-returns : tie.Need-returns
-returns c = lacks-numbers (c .before .args .told .now) (c .before .args .name .now) (c .if1 .taken)
-
-returns-2 : tie.Need-returns-2
-returns-2 c = has-numbers (c .before .args .told .now) (c .before .args .name .now) (c .if1 .left)
-
 pub no-room-spec : {M : Type 1} → statement M
-no-room-spec = tie.close (tie.spec returns returns-2)
+no-room-spec = tie.close (tie.spec
+    (λ c. lacks-numbers (c .before .args .told .now) (c .before .args .name .now) (c .if1 .taken))
+    (λ c. has-numbers (c .before .args .told .now) (c .before .args .name .now) (c .if1 .left)))

@@ -1,8 +1,7 @@
 -- `host_receiver::place_numbers` meets its contract. Assumes nothing.
-use mathlib.Core.Path.{sym, ap}
+use Rattle.wire.proofs.Basics.{sym, ap, needs}
 use Rattle.host_receiver.specs.Outcomes.{placeNumbers}
 use Rattle.steps.specs.declared.PayloadAt.{PayloadAt}
-use borrow.Author.Needs.{needs}
 use Rattle.host_receiver.proofs.place_numbers.Statement.{statement}
 use Rattle.host_receiver.proofs.place_numbers.Tie as tie
 

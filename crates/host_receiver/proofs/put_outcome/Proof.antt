@@ -1,8 +1,7 @@
 -- `host_receiver::put_outcome` meets its contract. Assumes nothing.
-use mathlib.Core.Path.{refl, ap, _∙_}
+use Rattle.wire.proofs.Basics.{_∙_, ap, refl, needs}
 use Rattle.host_receiver.specs.Outcomes.{laterNumbers}
 use Rattle.host_receiver.proofs.Numbers.{answer-four, two-runs}
-use borrow.Author.Needs.{needs}
 use Rattle.host_receiver.proofs.put_outcome.Statement.{statement}
 use Rattle.host_receiver.proofs.put_outcome.Tie as tie
 
@@ -23,18 +22,7 @@ returns c =
     }
 
 pub put-outcome-spec : {M : Type 1} → statement M
-put-outcome-spec =
-    tie.close
-    (tie.spec
-    (λ c κs. search needs)
-    (λ c κs. search needs)
-    (λ c κs. search needs)
-    (λ c. search needs)
-    (λ c κs. search needs)
-    (λ c. search needs)
-    (λ c κs. search needs)
-    (λ c. search needs)
-    (λ c κs. search needs)
-    (λ c. search needs)
-    (λ c. search needs)
+put-outcome-spec = tie.close (tie.spec
+    (λ c κs. search needs) (λ c κs. search needs) (λ c κs. search needs) (λ c. search needs) (λ c κs. search needs) (λ c. search needs) (λ c κs. search needs)
+    (λ c. search needs) (λ c κs. search needs) (λ c. search needs) (λ c. search needs)
     returns)

@@ -1,14 +1,10 @@
 -- `host_receiver::qm_receive_within` meets its contract. Assumes nothing.
-use mathlib.Core.Path.{sym, _∙_}
+use Rattle.wire.proofs.Basics.{_∙_, sym, needs}
 use Rattle.receiver.specs.Lent.{lent}
 use Rattle.wire.specs.Slices.{_⇒_}
 use Rattle.host_receiver.proofs.Telling.{short-told, heard-told}
-use borrow.Author.Needs.{needs}
 use Rattle.host_receiver.proofs.qm_receive_within.Statement.{statement}
 use Rattle.host_receiver.proofs.qm_receive_within.Tie as tie
-
-returns : tie.Need-returns
-returns c = short-told _ _ _ _ _ (sym (c .before .no-room .ensures) ∙ c .if1 .taken)
 
 returns-2 : tie.Need-returns-2
 returns-2 c =
@@ -20,19 +16,9 @@ returns-2 c =
     heard-told _ _ (lent _ _ _ _) (_ ⇒ _) (_ ⇒ _) _ _ (lent _ _ _ _) room (hearing .receive-within .ensures) (telling .tell .ensures)
 
 pub qm-receive-within-spec : {M : Type 1} → statement M
-qm-receive-within-spec =
-    tie.close
-    (tie.spec
-    (λ c κs. search needs)
-    (λ c. search needs)
-    (λ c. search needs)
-    returns
-    (λ c κs. search needs)
-    (λ c κs. search needs)
-    (λ c. search needs)
-    (λ c. search needs)
-    (λ c. search needs)
-    (λ c. search needs)
-    (λ c. search needs)
+qm-receive-within-spec = tie.close (tie.spec
+    (λ c κs. search needs) (λ c. search needs) (λ c. search needs)
+    (λ c. short-told _ _ _ _ _ (sym (c .before .no-room .ensures) ∙ c .if1 .taken))
+    (λ c κs. search needs) (λ c κs. search needs) (λ c. search needs) (λ c. search needs) (λ c. search needs) (λ c. search needs) (λ c. search needs)
     (λ c. search needs)
     returns-2)

@@ -1,7 +1,6 @@
 -- Four groups, each where the one before ends. Assumes nothing.
-use mathlib.Core.Path.{refl}
+use Rattle.wire.proofs.Basics.{refl, needs}
 use Rattle.host_season.proofs.Telling.{put}
-use borrow.Author.Needs.{needs}
 use Rattle.host_season.proofs.put_stretch.Statement.{statement}
 use Rattle.host_season.proofs.put_stretch.Tie as tie
 
@@ -20,17 +19,8 @@ returns c =
     (slice-aggregate-put-words-3 (three .before)) (one .put-words .ensures) (two .put-words2 .ensures) (three .put-words3 .ensures) (four .put-words4 .ensures)
 
 pub put-stretch-spec : {M : Type 1} → statement M
-put-stretch-spec =
-    tie.close
-    (tie.spec
-    (λ c κs. search needs)
-    (λ c. search needs)
-    (λ c κs. search needs)
-    (λ c. search needs)
-    (λ c κs. search needs)
+put-stretch-spec = tie.close (tie.spec
+    (λ c κs. search needs) (λ c. search needs) (λ c κs. search needs) (λ c. search needs) (λ c κs. search needs)
     slice-aggregate-put-words-3
-    (λ c κs. search needs)
-    (λ c. search needs)
-    (λ c κs. search needs)
-    (λ c. search needs)
+    (λ c κs. search needs) (λ c. search needs) (λ c κs. search needs) (λ c. search needs)
     returns)

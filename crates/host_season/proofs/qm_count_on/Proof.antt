@@ -4,7 +4,7 @@ use Rattle.pit_marks.specs.Sets.{setsOf}
 use Rattle.pit_payloads.specs.Looks.{book}
 use Rattle.stretch.specs.Stretch.{desk}
 use Rattle.host_season.proofs.Telling.{not-told, told-so}
-use borrow.Author.Needs.{needs}
+use Rattle.wire.proofs.Basics.{needs}
 use Rattle.host_season.proofs.qm_count_on.Statement.{statement}
 use Rattle.host_season.proofs.qm_count_on.Tie as tie
 
@@ -30,19 +30,8 @@ returns-2 c =
     (done .count-on .result) _ (done .count-on .ensures) _ (c .before .before .put-stretch .ensures)
 
 pub qm-count-on-spec : {M : Type 1} → statement M
-qm-count-on-spec =
-    tie.close
-    (tie.spec
+qm-count-on-spec = tie.close (tie.spec
     returns
-    (λ c κs. search needs)
-    (λ c κs. search needs)
-    (λ c. search needs)
-    (λ c. search needs)
-    (λ c. search needs)
-    (λ c. search needs)
-    (λ c. search needs)
-    (λ c. search needs)
-    (λ c. search needs)
-    (λ c. search needs)
-    (λ c. search needs)
+    (λ c κs. search needs) (λ c κs. search needs) (λ c. search needs) (λ c. search needs) (λ c. search needs) (λ c. search needs) (λ c. search needs)
+    (λ c. search needs) (λ c. search needs) (λ c. search needs) (λ c. search needs)
     returns-2)

@@ -1,6 +1,5 @@
 -- `host_state::qm_lengths` meets its contract. Assumes nothing.
-use borrow.Author.Tests.{lt-ltb, le-ltb}
-use borrow.Author.Needs.{needs}
+use Rattle.wire.proofs.Basics.{le-ltb, lt-ltb, needs}
 use Rattle.host_state.proofs.qm_lengths.Statement.{statement}
 use Rattle.host_state.proofs.qm_lengths.Tie as tie
 

@@ -1,15 +1,8 @@
 -- The rows counted, then judged, then added. Assumes nothing.
-use mathlib.Core.Path.{refl, sym, _∙_}
-use Prim.Native.Nat.{_/_}
-use native.Mathlib.Omega.{arith}
-use lib.ListN.{length}
+use Rattle.wire.proofs.Basics.{_∙_, sym, refl, _/_, length, arith, needs}
 use Rattle.index_builder.proofs.Answers.{adds-refused, adds-full, adds-all, room-before}
-use borrow.Author.Needs.{needs}
 use Rattle.index_builder.proofs.add_within.Statement.{statement}
 use Rattle.index_builder.proofs.add_within.Tie as tie
-
-enum-told : tie.Need-enum-told
-enum-told c = search needs
 
 returns : tie.Need-returns
 returns c =
@@ -50,18 +43,12 @@ returns-3 c =
     adds-all (a .most) (length (a .batch .now) / 3) _ _ _ _ _ (a .index .now) (a .n) _ (at-walk .walk .ensures) (at-counted .counted .given .1) room _ _ (length (a .batch .now)) refl (start .pre .1) (at-walk2 .walk2 .ensures)
 
 pub add-within-spec : {M : Type 1} → statement M
-add-within-spec =
-    tie.close
-    (tie.spec
+add-within-spec = tie.close (tie.spec
+    (λ c. search needs) (λ c. search needs) (λ c κs. search needs) (λ c. search needs)
     (λ c. search needs)
-    (λ c. search needs)
-    (λ c κs. search needs)
-    (λ c. search needs)
-    enum-told
     returns
     (λ c κs. search needs)
     returns-2
     walk-requires-2
-    (λ c. search needs)
-    (λ c. search needs)
+    (λ c. search needs) (λ c. search needs)
     returns-3)

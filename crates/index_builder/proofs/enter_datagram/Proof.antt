@@ -1,7 +1,6 @@
 -- A row where the reader accepts the datagram, or none. Assumes nothing.
-use mathlib.Core.Path.{sym, _∙_}
+use Rattle.wire.proofs.Basics.{_∙_, sym, needs}
 use Rattle.index_builder.proofs.EntryTurns.{take-none, take-one}
-use borrow.Author.Needs.{needs}
 use Rattle.index_builder.proofs.enter_datagram.Statement.{statement}
 use Rattle.index_builder.proofs.enter_datagram.Tie as tie
 
@@ -12,9 +11,6 @@ use Rattle.index_builder.proofs.enter_datagram.Tie as tie
 -- A row where the reader accepts the datagram, or none. Assumes nothing.
 
 -- A row where the reader accepts the datagram, or none. Assumes nothing.
-
-enum-told : tie.Need-enum-told
-enum-told c = search needs
 
 returns : tie.Need-returns
 returns c =
@@ -33,15 +29,9 @@ returns-2 c =
     take-one (a .sender) (a .place) (a .index .now) _ (a .n) _ _ (sym (at-read-datagram .read-datagram .ensures .answer) ∙ r .read .given .1) (at-enter .enter .ensures)
 
 pub enter-datagram-spec : {M : Type 1} → statement M
-enter-datagram-spec =
-    tie.close
-    (tie.spec
-    (λ c κs. search needs)
+enter-datagram-spec = tie.close (tie.spec
+    (λ c κs. search needs) (λ c. search needs)
     (λ c. search needs)
-    enum-told
     returns
-    (λ c. search needs)
-    (λ c κs. search needs)
-    (λ c. search needs)
-    (λ c. search needs)
+    (λ c. search needs) (λ c κs. search needs) (λ c. search needs) (λ c. search needs)
     returns-2)

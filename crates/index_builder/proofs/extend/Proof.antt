@@ -1,8 +1,7 @@
 -- The rows from a place on, or the refusal of the head. Assumes nothing.
-use mathlib.Core.Path.{sym, _∙_}
+use Rattle.wire.proofs.Basics.{_∙_, sym, needs}
 use Rattle.log_index.specs.Index.{rowsAdded}
 use Rattle.index_builder.proofs.Answers.{head-added, head-after, adds-same, stops}
-use borrow.Author.Needs.{needs}
 use Rattle.index_builder.proofs.extend.Statement.{statement}
 use Rattle.index_builder.proofs.extend.Tie as tie
 
@@ -28,13 +27,7 @@ returns-2 c =
     stops (rowsAdded (a .log .now) (a .from)) (a .index .now) (a .n) _ e
 
 pub extend-spec : {M : Type 1} → statement M
-extend-spec =
-    tie.close
-    (tie.spec
-    (λ c κs. search needs)
-    (λ c. search needs)
-    (λ c κs. search needs)
-    (λ c. search needs)
-    (λ c. search needs)
+extend-spec = tie.close (tie.spec
+    (λ c κs. search needs) (λ c. search needs) (λ c κs. search needs) (λ c. search needs) (λ c. search needs)
     returns
     returns-2)

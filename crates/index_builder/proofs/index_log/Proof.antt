@@ -1,8 +1,7 @@
 -- The rows behind the head, or its refusal. Assumes nothing.
-use mathlib.Core.Path.{refl, sym, _∙_}
+use Rattle.wire.proofs.Basics.{_∙_, sym, refl, needs}
 use Rattle.log_index.specs.Index.{rowsIn}
 use Rattle.index_builder.proofs.Answers.{head-rows, head-stops, indexes, stops}
-use borrow.Author.Needs.{needs}
 use Rattle.index_builder.proofs.index_log.Statement.{statement}
 use Rattle.index_builder.proofs.index_log.Tie as tie
 
@@ -27,13 +26,7 @@ returns-2 c =
     indexes (a .log .now) (a .index .now) _ _ _ refl (stops (rowsIn (a .log .now)) (a .index .now) 0 _ e)
 
 pub index-log-spec : {M : Type 1} → statement M
-index-log-spec =
-    tie.close
-    (tie.spec
-    (λ c κs. search needs)
-    (λ c. search needs)
-    (λ c κs. search needs)
-    (λ c. search needs)
-    (λ c. search needs)
+index-log-spec = tie.close (tie.spec
+    (λ c κs. search needs) (λ c. search needs) (λ c κs. search needs) (λ c. search needs) (λ c. search needs)
     returns
     returns-2)

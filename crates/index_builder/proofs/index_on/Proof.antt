@@ -1,12 +1,8 @@
 -- The rows from a place on or from the first entry, or the refusal of the head. Assumes nothing.
-use mathlib.Core.Path.{sym, ap, _∙_}
-use Prim.Native.Nat.{ℕ}
-use native.Mathlib.Omega.{arith}
-use lib.ListN.{length-replicate}
+use Rattle.wire.proofs.Basics.{_∙_, sym, ap, ℕ, length-replicate, arith, needs}
 use Rattle.log_index.specs.Index.{rowsFrom}
 use Rattle.index_builder.specs.Adds.{rowsOn}
 use Rattle.index_builder.proofs.Answers.{head-on, head-none-on, adds-same, adds-batch, stops}
-use borrow.Author.Needs.{needs}
 use Rattle.index_builder.proofs.index_on.Statement.{statement}
 use Rattle.index_builder.proofs.index_on.Tie as tie
 
@@ -31,15 +27,7 @@ returns-2 c =
     stops (rowsOn (a .log .now) (a .from)) (a .index .now) (a .n) _ e
 
 pub index-on-spec : {M : Type 1} → statement M
-index-on-spec =
-    tie.close
-    (tie.spec
-    (λ c κs. search needs)
-    (λ c. search needs)
-    (λ c κs. search needs)
-    (λ c. search needs)
-    (λ c κs. search needs)
-    (λ c. search needs)
-    (λ c. search needs)
+index-on-spec = tie.close (tie.spec
+    (λ c κs. search needs) (λ c. search needs) (λ c κs. search needs) (λ c. search needs) (λ c κs. search needs) (λ c. search needs) (λ c. search needs)
     returns
     returns-2)

@@ -1,6 +1,6 @@
 -- Over the most rows, or over the words. Assumes nothing.
 use Rattle.index_builder.proofs.EntryTurns.{full-before, full-then, room-words}
-use borrow.Author.Needs.{needs}
+use Rattle.wire.proofs.Basics.{needs}
 use Rattle.index_builder.proofs.no_room.Statement.{statement}
 use Rattle.index_builder.proofs.no_room.Tie as tie
 

@@ -1,9 +1,6 @@
 -- A full batch, or not. Assumes nothing.
-use mathlib.Core.Path.{refl, ap, _∙_}
-use native.Mathlib.Omega.{arith}
-use lib.ListN.{length}
+use Rattle.wire.proofs.Basics.{_∙_, ap, refl, length, arith, needs}
 use Rattle.log_index.proofs.Batches.{rows-length}
-use borrow.Author.Needs.{needs}
 use Rattle.index_builder.proofs.settle.Statement.{statement}
 use Rattle.index_builder.proofs.settle.Tie as tie
 

@@ -1,16 +1,11 @@
 -- The loop: the rows in the index, those that wait and those to come are all. Assumes nothing.
-use mathlib.Core.Path.{sym, ap, _∙_}
-use mathlib.Core.List.{List}
-use Prim.Native.Nat.{ℕ, _+_, _-_, _≤_}
-use native.Mathlib.Omega.{arith}
-use lib.ListN.{length}
+use Rattle.wire.proofs.Basics.{_∙_, sym, ap, ℕ, _≤_, _+_, _-_, List, length, arith, needs}
 use Rattle.wire.specs.Bytes.{Bytes}
 use Rattle.datagram.specs.Read.{readDatagram}
 use Rattle.datagram.specs.declared.Read.{Read}
 use Rattle.log_index.specs.Index.{rowFor, rowsFrom}
 use Rattle.log_index.proofs.Gathers.{ahead, next-found, next-ended, next-refused, rows-past}
 use Rattle.index_builder.proofs.EntryTurns.{Going, going-start, going-next, going-refused, going-none, going-done}
-use borrow.Author.Needs.{needs}
 use Rattle.index_builder.proofs.walk.Statement.{statement}
 use Rattle.index_builder.proofs.walk.Tie as tie
 
@@ -76,9 +71,6 @@ loop-again c =
     let h = g .rows ∙ ap (λ (b : List ℕ). ahead (rowFor (w .sender) (l .at) (d b)) (rowsFrom (a .limits) (a .log .now) (w .next))) (sym (at-part .part .ensures)) in
     (omega (arith, t .sum, e .next, e .few, l .inv .0, g .on), (omega (arith, g .within), going-next _ _ _ _ _ _ _ _ _ (l .inv .1 .1) _ _ h _ _ e _ _ _ t))
 
-enum-told : tie.Need-enum-told Inv-loop μ-loop
-enum-told c = search needs
-
 finish-requires : tie.Need-finish-requires Inv-loop μ-loop
 finish-requires c κs =
     let at-loop-test = c .before .before .before .before .before in
@@ -137,29 +129,23 @@ returns-3 c =
     going-done _ _ _ _ _ _ _ _ _ (l .inv .1 .1) e _ _ (at-finish2 .finish2 .ensures)
 
 pub walk-spec : {M : Type 1} → statement M
-walk-spec =
-    tie.close
-    (tie.spec
+walk-spec = tie.close (tie.spec
     Inv-loop
     μ-loop
     loop-holds
-    (λ c κs. search needs)
-    (λ c. search needs)
-    (λ c κs. search needs)
+    (λ c κs. search needs) (λ c. search needs) (λ c κs. search needs)
     enter-datagram-requires
     settle-requires
     loop-less
     loop-again
-    enum-told
+    (λ c. search needs)
     finish-requires
-    (λ c. search needs)
-    (λ c. search needs)
+    (λ c. search needs) (λ c. search needs)
     returns
     (λ c. search needs)
     (λ c. c .before .before .before .before .before .loop .inv .1 .1 .size)
     (λ c. c .before .before .before .before .before .loop .inv .1 .1 .held)
     returns-2
     finish-requires-2
-    (λ c. search needs)
-    (λ c. search needs)
+    (λ c. search needs) (λ c. search needs)
     returns-3)

@@ -1,9 +1,7 @@
 -- The loop: the rows passed stand in the words. Assumes nothing.
-use Prim.Native.Nat.{_-_, _≤_}
-use native.Mathlib.Omega.{arith}
+use Rattle.wire.proofs.Basics.{_≤_, _-_, arith, needs}
 use Rattle.index_file.specs.File.{fileRow}
 use Rattle.index_file.proofs.Steps.{Copied, copy-none, copy-turn, copy-all}
-use borrow.Author.Needs.{needs}
 use Rattle.index_file.proofs.copy_rows.Statement.{statement}
 use Rattle.index_file.proofs.copy_rows.Tie as tie
 
@@ -40,16 +38,13 @@ returns c =
     copy-all (fileRow (a .file .now)) (a .index .now) (turn .loop .i) (a .n) _ (turn .loop .inv .1) (omega arith)
 
 pub copy-rows-spec : {M : Type 1} → statement M
-copy-rows-spec =
-    tie.close
-    (tie.spec
+copy-rows-spec = tie.close (tie.spec
     Inv-loop
     μ-loop
     loop-holds
     (λ c κs. search needs)
     put-words-requires
-    (λ c. search needs)
-    (λ c. search needs)
+    (λ c. search needs) (λ c. search needs)
     loop-again
     (λ c. c .before .loop .inv .1 .size)
     returns)

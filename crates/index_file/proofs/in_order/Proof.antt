@@ -1,12 +1,8 @@
 -- The loop: the rows passed are in order. Assumes nothing.
-use mathlib.Core.Path.{_≡_, sym, _∙_}
-use mathlib.Core.Bool.{true}
-use Prim.Native.Nat.{_+_, _-_, _≤_}
-use native.Mathlib.Omega.{arith}
+use Rattle.wire.proofs.Basics.{_∙_, sym, _≡_, _≤_, _+_, _-_, true, arith, needs}
 use Rattle.log_index.specs.Rows.{earlier}
 use Rattle.index_file.specs.File.{fileRow, inOrder}
 use Rattle.index_file.proofs.Sorted.{order-none, order-next, order-broken, order-fewer}
-use borrow.Author.Needs.{needs}
 use Rattle.index_file.proofs.in_order.Statement.{statement}
 use Rattle.index_file.proofs.in_order.Tie as tie
 
@@ -45,18 +41,12 @@ returns-2 c =
     sym (order-fewer (fileRow (a .file .now)) (turn .loop .i) (a .n) (c .loop-test .left) (turn .loop .inv .1 .1))
 
 pub in-order-spec : {M : Type 1} → statement M
-in-order-spec =
-    tie.close
-    (tie.spec
+in-order-spec = tie.close (tie.spec
     Inv-loop
     μ-loop
     (λ c. (omega arith, (omega arith, order-none (fileRow (c .before .args .file .now)))))
-    (λ c. search needs)
-    (λ c κs. search needs)
-    (λ c κs. search needs)
-    (λ c κs. search needs)
+    (λ c. search needs) (λ c κs. search needs) (λ c κs. search needs) (λ c κs. search needs)
     returns
-    (λ c. search needs)
-    (λ c. search needs)
+    (λ c. search needs) (λ c. search needs)
     loop-again
     returns-2)

@@ -1,7 +1,7 @@
 -- Three words at once. Assumes nothing.
 use Rattle.index_file.specs.Files.{rowSaid}
 use Rattle.index_file.proofs.Steps.{words-laid}
-use borrow.Author.Needs.{needs}
+use Rattle.wire.proofs.Basics.{needs}
 use Rattle.index_file.proofs.put_words.Statement.{statement}
 use Rattle.index_file.proofs.put_words.Tie as tie
 
@@ -12,11 +12,6 @@ returns c =
     words-laid (rowSaid (a .row)) _ _ _ (put .put-words .ensures)
 
 pub put-words-spec : {M : Type 1} → statement M
-put-words-spec =
-    tie.close
-    (tie.spec
-    (λ c. search needs)
-    (λ c. search needs)
-    (λ c κs. search needs)
-    (λ c. search needs)
+put-words-spec = tie.close (tie.spec
+    (λ c. search needs) (λ c. search needs) (λ c κs. search needs) (λ c. search needs)
     returns)

@@ -1,6 +1,6 @@
 -- The length, the first byte, whole rows, and as many as the head says. Assumes nothing.
 use Rattle.index_file.proofs.Steps.{head-short, head-other, head-odd, head-count, head-good}
-use borrow.Author.Needs.{needs}
+use Rattle.wire.proofs.Basics.{needs}
 use Rattle.index_file.proofs.read_head.Statement.{statement}
 use Rattle.index_file.proofs.read_head.Tie as tie
 
@@ -18,9 +18,7 @@ returns-5 c =
     head-good f _ (counted .number .ensures) (first .if1 .left) (second .if2 .left) (third .if3 .left) (fourth .if4 .left) _ (c .number2 .ensures)
 
 pub read-head-spec : {M : Type 1} → statement M
-read-head-spec =
-    tie.close
-    (tie.spec
+read-head-spec = tie.close (tie.spec
     (λ c. head-short (c .before .before .args .file .now) (c .if1 .taken))
     (λ c. search needs)
     (λ c. head-other (c .before .before .before .before .args .file .now) (c .if2 .taken))

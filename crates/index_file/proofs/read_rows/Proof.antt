@@ -1,14 +1,8 @@
 -- The head, the order, the room, and then the rows. Assumes nothing.
-use mathlib.Core.Path.{sym, _∙_}
-use native.Mathlib.Omega.{arith}
-use borrow.Author.Tests.{not-true, not-false}
+use Rattle.wire.proofs.Basics.{_∙_, sym, not-false, not-true, arith, needs}
 use Rattle.index_file.proofs.Answers.{reads-other, reads-unsorted, reads-short, reads-all}
-use borrow.Author.Needs.{needs}
 use Rattle.index_file.proofs.read_rows.Statement.{statement}
 use Rattle.index_file.proofs.read_rows.Tie as tie
-
-enum-told : tie.Need-enum-told
-enum-told c = search needs
 
 returns-2 : tie.Need-returns-2
 returns-2 c =
@@ -36,16 +30,12 @@ returns-4 c =
     reads-all _ _ _ _ e (sym (ordered .in-order .ensures) ∙ not-false _ (first .if1 .left)) (omega (arith, second .if2 .left)) _ (copied .copy-rows .ensures)
 
 pub read-rows-spec : {M : Type 1} → statement M
-read-rows-spec =
-    tie.close
-    (tie.spec
-    (λ c κs. search needs)
+read-rows-spec = tie.close (tie.spec
+    (λ c κs. search needs) (λ c. search needs)
     (λ c. search needs)
-    enum-told
     (λ c. reads-other _ _ _ (sym (c .before .before .read-head .ensures) ∙ c .enum-told .given .1))
     (λ c κs. search needs)
     returns-2
     returns-3
-    (λ c κs. search needs)
-    (λ c. search needs)
+    (λ c κs. search needs) (λ c. search needs)
     returns-4)

@@ -1,7 +1,6 @@
 -- The three numbers of a row, or zeros. Assumes nothing.
-use native.Mathlib.Omega.{arith}
+use Rattle.wire.proofs.Basics.{arith, needs}
 use Rattle.index_file.proofs.Steps.{row-none, row-some}
-use borrow.Author.Needs.{needs}
 use Rattle.index_file.proofs.row_at.Statement.{statement}
 use Rattle.index_file.proofs.row_at.Tie as tie
 
@@ -20,16 +19,8 @@ returns-2 c =
     row-some (a .file .now) (a .i) _ _ _ (omega (arith, e, met .if1 .left)) (first .number .ensures) (c .before .number2 .ensures) (c .number3 .ensures)
 
 pub row-at-spec : {M : Type 1} → statement M
-row-at-spec =
-    tie.close
-    (tie.spec
+row-at-spec = tie.close (tie.spec
     (λ c κs. search needs)
     returns
-    (λ c. search needs)
-    (λ c. search needs)
-    (λ c κs. search needs)
-    (λ c. search needs)
-    (λ c κs. search needs)
-    (λ c. search needs)
-    (λ c κs. search needs)
+    (λ c. search needs) (λ c. search needs) (λ c κs. search needs) (λ c. search needs) (λ c κs. search needs) (λ c. search needs) (λ c κs. search needs)
     returns-2)

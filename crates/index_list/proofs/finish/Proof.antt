@@ -1,5 +1,5 @@
 -- The text went into the buffer, and all of it is written out. Assumes nothing.
-use borrow.Author.Needs.{needs}
+use Rattle.wire.proofs.Basics.{needs}
 use Rattle.index_list.proofs.finish.Statement.{statement}
 use Rattle.index_list.proofs.finish.Tie as tie
 
@@ -9,11 +9,6 @@ returns c =
     record { end = p .pour-counted-line .result; poured = p .pour-counted-line .ensures; told = c .write-out .ensures }
 
 pub finish-spec : {M : Type 1} → statement M
-finish-spec =
-    tie.close
-    (tie.spec
-    (λ c. search needs)
-    (λ c κs. search needs)
-    (λ c κs. search needs)
-    (λ c. search needs)
+finish-spec = tie.close (tie.spec
+    (λ c. search needs) (λ c κs. search needs) (λ c κs. search needs) (λ c. search needs)
     returns)

@@ -1,13 +1,11 @@
 -- The rows that were indexed, or the refusal. Assumes nothing.
-use mathlib.Core.Path.{sym, ap, _∙_}
-use lib.ListN.{length}
+use Rattle.wire.proofs.Basics.{_∙_, sym, ap, length, needs}
 use Rattle.log_index.specs.Index.{Answer, rowsIn}
 use Rattle.index_builder.specs.Adds.{says}
 use Rattle.index_builder.proofs.Promises.{index-entries, index-room}
 use Rattle.output.proofs.Sending.{finishes-is}
 use Rattle.index_list.specs.Lines.{indexLines}
 use Rattle.index_list.proofs.Listing.{lines-held}
-use borrow.Author.Needs.{needs}
 use Rattle.index_list.proofs.indexed.Statement.{statement}
 use Rattle.index_list.proofs.indexed.Tie as tie
 
@@ -36,17 +34,10 @@ returns-2 c =
     finishes-is (f .refused .ensures) (ap (λ (y : Answer). indexLines y (rowsIn (a .log .now))) (sym (ap says (w .answer2 .given .1)) ∙ x .index-log .ensures .answer))
 
 pub indexed-spec : {M : Type 1} → statement M
-indexed-spec =
-    tie.close
-    (tie.spec
-    (λ c κs. search needs)
-    (λ c. search needs)
+indexed-spec = tie.close (tie.spec
+    (λ c κs. search needs) (λ c. search needs)
     listed-requires
-    (λ c. search needs)
-    (λ c κs. search needs)
-    (λ c. search needs)
-    (λ c. search needs)
+    (λ c. search needs) (λ c κs. search needs) (λ c. search needs) (λ c. search needs)
     returns
-    (λ c. search needs)
-    (λ c. search needs)
+    (λ c. search needs) (λ c. search needs)
     returns-2)

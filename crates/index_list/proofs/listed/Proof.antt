@@ -1,17 +1,11 @@
 -- Row by row. The loop's invariant: the i rows passed have their lines. Where the output is closed, the rest takes no more. Assumes nothing.
-use mathlib.Core.Path.{_≡_, refl, sym, ap, _∙_}
-use mathlib.Core.List.{_++_}
-use Prim.Native.Nat.{ℕ, suc, _-_, _≤_}
-use native.Mathlib.Omega.{arith}
-use native.Mathlib.Numerals.{add-one}
-use lib.ListN.{length}
+use Rattle.wire.proofs.Basics.{_∙_, sym, _≡_, ap, refl, ℕ, _≤_, _-_, suc, _++_, length, add-one, arith, needs}
 use Rattle.output.specs.Output.{Pours}
 use Rattle.output.proofs.Sending.{pours-none, pours-then, pours-is, pours-stop, pours-shut, finishes-then, finishes-is, finishes-shut}
 use Rattle.log_index.specs.Words.{rowAt}
 use Rattle.log_lines.specs.Lines.{endLine}
 use Rattle.index_lines.specs.Lines.{rowLine}
 use Rattle.index_list.specs.InsideLines.{linesBelow}
-use borrow.Author.Needs.{needs}
 use Rattle.index_list.proofs.listed.Statement.{statement}
 use Rattle.index_list.proofs.listed.Tie as tie
 
@@ -52,18 +46,13 @@ returns-2 c =
     finishes-is (finishes-then (l .loop .inv .1 .1) (f .finish .ensures)) (ap (λ (k : ℕ). linesBelow k w ++ endLine (a .n)) e)
 
 pub listed-spec : {M : Type 1} → statement M
-listed-spec =
-    tie.close
-    (tie.spec
+listed-spec = tie.close (tie.spec
     Inv-loop
     μ-loop
     (λ c. let a = c .before .before .args in (refl, (omega arith, pours-none (a .out .now) 0)))
-    (λ c κs. search needs)
-    (λ c. search needs)
-    (λ c. search needs)
+    (λ c κs. search needs) (λ c. search needs) (λ c. search needs)
     returns
     (λ c. search needs)
     loop-again
-    (λ c κs. search needs)
-    (λ c. search needs)
+    (λ c κs. search needs) (λ c. search needs)
     returns-2)

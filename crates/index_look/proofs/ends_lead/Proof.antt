@@ -1,12 +1,8 @@
 -- The first row, and the last. Assumes nothing.
-use mathlib.Core.Path.{sym, ap, _∙_}
-use Prim.Native.Nat.{_-_}
-use native.Mathlib.Omega.{arith}
-use borrow.Author.Tests.{not-true, not-false}
+use Rattle.wire.proofs.Basics.{_∙_, sym, ap, _-_, not-false, not-true, arith, needs}
 use Rattle.index_file.specs.File.{fileRow}
 use Rattle.index_look.specs.Keys.{leads}
 use Rattle.index_look.proofs.Steps.{ends-none, ends-first, ends-last}
-use borrow.Author.Needs.{needs}
 use Rattle.index_look.proofs.ends_lead.Statement.{statement}
 use Rattle.index_look.proofs.ends_lead.Tie as tie
 
@@ -37,14 +33,9 @@ returns-3 c =
     (c .is-led2 .ensures ∙ ap (leads (a .log .now)) (last .row-at2 .ensures))
 
 pub ends-lead-spec : {M : Type 1} → statement M
-ends-lead-spec =
-    tie.close
-    (tie.spec
+ends-lead-spec = tie.close (tie.spec
     returns
-    (λ c κs. search needs)
-    (λ c κs. search needs)
+    (λ c κs. search needs) (λ c κs. search needs)
     returns-2
-    (λ c. search needs)
-    (λ c κs. search needs)
-    (λ c κs. search needs)
+    (λ c. search needs) (λ c κs. search needs) (λ c κs. search needs)
     returns-3)

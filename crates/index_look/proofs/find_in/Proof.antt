@@ -1,7 +1,6 @@
 -- The place of the first row that is not before the key. Assumes nothing.
-use mathlib.Core.Path.{sym, _∙_}
+use Rattle.wire.proofs.Basics.{_∙_, sym, needs}
 use Rattle.index_look.proofs.Steps.{found-some, found-none}
-use borrow.Author.Needs.{needs}
 use Rattle.index_look.proofs.find_in.Statement.{statement}
 use Rattle.index_look.proofs.find_in.Tie as tie
 
@@ -22,11 +21,7 @@ returns-2 c =
     found-none (a .file .now) (a .n) (a .sender) (a .sequence) _ (ranked .rank .ensures .0) _ (looked .row-at .ensures) (sym (asked .is-of .ensures) ∙ c .if1 .left)
 
 pub find-in-spec : {M : Type 1} → statement M
-find-in-spec =
-    tie.close
-    (tie.spec
-    (λ c κs. search needs)
-    (λ c κs. search needs)
-    (λ c κs. search needs)
+find-in-spec = tie.close (tie.spec
+    (λ c κs. search needs) (λ c κs. search needs) (λ c κs. search needs)
     returns
     returns-2)

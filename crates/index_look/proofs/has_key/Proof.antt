@@ -1,12 +1,8 @@
 -- The head, the entry at the place, its sender and its sequence. Assumes nothing.
-use mathlib.Core.Path.{sym, _∙_}
+use Rattle.wire.proofs.Basics.{_∙_, sym, needs}
 use Rattle.index_look.proofs.Steps.{has-head, has-end, has-refused, has-other, has-this}
-use borrow.Author.Needs.{needs}
 use Rattle.index_look.proofs.has_key.Statement.{statement}
 use Rattle.index_look.proofs.has_key.Tie as tie
-
-enum-told : tie.Need-enum-told
-enum-told c = search needs
 
 returns : tie.Need-returns
 returns c =
@@ -51,18 +47,13 @@ returns-5 c =
     has-refused (a .log .now) (a .place) (a .sender) (a .sequence) _ _ (sym (opened .first-entry .ensures) ∙ headed .first .given .1) _ (sym (next .next-entry .ensures) ∙ c .enum-told3 .given .1)
 
 pub has-key-spec : {M : Type 1} → statement M
-has-key-spec =
-    tie.close
-    (tie.spec
-    (λ c κs. search needs)
+has-key-spec = tie.close (tie.spec
+    (λ c κs. search needs) (λ c. search needs)
     (λ c. search needs)
-    enum-told
     returns
-    (λ c κs. search needs)
-    (λ c. search needs)
+    (λ c κs. search needs) (λ c. search needs)
     returns-2
-    (λ c κs. search needs)
-    (λ c κs. search needs)
+    (λ c κs. search needs) (λ c κs. search needs)
     returns-3
     (λ c. search needs)
     returns-4

@@ -23,9 +23,7 @@ returns-3 c =
     of-sender (a .i) (a .n) (a .sender) (a .sequence) (rowSaid (a .row)) (first .if1 .left) (second .if2 .left)
 
 pub is-of-spec : {M : Type 1} → statement M
-is-of-spec =
-    tie.close
-    (tie.spec
+is-of-spec = tie.close (tie.spec
     returns
     returns-2
     returns-3)

@@ -1,12 +1,8 @@
 -- Nowhere, or the entry at the place. Assumes nothing.
-use mathlib.Core.Path.{sym, _∙_}
+use Rattle.wire.proofs.Basics.{_∙_, sym, needs}
 use Rattle.index_look.proofs.Steps.{judge-none, judge-at, judge-other}
-use borrow.Author.Needs.{needs}
 use Rattle.index_look.proofs.judge.Statement.{statement}
 use Rattle.index_look.proofs.judge.Tie as tie
-
-enum-told : tie.Need-enum-told
-enum-told c = search needs
 
 returns : tie.Need-returns
 returns c =
@@ -28,11 +24,8 @@ returns-3 c =
     judge-other (a .log .now) (a .sender) (a .sequence) _ _ (told .found .given .1) (sym (asked .has-key .ensures) ∙ c .if1 .left)
 
 pub judge-spec : {M : Type 1} → statement M
-judge-spec =
-    tie.close
-    (tie.spec
-    (λ c. search needs)
-    enum-told
+judge-spec = tie.close (tie.spec
+    (λ c. search needs) (λ c. search needs)
     returns
     (λ c κs. search needs)
     returns-2

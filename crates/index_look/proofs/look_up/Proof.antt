@@ -1,13 +1,8 @@
 -- The head, the covered length, the first and the last row, and then the key. Assumes nothing.
-use mathlib.Core.Path.{sym, _∙_}
-use borrow.Author.Tests.{not-true, not-false}
+use Rattle.wire.proofs.Basics.{_∙_, sym, not-false, not-true, needs}
 use Rattle.index_look.proofs.Steps.{looks-46, looks-longer, looks-astray, looks-found}
-use borrow.Author.Needs.{needs}
 use Rattle.index_look.proofs.look_up.Statement.{statement}
 use Rattle.index_look.proofs.look_up.Tie as tie
-
-enum-told : tie.Need-enum-told
-enum-told c = search needs
 
 returns : tie.Need-returns
 returns c =
@@ -44,16 +39,12 @@ returns-4 c =
     _ (found .find-in .result) (found .find-in .ensures) (c .judge .ensures)
 
 pub look-up-spec : {M : Type 1} → statement M
-look-up-spec =
-    tie.close
-    (tie.spec
-    (λ c κs. search needs)
+look-up-spec = tie.close (tie.spec
+    (λ c κs. search needs) (λ c. search needs)
     (λ c. search needs)
-    enum-told
     returns
     returns-2
     (λ c κs. search needs)
     returns-3
-    (λ c κs. search needs)
-    (λ c κs. search needs)
+    (λ c κs. search needs) (λ c κs. search needs)
     returns-4)

@@ -1,14 +1,11 @@
 -- The loop: between low and high the row has the place that it has among all. Assumes nothing.
-use mathlib.Core.Path.{_≡_, refl, sym, ap, _∙_}
-use Prim.Native.Nat.{ℕ, _-_, _≤_}
-use native.Mathlib.Omega.{arith}
+use Rattle.wire.proofs.Basics.{_∙_, sym, _≡_, ap, refl, ℕ, _≤_, _-_, arith, needs}
 use Rattle.wire.specs.Halving.{halve}
 use Rattle.wire.proofs.Halves.{starts, goes-behind, goes-before, ends}
 use Rattle.log_index.specs.Rows.{Row, earlier}
 use Rattle.index_file.specs.File.{fileRow}
 use Rattle.index_file.specs.Files.{rowSaid}
 use Rattle.index_look.specs.Look.{fileRank}
-use borrow.Author.Needs.{needs}
 use Rattle.index_look.proofs.rank.Statement.{statement}
 use Rattle.index_look.proofs.rank.Tie as tie
 
@@ -49,18 +46,11 @@ returns c =
     (sym (ends _ (l .low) (l .high) (omega arith)) ∙ l .inv .1 .1, omega arith)
 
 pub rank-spec : {M : Type 1} → statement M
-rank-spec =
-    tie.close
-    (tie.spec
+rank-spec = tie.close (tie.spec
     Inv-loop
     μ-loop
     loop-holds
-    (λ c. search needs)
-    (λ c. search needs)
-    (λ c κs. search needs)
-    (λ c κs. search needs)
-    (λ c. search needs)
-    (λ c. search needs)
+    (λ c. search needs) (λ c. search needs) (λ c κs. search needs) (λ c κs. search needs) (λ c. search needs) (λ c. search needs)
     loop-again
     (λ c. search needs)
     loop-again-2

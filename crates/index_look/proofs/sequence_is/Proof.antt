@@ -1,12 +1,8 @@
 -- The sequence of what the reader accepts. Assumes nothing.
-use mathlib.Core.Path.{sym, _∙_}
+use Rattle.wire.proofs.Basics.{_∙_, sym, needs}
 use Rattle.index_look.proofs.Steps.{sequence-none, sequence-good}
-use borrow.Author.Needs.{needs}
 use Rattle.index_look.proofs.sequence_is.Statement.{statement}
 use Rattle.index_look.proofs.sequence_is.Tie as tie
-
-enum-told : tie.Need-enum-told
-enum-told c = search needs
 
 returns : tie.Need-returns
 returns c =
@@ -22,12 +18,9 @@ returns-2 c =
     sequence-good (a .sequence) _ _ (sym (asked .read-datagram .ensures .answer) ∙ told .read .given .1)
 
 pub sequence-is-spec : {M : Type 1} → statement M
-sequence-is-spec =
-    tie.close
-    (tie.spec
-    (λ c κs. search needs)
+sequence-is-spec = tie.close (tie.spec
+    (λ c κs. search needs) (λ c. search needs)
     (λ c. search needs)
-    enum-told
     returns
     (λ c. search needs)
     returns-2)

@@ -1,10 +1,7 @@
 -- The loop: the rows passed stand behind the head. Assumes nothing.
-use mathlib.Core.Path.{refl}
-use Prim.Native.Nat.{_-_, _≤_}
-use native.Mathlib.Omega.{arith}
+use Rattle.wire.proofs.Basics.{refl, _≤_, _-_, arith, needs}
 use Rattle.log_index.specs.Words.{rowAt}
 use Rattle.index_writer.proofs.Laying.{Laid, lay-none, lay-turn, lay-all}
-use borrow.Author.Needs.{needs}
 use Rattle.index_writer.proofs.put_rows.Statement.{statement}
 use Rattle.index_writer.proofs.put_rows.Tie as tie
 
@@ -40,26 +37,14 @@ returns c =
     lay-all (rowAt (a .index .now)) (a .file .now) (turn .loop .i) (a .n) _ (turn .loop .inv .1) (omega arith)
 
 pub put-rows-spec : {M : Type 1} → statement M
-put-rows-spec =
-    tie.close
-    (tie.spec
+put-rows-spec = tie.close (tie.spec
     Inv-loop
     μ-loop
     loop-holds
-    (λ c. search needs)
-    (λ c. search needs)
-    (λ c. search needs)
-    (λ c. search needs)
-    (λ c. search needs)
-    (λ c. search needs)
-    (λ c. search needs)
-    (λ c. search needs)
-    (λ c. search needs)
-    (λ c. search needs)
-    (λ c. search needs)
+    (λ c. search needs) (λ c. search needs) (λ c. search needs) (λ c. search needs) (λ c. search needs) (λ c. search needs) (λ c. search needs)
+    (λ c. search needs) (λ c. search needs) (λ c. search needs) (λ c. search needs)
     put-row-requires
-    (λ c. search needs)
-    (λ c. search needs)
+    (λ c. search needs) (λ c. search needs)
     loop-again
     (λ c. c .before .loop .inv .1 .size)
     returns)

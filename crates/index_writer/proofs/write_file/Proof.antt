@@ -1,9 +1,8 @@
 -- The room for words and bytes, then the head and the rows. Assumes nothing.
-use native.Mathlib.Omega.{arith}
+use Rattle.wire.proofs.Basics.{arith, needs}
 use Rattle.log_index.specs.Words.{rowAt}
 use Rattle.index_writer.proofs.Laying.{writes-fewer, writes-short, writes-all}
 use Rattle.index_writer.proofs.Laying.{file-laid}
-use borrow.Author.Needs.{needs}
 use Rattle.index_writer.proofs.write_file.Statement.{statement}
 use Rattle.index_writer.proofs.write_file.Tie as tie
 
@@ -22,14 +21,10 @@ returns-4 c =
     (file-laid (rowAt (a .index .now)) (a .file .now) (a .n) (a .covered) _ _ (head .put-head .ensures) (rows .put-rows .ensures))
 
 pub write-file-spec : {M : Type 1} → statement M
-write-file-spec =
-    tie.close
-    (tie.spec
+write-file-spec = tie.close (tie.spec
     (λ c. writes-fewer _ _ _ _ (omega (arith, c .if1 .taken)))
     (λ c. writes-short _ _ _ _ (omega (arith, c .before .if1 .left)) (omega (arith, c .if2 .taken)))
     (λ c. search needs)
     returns-3
-    (λ c κs. search needs)
-    (λ c κs. search needs)
-    (λ c. search needs)
+    (λ c κs. search needs) (λ c κs. search needs) (λ c. search needs)
     returns-4)

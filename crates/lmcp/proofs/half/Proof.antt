@@ -1,13 +1,5 @@
 -- `lmcp::half` meets its contract: the constant's entries are those powers, by one computed test.
-use mathlib.Core.Path.{refl, ap, _∙_}
-use mathlib.Core.Bool.{Bool}
-use mathlib.Core.List.{List, [], _∷_}
-use Prim.Native.Nat.{ℕ, _-_, _*_, _^_}
-use native.Mathlib.Omega.{arith}
-use lib.Dec.{eqb}
-use lib.ListN.{getD}
-use borrow.Author.Tests.{eqb-true}
-use borrow.Author.Needs.{needs}
+use Rattle.wire.proofs.Basics.{_∙_, ap, refl, ℕ, _-_, _*_, _^_, List, [], _∷_, Bool, getD, eqb, eqb-true, arith, needs}
 use Rattle.lmcp.proofs.Tables.{under}
 use Rattle.lmcp.proofs.half.Statement.{statement}
 use Rattle.lmcp.proofs.half.Tie as tie

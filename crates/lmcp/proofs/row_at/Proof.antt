@@ -1,8 +1,5 @@
 -- `lmcp::row_at` meets its contract: the bytes of a row are the definition's row, and past the last stands the default.
-use mathlib.Core.Path.{_≡_, ap, _∙_}
-use mathlib.Core.List.{List}
-use Prim.Native.Nat.{ℕ}
-use borrow.Author.Needs.{needs}
+use Rattle.wire.proofs.Basics.{_∙_, _≡_, ap, ℕ, List, needs}
 use Rattle.lmcp.specs.Packed.{packedOf}
 use Rattle.lmcp.specs.InsidePacked.{cell}
 use Rattle.lmcp.proofs.Codes.{row-is, rows-end}
@@ -17,15 +14,7 @@ returns c =
     row-is (a .version) (a .i) (t .before .if1 .taken) (c .before .before .before .before .before .entry .ensures ∙ at 0) (c .before .before .before .entry2 .ensures ∙ at 1) (at 2) (c .entry3 .ensures ∙ at 3)
 
 pub row-at-spec : {M : Type 1} → statement M
-row-at-spec =
-    tie.close
-    (tie.spec
-    (λ c κs. search needs)
-    (λ c κs. search needs)
-    (λ c κs. search needs)
-    (λ c. search needs)
-    (λ c. search needs)
-    (λ c. search needs)
-    (λ c κs. search needs)
+row-at-spec = tie.close (tie.spec
+    (λ c κs. search needs) (λ c κs. search needs) (λ c κs. search needs) (λ c. search needs) (λ c. search needs) (λ c. search needs) (λ c κs. search needs)
     returns
     (λ c. let a = c .before .args in rows-end (a .version) (a .i) (c .if1 .left)))

@@ -1,8 +1,6 @@
 -- `lmcp::size_of` meets its contract: of a number below 0 the size is less one less it.
-use mathlib.Core.Path.{_≡_, sym, ap, _∙_, subst}
-use mathlib.Core.Bool.{true, false}
-use native.Mathlib.Omega.{arith}
-use lib.IntN.{ℤ, pos, negsuc, _-ℤ_, natAbs}
+use Rattle.wire.proofs.Basics.{_∙_, sym, _≡_, ap, subst, true, false, ℤ, pos, negsuc, natAbs, arith}
+use lib.IntN.{_-ℤ_}
 use lib.Signed.{ltZ, nonNeg}
 use lib.Dec.{T}
 use mir.Syntax.{w64}

@@ -1,10 +1,5 @@
 -- `lmcp::start_of` meets its contract: the last two rows of the table are where the types begin and end.
-use mathlib.Core.Path.{ap, sym, _∙_}
-use mathlib.Core.List.{List}
-use Prim.Native.Nat.{ℕ}
-use native.Mathlib.Omega.{arith}
-use lib.ListN.{getD}
-use borrow.Author.Needs.{needs}
+use Rattle.wire.proofs.Basics.{_∙_, sym, ap, ℕ, List, getD, arith, needs}
 use Rattle.lmcp.specs.Table.{pitsurv, startsOf}
 use Rattle.lmcp.specs.InsidePacked.{cell}
 use Rattle.lmcp.proofs.Codes.{begin-is, end-is, starts-end}

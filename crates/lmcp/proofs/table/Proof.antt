@@ -1,6 +1,5 @@
 -- `lmcp::table` meets its contract: the constant is what the rows come to, in either version.
-use mathlib.Core.Path.{sym, ap}
-use borrow.Author.Tests.{eq-eqb, ne-eqb}
+use Rattle.wire.proofs.Basics.{sym, ap, eq-eqb, ne-eqb}
 use Rattle.lmcp.specs.Packed.{packedBy}
 use Rattle.lmcp.proofs.table.Statement.{statement}
 use Rattle.lmcp.proofs.table.Tie as tie

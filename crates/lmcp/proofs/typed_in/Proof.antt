@@ -19,4 +19,8 @@ returns-4 c =
     typed-declared (pitsurv (start .args .version)) _ _ (at-if1 .if1 .left) (at-if2 .if2 .left) (c .if3 .left)
 
 pub typed-in-spec : {M : Type 1} → statement M
-typed-in-spec = tie.close (tie.spec (λ c. typed-low (pitsurv (c .before .args .version)) _ _ (c .if1 .taken)) (λ c. typed-high (pitsurv (c .before .before .args .version)) _ _ (c .if2 .taken)) returns-3 returns-4)
+typed-in-spec = tie.close (tie.spec
+    (λ c. typed-low (pitsurv (c .before .args .version)) _ _ (c .if1 .taken))
+    (λ c. typed-high (pitsurv (c .before .before .args .version)) _ _ (c .if2 .taken))
+    returns-3
+    returns-4)

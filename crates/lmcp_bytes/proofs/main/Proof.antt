@@ -1,9 +1,5 @@
 -- Arrays are lent as slices, each as long as it says: by a law, since they are too long to count. Assumes nothing.
-use mathlib.Core.Path.{_≡_, sym}
-use Prim.Native.Nat.{ℕ}
-use lib.ListN.{length, replicate, length-replicate}
-use lib.IntN.{ℤ, pos}
-use borrow.Author.Needs.{needs}
+use Rattle.wire.proofs.Basics.{sym, _≡_, ℕ, length, replicate, length-replicate, ℤ, pos, needs}
 use Rattle.output.proofs.Zeros.{zeros}
 use Rattle.lmcp_bytes.proofs.main.Statement.{statement}
 use Rattle.lmcp_bytes.proofs.main.Tie as tie
@@ -11,28 +7,11 @@ use Rattle.lmcp_bytes.proofs.main.Tie as tie
 numbers : (n : ℕ) → n ≡ length {A = ℤ} (replicate n (pos 0))
 numbers n = sym (length-replicate {A = ℤ} n (pos 0))
 
-slice-aggregate-run : tie.Need-slice-aggregate-run
-slice-aggregate-run c = zeros _
-
-slice-aggregate-run-2 : tie.Need-slice-aggregate-run-2
-slice-aggregate-run-2 c = numbers _
-
-slice-aggregate-run-3 : tie.Need-slice-aggregate-run-3
-slice-aggregate-run-3 c = zeros _
-
-slice-aggregate-run-4 : tie.Need-slice-aggregate-run-4
-slice-aggregate-run-4 c = zeros _
-
-returns : tie.Need-returns
-returns c = tt
-
 pub main-spec : {M : Type 1} → statement M
-main-spec =
-    tie.close
-    (tie.spec
-    slice-aggregate-run
-    slice-aggregate-run-2
-    slice-aggregate-run-3
-    slice-aggregate-run-4
+main-spec = tie.close (tie.spec
+    (λ c. zeros _)
+    (λ c. numbers _)
+    (λ c. zeros _)
+    (λ c. zeros _)
     (λ c κs. search needs)
-    returns)
+    (λ c. tt))

@@ -1,12 +1,5 @@
 -- A list is written, or it is too long, and its line goes out. Assumes nothing.
-use mathlib.Core.Path.{_≡_, refl, sym, ap, _∙_, subst}
-use mathlib.Core.Bool.{Bool}
-use mathlib.Core.List.{List, _++_}
-use Prim.Native.Nat.{ℕ, _/_}
-use lib.IntN.{ℤ}
-use lib.ListN.{length, take}
-use lib.Seq.{sets}
-use borrow.Author.Tests.{lt-ltb, le-ltb}
+use Rattle.wire.proofs.Basics.{_∙_, sym, _≡_, ap, refl, subst, ℕ, _/_, List, _++_, Bool, length, take, sets, ℤ, le-ltb, lt-ltb, arith, needs}
 use Rattle.wire.specs.Signed.{signed}
 use Rattle.lmcp.specs.Message.{WrittenTo}
 use Rattle.lmcp.specs.Lists.{writeList}
@@ -16,8 +9,6 @@ use Rattle.lmcp_bytes.specs.Lines.{numbersOf, byLength}
 use Rattle.wire.proofs.Parts.{front-of}
 use Rattle.record_lines.proofs.BodyNumbers.{length-numbers}
 use Rattle.lmcp_bytes.proofs.Writing.{text-longer, text-written}
-use borrow.Author.Needs.{needs}
-use native.Mathlib.Omega.{arith}
 use Rattle.lmcp_bytes.proofs.one_more.Statement.{statement}
 use Rattle.lmcp_bytes.proofs.one_more.Tie as tie
 
@@ -68,18 +59,8 @@ returns-2 c =
     }
 
 pub one-more-spec : {M : Type 1} → statement M
-one-more-spec =
-    tie.close
-    (tie.spec
-    (λ c κs. search needs)
-    (λ c κs. search needs)
-    (λ c. search needs)
+one-more-spec = tie.close (tie.spec
+    (λ c κs. search needs) (λ c κs. search needs) (λ c. search needs)
     returns
-    (λ c κs. search needs)
-    (λ c κs. search needs)
-    (λ c κs. search needs)
-    (λ c κs. search needs)
-    (λ c. search needs)
-    (λ c. search needs)
-    (λ c. search needs)
+    (λ c κs. search needs) (λ c κs. search needs) (λ c κs. search needs) (λ c κs. search needs) (λ c. search needs) (λ c. search needs) (λ c. search needs)
     returns-2)

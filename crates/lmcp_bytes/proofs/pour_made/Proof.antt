@@ -1,11 +1,8 @@
 -- What was made as text, by its cases. Assumes nothing.
-use mathlib.Core.Path.{sym, ap, _∙_}
-use mathlib.Core.List.{List, [], _∷_, _++_}
-use Prim.Native.Nat.{ℕ}
+use Rattle.wire.proofs.Basics.{_∙_, sym, ap, ℕ, List, [], _∷_, _++_, needs}
 use Rattle.text.specs.Text.{hex}
 use Rattle.output.proofs.Sending.{pours-then, pours-is}
 use Rattle.lmcp_bytes.specs.Inside.{madeText}
-use borrow.Author.Needs.{needs}
 use Rattle.lmcp_bytes.proofs.pour_made.Statement.{statement}
 use Rattle.lmcp_bytes.proofs.pour_made.Tie as tie
 
@@ -27,21 +24,9 @@ returns-2 c =
     pours-is (p .pour-counted-line .ensures) (ap (madeText (m .before .before .before .before .args .bytes .now)) (sym (m .made2 .given .1)))
 
 pub pour-made-spec : {M : Type 1} → statement M
-pour-made-spec =
-    tie.close
-    (tie.spec
-    (λ c. search needs)
-    (λ c. search needs)
-    (λ c κs. search needs)
-    (λ c κs. search needs)
-    (λ c κs. search needs)
-    (λ c. search needs)
-    (λ c κs. search needs)
-    (λ c. search needs)
-    (λ c. search needs)
-    (λ c. search needs)
-    (λ c κs. search needs)
-    (λ c. search needs)
+pour-made-spec = tie.close (tie.spec
+    (λ c. search needs) (λ c. search needs) (λ c κs. search needs) (λ c κs. search needs) (λ c κs. search needs) (λ c. search needs) (λ c κs. search needs)
+    (λ c. search needs) (λ c. search needs) (λ c. search needs) (λ c κs. search needs) (λ c. search needs)
     returns
     (λ c. search needs)
     returns-2)

@@ -1,8 +1,5 @@
 -- List by list. The loop's invariant: the lists taken have their lines. Assumes nothing.
-use mathlib.Core.Path.{_≡_, refl, ap, _∙_}
-use mathlib.Core.List.{_++_}
-use Prim.Native.Nat.{ℕ, _+_, _-_}
-use lib.ListN.{length}
+use Rattle.wire.proofs.Basics.{_∙_, _≡_, ap, refl, ℕ, _+_, _-_, _++_, length, needs}
 use Rattle.stream.specs.declared.Kind.the-variants.{Numbers}
 use Rattle.output.proofs.Sending.{pours-is}
 use Rattle.record_lines.specs.Streams.{many}
@@ -10,7 +7,6 @@ use Rattle.record_lines.specs.Lines.{each, Says}
 use Rattle.record_lines.proofs.RecordLoop.{Going, going-none, going-more, going-end, going-over, going-shut}
 use Rattle.text.specs.Text.{decimal}
 use Rattle.lmcp_bytes.specs.Lines.{calculated, listText, line}
-use borrow.Author.Needs.{needs}
 use Rattle.lmcp_bytes.proofs.run.Statement.{statement}
 use Rattle.lmcp_bytes.proofs.run.Tie as tie
 
@@ -70,35 +66,16 @@ returns-3 : tie.Need-returns-3 Inv-loop μ-loop
 returns-3 c = let f = c .before .before in let t = f .before .before in going-over (t .before .loop .inv .3) (t .loop-test .left) (f .finish2 .ensures)
 
 pub run-spec : {M : Type 1} → statement M
-run-spec =
-    tie.close
-    (tie.spec
+run-spec = tie.close (tie.spec
     Inv-loop
     μ-loop
     loop-holds
-    (λ c κs. search needs)
-    (λ c. search needs)
-    (λ c κs. search needs)
-    (λ c. search needs)
-    (λ c. search needs)
-    (λ c. search needs)
-    (λ c. search needs)
+    (λ c κs. search needs) (λ c. search needs) (λ c κs. search needs) (λ c. search needs) (λ c. search needs) (λ c. search needs) (λ c. search needs)
     returns
-    (λ c. search needs)
-    (λ c κs. search needs)
-    (λ c κs. search needs)
-    (λ c κs. search needs)
-    (λ c κs. search needs)
-    (λ c. search needs)
-    (λ c. search needs)
-    (λ c. search needs)
-    (λ c. search needs)
+    (λ c. search needs) (λ c κs. search needs) (λ c κs. search needs) (λ c κs. search needs) (λ c κs. search needs) (λ c. search needs) (λ c. search needs)
+    (λ c. search needs) (λ c. search needs)
     returns-2
     (λ c. search needs)
     loop-again
-    (λ c κs. search needs)
-    (λ c. search needs)
-    (λ c. search needs)
-    (λ c. search needs)
-    (λ c. search needs)
+    (λ c κs. search needs) (λ c. search needs) (λ c. search needs) (λ c. search needs) (λ c. search needs)
     returns-3)

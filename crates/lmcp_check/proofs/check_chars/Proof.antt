@@ -1,11 +1,5 @@
 -- `lmcp_check::check_chars` meets its contract.
-use mathlib.Core.Path.{refl, ap, _∙_}
-use mathlib.Core.List.{[], _∷_}
-use Prim.Native.Nat.{_+_, _-_, _≤_, _<_}
-use native.Mathlib.Omega.{arith}
-use lib.ListN.{length, drop, getD, length-drop}
-use lib.Seq.{drop-drop}
-use borrow.Author.Needs.{needs}
+use Rattle.wire.proofs.Basics.{_∙_, ap, refl, _≤_, _+_, _<_, _-_, [], _∷_, length, drop, getD, length-drop, drop-drop, arith, needs}
 use Rattle.lmcp.specs.Run.{repeat, got}
 use Rattle.lmcp.specs.Table.{charKind}
 use Rattle.lmcp.specs.Value.{numberOf}
@@ -73,19 +67,14 @@ returns-3 c =
     items-end (readValue charKind 1) (a .n) (x .k) (x .inv .1) (turn .before .pre .1) (c .loop-test .left)
 
 pub check-chars-spec : {M : Type 1} → statement M
-check-chars-spec =
-    tie.close
-    (tie.spec
+check-chars-spec = tie.close (tie.spec
     Inv-loop
     μ-loop
     loop-holds
     (λ c. search needs)
     returns
-    (λ c. search needs)
-    (λ c. search needs)
+    (λ c. search needs) (λ c. search needs)
     returns-2
-    (λ c. search needs)
-    (λ c. search needs)
-    (λ c. search needs)
+    (λ c. search needs) (λ c. search needs) (λ c. search needs)
     loop-again
     returns-3)

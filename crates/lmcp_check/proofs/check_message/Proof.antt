@@ -1,22 +1,9 @@
 -- `lmcp_check::check_message` meets its contract: the frame, and then the root.
-use mathlib.Core.Path.{_≡_, sym, ap, _∙_}
-use mathlib.Core.List.{List}
-use Prim.Native.Nat.{ℕ, _-_, _≤_}
-use native.Mathlib.Omega.{arith}
-use lib.ListN.{length, take, drop, length-take, length-drop}
-use borrow.Author.Needs.{needs}
+use Rattle.wire.proofs.Basics.{_∙_, sym, ℕ, _≤_, _-_, List, length, length-drop, length-take, arith, needs}
 use Rattle.lmcp.specs.Limits.{maxMessage}
-use Rattle.lmcp.specs.Message.{rootOf}
-use Rattle.lmcp_check.proofs.Roots.{frame-within, wrong-frame, wrong-root}
+use Rattle.lmcp_check.proofs.Roots.{root, root-same, frame-within, wrong-frame, wrong-root}
 use Rattle.lmcp_check.proofs.check_message.Statement.{statement}
 use Rattle.lmcp_check.proofs.check_message.Tie as tie
-
--- the root, as the code takes it
-abbrev root : List ℕ → List ℕ
-root m = take (length m - 4 - 8) (drop 8 m)
-
-root-is : (m : List ℕ) → root m ≡ rootOf m
-root-is m = let e : length m - 4 - 8 ≡ length m - 12 = omega arith in ap (λ (n : ℕ). take n (drop 8 m)) e
 
 abbrev M : tie.Else1 → List ℕ
 M c = c .before .before .before .args .message .now
@@ -38,19 +25,16 @@ returns-2 c =
     let v = c .before in
     let e = v .before .before in
     let f = e .before in
-    wrong-root (M e) (f .frame-of .result) (f .frame-of .ensures) (e .if1 .left) (root (M e)) (root-is (M e)) (v .version-of .result) (v .version-of .ensures)
+    wrong-root (M e) (f .frame-of .result) (f .frame-of .ensures) (e .if1 .left) (root (M e)) (root-same (M e)) (v .version-of .result) (v .version-of .ensures)
     (c .check-root .result) (c .check-root .ensures)
 
 pub check-message-spec : {M : Type 1} → statement M
-check-message-spec =
-    tie.close
-    (tie.spec
+check-message-spec = tie.close (tie.spec
     (λ c κs. search needs)
     returns
     (λ c. omega (arith, within c .0))
     (λ c. omega (arith, within c .0))
     (λ c. let k : 8 ≤ length (M c) - 4 = omega (arith, within c .0) in k)
-    (λ c. search needs)
-    (λ c κs. search needs)
+    (λ c. search needs) (λ c κs. search needs)
     check-root-requires
     returns-2)

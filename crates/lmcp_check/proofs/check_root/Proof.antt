@@ -1,12 +1,8 @@
 -- `lmcp_check::check_root` meets its contract: a root that is none, a null, and then the walk.
-use mathlib.Core.Path.{_≡_, sym, _∙_}
-use mathlib.Core.List.{List}
-use Prim.Native.Nat.{ℕ}
-use native.Mathlib.Omega.{arith}
+use Rattle.wire.proofs.Basics.{_∙_, sym, _≡_, ℕ, List, arith, needs}
 use Rattle.wire.specs.Bytes.{be}
 use Rattle.lmcp.proofs.Widths.{be-one}
 use Rattle.lmcp_check.proofs.Roots.{empty-root, null-root, root-refused, root-left, root-good}
-use borrow.Author.Needs.{needs}
 use Rattle.lmcp_check.proofs.check_root.Statement.{statement}
 use Rattle.lmcp_check.proofs.check_root.Tie as tie
 
@@ -50,16 +46,11 @@ returns-5 c =
     root-good (Version w) (S w) (λ z. e .if2 .left (first w ∙ z)) (k .check-object .result) (k .check-object .ensures) (c .before .if3 .left) (c .if4 .left)
 
 pub check-root-spec : {M : Type 1} → statement M
-check-root-spec =
-    tie.close
-    (tie.spec
+check-root-spec = tie.close (tie.spec
     (λ c. let a = c .before .before .args in empty-root (a .version) (a .s .now) (c .if1 .taken))
-    (λ c. search needs)
-    (λ c κs. search needs)
+    (λ c. search needs) (λ c κs. search needs)
     returns-2
-    (λ c κs. search needs)
-    (λ c κs. search needs)
-    (λ c. search needs)
+    (λ c κs. search needs) (λ c κs. search needs) (λ c. search needs)
     returns-3
     returns-4
     returns-5)

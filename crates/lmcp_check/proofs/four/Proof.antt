@@ -1,7 +1,6 @@
 -- `lmcp_check::four` meets its contract.
-use native.Mathlib.Omega.{arith}
+use Rattle.wire.proofs.Basics.{arith, needs}
 use Rattle.wire.proofs.Numbers.{be-four}
-use borrow.Author.Needs.{needs}
 use Rattle.lmcp_check.proofs.four.Statement.{statement}
 use Rattle.lmcp_check.proofs.four.Tie as tie
 

@@ -1,17 +1,9 @@
 -- `lmcp_check::frame_of` meets its contract, in the order of the refusals.
-use mathlib.Core.Path.{_≡_, sym, ap, _∙_}
-use mathlib.Core.Bool.{true}
-use mathlib.Core.List.{List}
-use Prim.Native.Nat.{ℕ, _+_, _-_, _≤_}
-use native.Mathlib.Omega.{arith}
-use lib.ListN.{length, take, drop}
-use lib.Seq.{length-take-le}
+use Rattle.wire.proofs.Basics.{_∙_, sym, _≡_, ap, ℕ, _≤_, _+_, _-_, List, true, length, drop, take, length-take-le, not-false, not-true, arith, needs}
 use Rattle.wire.specs.Bytes.{be}
 use Rattle.wire.specs.Same.{same}
 use Rattle.lmcp.specs.Limits.{maxMessage, magic}
 use Rattle.lmcp_check.proofs.Frames.{too-short, not-magic, too-long, not-length, sum-none, sum-right, sum-wrong}
-use borrow.Author.Tests.{not-true, not-false}
-use borrow.Author.Needs.{needs}
 use Rattle.lmcp_check.proofs.frame_of.Statement.{statement}
 use Rattle.lmcp_check.proofs.frame_of.Tie as tie
 
@@ -99,22 +91,16 @@ returns-7 c =
     (λ q. c .if6 .left (b .before .number2 .ensures .value ∙ q ∙ sym (at-checksum .checksum .ensures)))
 
 pub frame-of-spec : {M : Type 1} → statement M
-frame-of-spec =
-    tie.close
-    (tie.spec
+frame-of-spec = tie.close (tie.spec
     (λ c. too-short _ (c .if1 .taken))
-    (λ c. search needs)
-    (λ c κs. search needs)
+    (λ c. search needs) (λ c κs. search needs)
     returns-2
     (λ c. let e = c .before in too-long (M (at2 e)) (long (at2 e)) (known e) (c .if3 .taken))
-    (λ c κs. search needs)
-    (λ c. search needs)
+    (λ c κs. search needs) (λ c. search needs)
     returns-4
-    (λ c. search needs)
-    (λ c κs. search needs)
+    (λ c. search needs) (λ c κs. search needs)
     returns-5
     slice-aggregate-checksum
-    (λ c κs. search needs)
-    (λ c. search needs)
+    (λ c κs. search needs) (λ c. search needs)
     returns-6
     returns-7)

@@ -1,15 +1,8 @@
 -- `lmcp_check::head_of` meets its contract.
-use mathlib.Core.Path.{_≡_, refl, sym, ap, _∙_}
-use mathlib.Core.List.{List, [], _∷_}
-use Prim.Native.Nat.{ℕ, _+_, _-_, _≤_, _<_}
-use native.Mathlib.Omega.{arith}
-use lib.IntN.{ℤ, pos}
-use lib.ListN.{length, drop, length-drop}
-use lib.Seq.{drop-drop}
+use Rattle.wire.proofs.Basics.{_∙_, sym, _≡_, ap, refl, ℕ, _≤_, _+_, _<_, _-_, List, [], _∷_, length, drop, length-drop, drop-drop, ℤ, pos, arith, needs}
 use Rattle.wire.specs.Bytes.{be}
 use Rattle.lmcp.specs.Table.{Table, pitsurv}
 use Rattle.lmcp.specs.Read.{known}
-use borrow.Author.Needs.{needs}
 use Rattle.lmcp_check.proofs.head_of.Statement.{statement}
 use Rattle.lmcp_check.proofs.head_of.Tie as tie
 use Rattle.lmcp.specs.Run.{Tag, tag, bad}
@@ -121,26 +114,18 @@ returns-7 c =
     (sym (c .if6 .left) ∙ c .before .known-at .ensures ∙ ap (known (T s) (a .declared)) (sym (drop-drop 1 (a .at) (a .s .now)))))
 
 pub head-of-spec : {M : Type 1} → statement M
-head-of-spec =
-    tie.close
-    (tie.spec
-    (λ c. search needs)
-    (λ c. search needs)
+head-of-spec = tie.close (tie.spec
+    (λ c. search needs) (λ c. search needs)
     returns
-    (λ c. search needs)
-    (λ c κs. search needs)
+    (λ c. search needs) (λ c κs. search needs)
     returns-2
     (λ c. search needs)
     returns-3
     (λ c. search needs)
     returns-4
-    (λ c. search needs)
-    (λ c. search needs)
+    (λ c. search needs) (λ c. search needs)
     returns-5
-    (λ c. search needs)
-    (λ c κs. search needs)
-    (λ c. search needs)
-    (λ c κs. search needs)
+    (λ c. search needs) (λ c κs. search needs) (λ c. search needs) (λ c κs. search needs)
     returns-6
     (λ c. search needs)
     returns-7)

@@ -1,16 +1,10 @@
 -- `lmcp_check::known_at` meets its contract.
-use mathlib.Core.Path.{_≡_, sym, ap, _∙_}
-use mathlib.Core.List.{List}
-use Prim.Native.Nat.{ℕ, _+_, _<_}
-use native.Mathlib.Omega.{arith}
-use lib.ListN.{drop}
-use lib.Seq.{drop-drop}
+use Rattle.wire.proofs.Basics.{_∙_, sym, _≡_, ap, ℕ, _+_, _<_, List, drop, drop-drop, arith, needs}
 use Rattle.wire.specs.Bytes.{be}
 use Rattle.lmcp.specs.Table.{pitsurv}
 use Rattle.lmcp.specs.Read.{typed}
 use Rattle.lmcp.proofs.Widths.{be-eight}
 use Rattle.lmcp_check.proofs.ReadCases.{not-series, not-version, known-typed}
-use borrow.Author.Needs.{needs}
 use Rattle.lmcp_check.proofs.known_at.Statement.{statement}
 use Rattle.lmcp_check.proofs.known_at.Tie as tie
 
@@ -65,18 +59,11 @@ returns-4 c =
     c .typed-in .ensures ∙ ap (typed (pitsurv (a .version)) (a .declared)) n ∙ known-typed (pitsurv (a .version)) (a .declared) b s v
 
 pub known-at-spec : {M : Type 1} → statement M
-known-at-spec =
-    tie.close
-    (tie.spec
-    (λ c κs. search needs)
-    (λ c. search needs)
-    (λ c κs. search needs)
+known-at-spec = tie.close (tie.spec
+    (λ c κs. search needs) (λ c. search needs) (λ c κs. search needs)
     returns
     returns-2
-    (λ c. search needs)
-    (λ c κs. search needs)
+    (λ c. search needs) (λ c κs. search needs)
     returns-3
-    (λ c. search needs)
-    (λ c κs. search needs)
-    (λ c κs. search needs)
+    (λ c. search needs) (λ c κs. search needs) (λ c κs. search needs)
     returns-4)

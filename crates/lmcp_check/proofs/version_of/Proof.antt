@@ -1,9 +1,5 @@
 -- `lmcp_check::version_of` meets its contract.
-use mathlib.Core.Path.{sym, ap, _∙_}
-use mathlib.Core.Bool.{Bool}
-use borrow.Author.Tests.{eq-eqb, ne-eqb}
-use borrow.Author.Needs.{needs}
-use Prim.Native.Nat.{ℕ}
+use Rattle.wire.proofs.Basics.{_∙_, sym, ap, ℕ, Bool, eq-eqb, ne-eqb, needs}
 use Rattle.wire.specs.Choice.{pick}
 use Rattle.lmcp_check.proofs.version_of.Statement.{statement}
 use Rattle.lmcp_check.proofs.version_of.Tie as tie

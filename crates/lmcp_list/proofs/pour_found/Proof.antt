@@ -1,8 +1,7 @@
 -- What was found as text, by its cases. Assumes nothing.
-use mathlib.Core.Path.{sym, ap}
+use Rattle.wire.proofs.Basics.{sym, ap, needs}
 use Rattle.output.proofs.Sending.{pours-then, pours-is}
 use Rattle.lmcp_list.specs.Inside.{foundText}
-use borrow.Author.Needs.{needs}
 use Rattle.lmcp_list.proofs.pour_found.Statement.{statement}
 use Rattle.lmcp_list.proofs.pour_found.Tie as tie
 
@@ -20,18 +19,9 @@ returns-2 c =
     pours-is (p .pour-counted .ensures) (ap (foundText (f .before .before .before .args .list .now)) (sym (f .found2 .given .1)))
 
 pub pour-found-spec : {M : Type 1} → statement M
-pour-found-spec =
-    tie.close
-    (tie.spec
-    (λ c. search needs)
-    (λ c. search needs)
-    (λ c κs. search needs)
-    (λ c κs. search needs)
-    (λ c. search needs)
-    (λ c. search needs)
-    (λ c. search needs)
-    (λ c κs. search needs)
-    (λ c. search needs)
+pour-found-spec = tie.close (tie.spec
+    (λ c. search needs) (λ c. search needs) (λ c κs. search needs) (λ c κs. search needs) (λ c. search needs) (λ c. search needs) (λ c. search needs)
+    (λ c κs. search needs) (λ c. search needs)
     returns
     (λ c. search needs)
     returns-2)

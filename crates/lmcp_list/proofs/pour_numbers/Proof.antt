@@ -1,9 +1,5 @@
 -- Numbers, each after a space. The loop's invariant: the i numbers passed went out. Assumes nothing.
-use mathlib.Core.Path.{_≡_, refl, ap, _∙_}
-use mathlib.Core.List.{[], _∷_, _++_}
-use Prim.Native.Nat.{_-_, _≤_}
-use lib.IntN.{ℤ, pos}
-use lib.ListN.{length, take, getD}
+use Rattle.wire.proofs.Basics.{_∙_, _≡_, ap, refl, _≤_, _-_, [], _∷_, _++_, length, getD, take, ℤ, pos, arith, needs}
 use mir.Syntax.{w64}
 use mir.ValLaws.{toZ-ofZ}
 use Rattle.text.specs.Text.{signedDecimal}
@@ -11,8 +7,6 @@ use Rattle.output.specs.Output.{Pours}
 use Rattle.output.proofs.Sending.{pours-none, pours-then, pours-is}
 use Rattle.lmcp_list.specs.Lines.{spaced}
 use Rattle.lmcp_list.proofs.Spaced.{spaced-turn, spaced-least}
-use borrow.Author.Needs.{needs}
-use native.Mathlib.Omega.{arith}
 use Rattle.lmcp_list.proofs.pour_numbers.Statement.{statement}
 use Rattle.lmcp_list.proofs.pour_numbers.Tie as tie
 
@@ -47,20 +41,12 @@ returns c =
     pours-is (l .loop .inv .2) (spaced-least (a .list .now) (a .n) (l .loop .i) (omega (arith, l .before .least .ensures)))
 
 pub pour-numbers-spec : {M : Type 1} → statement M
-pour-numbers-spec =
-    tie.close
-    (tie.spec
+pour-numbers-spec = tie.close (tie.spec
     Inv-loop
     μ-loop
     (λ c κs. search needs)
     loop-holds
-    (λ c. search needs)
-    (λ c κs. search needs)
-    (λ c. search needs)
-    (λ c. search needs)
-    (λ c κs. search needs)
-    (λ c. search needs)
-    (λ c. search needs)
+    (λ c. search needs) (λ c κs. search needs) (λ c. search needs) (λ c. search needs) (λ c κs. search needs) (λ c. search needs) (λ c. search needs)
     loop-again
     (λ c. search needs)
     returns)

@@ -1,13 +1,6 @@
 -- The walk that writes, a cycle of four functions, over what is in order. The measure falls with the depth that is left and, at one depth, from
 -- fields to a row, objects and an object.
-use mathlib.Core.Path.{_≡_, refl, ap, _∙_}
-use mathlib.Core.List.{List}
-use Prim.Native.Nat.{ℕ, _+_, _-_, _*_, _≤_, _<_}
-use native.Mathlib.Omega.{arith}
-use lib.IntN.{ℤ, pos}
-use lib.ListN.{length, drop, getD, set}
-use lib.Seq.{slice}
-use borrow.Author.Needs.{needs}
+use Rattle.wire.proofs.Basics.{_∙_, _≡_, ap, refl, ℕ, _≤_, _+_, _<_, _-_, _*_, List, length, drop, getD, set, slice, ℤ, pos, arith, needs}
 use Rattle.wire.specs.Bytes.{be}
 use Rattle.lmcp.specs.declared.Row.{Row}
 use Rattle.lmcp.specs.declared.Went.the-variants.{To}
@@ -316,9 +309,6 @@ turn-ahead t c =
 abbrev turn-object : (t : ℕ) (c : Tested t) → Object (c .before .before .before .args .version) (c .before .before .before .args .deep) (c .before .before .before .args .declared) (c .before .before .before .args .s .now) (c .before .loop .a) (c .before .loop .b)
 turn-object t c = record { within = c .before .loop .inv .1 .1 .0 .within; ahead = ahead-first _ _ (turn-ahead t c) }
 
-put-objects-shared-slice-read-if1 : (t : ℕ) → put-objects-lts.Need-shared-slice-read-if1 (put-objects-claims t) (put-objects-at t) put-objects.Post put-objects-Inv-loop put-objects-μ-loop
-put-objects-shared-slice-read-if1 t c = first-inside (turn-object t (c .before))
-
 put-objects-add-a : (t : ℕ) → put-objects-lts.Need-add-a (put-objects-claims t) (put-objects-at t) put-objects.Post put-objects-Inv-loop put-objects-μ-loop
 put-objects-add-a t c =
     let at-if = c .before .before .before in
@@ -606,7 +596,7 @@ pub +put-fields+put-object+put-objects+put-row-spec : {M : Type 1} → statement
     put-objects-Inv-loop
     put-objects-μ-loop
     (put-objects-loop-holds t)
-    (put-objects-shared-slice-read-if1 t)
+    (λ c. first-inside (turn-object t (c .before)))
     (λ c κs. search needs)
     (put-objects-add-a t)
     (put-objects-add-b t)

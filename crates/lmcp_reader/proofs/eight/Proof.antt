@@ -1,7 +1,6 @@
 -- `lmcp_reader::eight` meets its contract.
-use native.Mathlib.Omega.{arith}
+use Rattle.wire.proofs.Basics.{arith, needs}
 use Rattle.lmcp.proofs.Widths.{be-eight}
-use borrow.Author.Needs.{needs}
 use Rattle.lmcp_reader.proofs.eight.Statement.{statement}
 use Rattle.lmcp_reader.proofs.eight.Tie as tie
 

@@ -1,12 +1,5 @@
 -- `lmcp_reader::has_room` meets its contract: a list longer than the root, or the walk over no list at all, of which nothing is left.
-use mathlib.Core.Path.{_≡_, refl, ap, sym}
-use mathlib.Core.List.{List, [], _++_}
-use native.Mathlib.Omega.{arith}
-use lib.Dec.{leb}
-use lib.IntN.{ℤ}
-use lib.ListN.{length}
-use lib.Seq.{length-take-le}
-use borrow.Author.Needs.{needs}
+use Rattle.wire.proofs.Basics.{sym, _≡_, ap, refl, List, [], _++_, length, length-take-le, leb, ℤ, arith, needs}
 use Rattle.lmcp.proofs.WalkPlaces.{empty}
 use Rattle.lmcp_reader.proofs.Roots.{long-list, counted}
 use Rattle.lmcp_reader.proofs.has_room.Statement.{statement}
@@ -26,9 +19,7 @@ returns-2 c =
     (ap (λ (l : List ℤ). l ++ list) nil, counted (a .version) (a .s .now) (length list) (w .put-object .result .p) n (w .put-object .ensures) (leb n (length (o ++ list))) (ap (λ (l : List ℤ). leb n (length (l ++ list))) nil))
 
 pub has-room-spec : {M : Type 1} → statement M
-has-room-spec =
-    tie.close
-    (tie.spec
+has-room-spec = tie.close (tie.spec
     returns
     (λ c. search needs)
     (λ c. let l = c .before .before .before .args .list .now in sym (length-take-le _ l (omega arith)))

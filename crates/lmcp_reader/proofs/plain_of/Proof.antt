@@ -1,7 +1,7 @@
 -- `lmcp_reader::plain_of` meets its contract.
 use mir.Syntax.{w64}
 use mir.ValLaws.{toZ-pos}
-use borrow.Author.Needs.{needs}
+use Rattle.wire.proofs.Basics.{needs}
 use Rattle.lmcp_reader.proofs.plain_of.Statement.{statement}
 use Rattle.lmcp_reader.proofs.plain_of.Tie as tie
 

@@ -1,7 +1,5 @@
 -- `lmcp_reader::put` meets its contract: past the end nothing is written.
-use mathlib.Core.Path.{sym}
-use lib.Seq.{set-out}
-use borrow.Author.Needs.{needs}
+use Rattle.wire.proofs.Basics.{sym, set-out, needs}
 use Rattle.lmcp_reader.proofs.put.Statement.{statement}
 use Rattle.lmcp_reader.proofs.put.Tie as tie
 

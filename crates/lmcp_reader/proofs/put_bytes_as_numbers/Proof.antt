@@ -1,12 +1,5 @@
 -- `lmcp_reader::put_bytes_as_numbers` meets its contract.
-use mathlib.Core.Path.{_≡_, refl, sym, ap, _∙_}
-use mathlib.Core.List.{List}
-use Prim.Native.Nat.{ℕ, suc, _+_, _-_, _≤_}
-use native.Mathlib.Omega.{arith}
-use lib.IntN.{ℤ, pos}
-use lib.ListN.{length, drop, set}
-use lib.Seq.{sets, drop-drop}
-use borrow.Author.Needs.{needs}
+use Rattle.wire.proofs.Basics.{_∙_, sym, _≡_, ap, refl, ℕ, _≤_, _+_, _-_, suc, List, length, drop, set, drop-drop, sets, ℤ, pos, arith, needs}
 use Rattle.wire.specs.Bytes.{be}
 use Rattle.lmcp_reader.proofs.NumberBits.{through}
 use Rattle.lmcp_reader.specs.InsidePuts.{bytesAsNumbers}
@@ -35,9 +28,6 @@ loop-holds c =
             ∙ ap (λ (i : ℕ). sets l (a .q) (bytesAsNumbers (a .n) (drop i (a .s .now)))) zp,
       ),
     )
-
-add-put : tie.Need-add-put Inv-loop μ-loop
-add-put c = omega (arith, c .before .loop-test .taken, c .before .before .before .before .pre .0 .1)
 
 add-wide : tie.Need-add-wide Inv-loop μ-loop
 add-wide c =
@@ -85,20 +75,14 @@ returns c =
     sym (ap (λ (y : ℕ). sets (x .list) (a .q + x .k) (bytesAsNumbers y (drop (a .p + x .k) (a .s .now)))) m) ∙ x .inv .1 .1
 
 pub put-bytes-as-numbers-spec : {M : Type 1} → statement M
-put-bytes-as-numbers-spec =
-    tie.close
-    (tie.spec
+put-bytes-as-numbers-spec = tie.close (tie.spec
     Inv-loop
     μ-loop
     loop-holds
-    add-put
+    (λ c. omega (arith, c .before .loop-test .taken, c .before .before .before .before .pre .0 .1))
     add-wide
     shared-slice-read-wide
-    (λ c κs. search needs)
-    (λ c κs. search needs)
-    (λ c κs. search needs)
-    (λ c. search needs)
-    (λ c. search needs)
+    (λ c κs. search needs) (λ c κs. search needs) (λ c κs. search needs) (λ c. search needs) (λ c. search needs)
     loop-again
     (λ c. search needs)
     returns)

@@ -1,11 +1,5 @@
 -- `lmcp_reader::put_list` meets its contract: no room, or the version and the root's numbers behind it.
-use mathlib.Core.Path.{sym, ap, _∙_, subst}
-use mathlib.Core.List.{List, [], _∷_}
-use native.Mathlib.Omega.{arith}
-use lib.IntN.{ℤ, pos}
-use lib.ListN.{set}
-use borrow.Author.Needs.{needs}
-use borrow.Author.Tests.{not-true, not-false}
+use Rattle.wire.proofs.Basics.{_∙_, sym, ap, subst, List, [], _∷_, set, ℤ, pos, not-false, not-true, arith, needs}
 use Rattle.lmcp.specs.declared.Found.the-variants.{Refused}
 use Rattle.lmcp.specs.Run.{prepend, whole}
 use Rattle.lmcp.specs.Message.{ReadTo}
@@ -50,15 +44,12 @@ returns-2 c =
     list-good (a .version) (a .s .now) (start .pre .1 .1) (a .list .now) (h .result) (h .ensures .1) (not-false _ (e .if1 .left)) (put .put .last .0) first (w .result .p) (w .result .q) _ (w .ensures)
 
 pub put-list-spec : {M : Type 1} → statement M
-put-list-spec =
-    tie.close
-    (tie.spec
+put-list-spec = tie.close (tie.spec
     (λ c κs. search needs)
     has-room-requires
     (λ c. search needs)
     returns
-    (λ c κs. search needs)
-    (λ c κs. search needs)
+    (λ c κs. search needs) (λ c κs. search needs)
     put-object-requires
     (λ c. search needs)
     returns-2)

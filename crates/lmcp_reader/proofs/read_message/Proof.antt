@@ -1,29 +1,14 @@
 -- `lmcp_reader::read_message` meets its contract: what is wrong with the message, or the numbers of its root.
-use mathlib.Core.Path.{_≡_, sym, ap, _∙_}
-use mathlib.Core.Bool.{Bool, true, false}
-use mathlib.Core.List.{List}
-use Prim.Native.Nat.{ℕ, _-_, _^_, _≤_, _<_}
-use native.Mathlib.Omega.{arith}
-use lib.Dec.{eqb}
-use lib.ListN.{length, take, drop, length-take, length-drop}
-use borrow.Author.Needs.{needs}
+use Rattle.wire.proofs.Basics.{_∙_, sym, _≡_, ℕ, _≤_, _<_, _-_, _^_, List, true, false, Bool, length, drop, length-drop, length-take, eqb, arith, needs}
 use Rattle.wire.specs.Choice.{pick}
 use Rattle.wire.specs.Bytes.{be}
 use Rattle.lmcp.specs.Limits.{maxMessage}
-use Rattle.lmcp.specs.Message.{rootOf}
 use Rattle.lmcp.specs.Lists.{versionOf, readList}
 use Rattle.lmcp_check.specs.Refusal.{refusalOf}
-use Rattle.lmcp_check.proofs.Roots.{frame-within}
+use Rattle.lmcp_check.proofs.Roots.{root, root-same, frame-within}
 use Rattle.lmcp_reader.proofs.Roots.{answer-refused, good, good-ahead, answer-good}
 use Rattle.lmcp_reader.proofs.read_message.Statement.{statement}
 use Rattle.lmcp_reader.proofs.read_message.Tie as tie
-
--- the root, as the code takes it
-abbrev root : List ℕ → List ℕ
-root m = take (length m - 4 - 8) (drop 8 m)
-
-root-is : (m : List ℕ) → root m ≡ rootOf m
-root-is m = let e : length m - 4 - 8 ≡ length m - 12 = omega arith in ap (λ (n : ℕ). take n (drop 8 m)) e
 
 -- a version is 1 or 2
 version-small : (b : List ℕ) {v : ℕ} → v ≡ versionOf b → v < 2 ^ 63
@@ -54,7 +39,7 @@ put-list-requires c κs =
     let v = c .before .version-of in
     let e = c .before .before .before in
     let n : length (root (M e)) ≤ length (M e) = rw (length-take, length-drop) (omega arith) in
-    (version-small (root (M e)) (v .ensures), (omega (arith, n, within e .1), good-ahead (M e) (fine e) (root (M e)) (root-is (M e)) (v .result) (v .ensures)))
+    (version-small (root (M e)) (v .ensures), (omega (arith, n, within e .1), good-ahead (M e) (fine e) (root (M e)) (root-same (M e)) (v .result) (v .ensures)))
 
 returns-2 : tie.Need-returns-2
 returns-2 c =
@@ -62,19 +47,16 @@ returns-2 c =
     let v = p .before .before in
     let e = v .before .before in
     let a = e .before .before .before .args in
-    answer-good (M e) (fine e) (root (M e)) (root-is (M e)) (v .version-of .result) (v .version-of .ensures) (a .list .now) (p .put-list .result) (p .put-list .last .1 .1 .0) (p .put-list .ensures)
+    answer-good (M e) (fine e) (root (M e)) (root-same (M e)) (v .version-of .result) (v .version-of .ensures) (a .list .now) (p .put-list .result) (p .put-list .last .1 .1 .0) (p .put-list .ensures)
 
 pub read-message-spec : {M : Type 1} → statement M
-read-message-spec =
-    tie.close
-    (tie.spec
+read-message-spec = tie.close (tie.spec
     (λ c κs. search needs)
     returns
     (λ c. omega (arith, within c .0))
     (λ c. omega (arith, within c .0))
     (λ c. let k : 8 ≤ length (M c) - 4 = omega (arith, within c .0) in k)
-    (λ c. search needs)
-    (λ c κs. search needs)
+    (λ c. search needs) (λ c κs. search needs)
     put-list-requires
     (λ c. search needs)
     returns-2)

@@ -1,6 +1,5 @@
 -- `lmcp_reader::signed_of` meets its contract.
-use mathlib.Core.Path.{_∙_}
-use native.Mathlib.Omega.{arith}
+use Rattle.wire.proofs.Basics.{_∙_, arith}
 use mir.Syntax.{w64}
 use mir.ValLaws.{toZ-ofZ}
 use Rattle.lmcp_reader.proofs.NumberBits.{half-small, two-halves, low, high, high-fits}

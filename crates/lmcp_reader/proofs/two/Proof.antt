@@ -1,7 +1,6 @@
 -- `lmcp_reader::two` meets its contract.
-use native.Mathlib.Omega.{arith}
+use Rattle.wire.proofs.Basics.{arith, needs}
 use Rattle.wire.proofs.Numbers.{be-two}
-use borrow.Author.Needs.{needs}
 use Rattle.lmcp_reader.proofs.two.Statement.{statement}
 use Rattle.lmcp_reader.proofs.two.Tie as tie
 
@@ -12,14 +11,6 @@ returns c =
     (be-two (a .s .now) (a .at) _ _ (w .wide .ensures .0) (c .wide2 .ensures .0), omega (arith, w .wide .ensures .1, c .wide2 .ensures .1))
 
 pub two-spec : {M : Type 1} → statement M
-two-spec =
-    tie.close
-    (tie.spec
-    (λ c. search needs)
-    (λ c κs. search needs)
-    (λ c. search needs)
-    (λ c. search needs)
-    (λ c. search needs)
-    (λ c κs. search needs)
-    (λ c. search needs)
+two-spec = tie.close (tie.spec
+    (λ c. search needs) (λ c κs. search needs) (λ c. search needs) (λ c. search needs) (λ c. search needs) (λ c κs. search needs) (λ c. search needs)
     returns)

@@ -1,18 +1,11 @@
 -- `lmcp_reader::value_of` meets its contract.
-use mathlib.Core.Path.{_≡_, sym, ap, _∙_}
-use mathlib.Core.List.{List}
-use Prim.Native.Nat.{ℕ}
-use native.Mathlib.Omega.{arith}
-use lib.IntN.{pos}
-use lib.ListN.{drop}
-use borrow.Author.Tests.{ne-eqb}
+use Rattle.wire.proofs.Basics.{_∙_, sym, _≡_, ap, ℕ, List, drop, pos, ne-eqb, arith, needs}
 use Rattle.wire.specs.Bytes.{be}
 use Rattle.wire.specs.Signed.{signed}
 use Rattle.lmcp_reader.proofs.NumberBits.{through}
 use Rattle.lmcp_reader.specs.InsidePuts.{coded}
 use Rattle.lmcp.specs.InsidePacked.{widthOf}
 use Rattle.lmcp.proofs.Widths.{be-one}
-use borrow.Author.Needs.{needs}
 use Rattle.lmcp_reader.proofs.value_of.Statement.{statement}
 use Rattle.lmcp_reader.proofs.value_of.Tie as tie
 
@@ -65,12 +58,9 @@ returns-6 c =
     (coded-last (a .code) (drop (a .p) (a .s .now)) (i5 .before .before .before .before .if1 .left) (i5 .before .before .before .if2 .left) (i5 .before .before .if3 .left) (i5 .before .if4 .left) (i5 .if5 .left))
 
 pub value-of-spec : {M : Type 1} → statement M
-value-of-spec =
-    tie.close
-    (tie.spec
+value-of-spec = tie.close (tie.spec
     (λ c. omega (arith, ap widthOf (c .before .if1 .taken), c .before .before .before .pre))
-    (λ c κs. search needs)
-    (λ c κs. search needs)
+    (λ c κs. search needs) (λ c κs. search needs)
     returns
     (λ c κs. omega (arith, ap widthOf (c .if2 .taken), c .before .before .before .pre))
     (λ c κs. search needs)

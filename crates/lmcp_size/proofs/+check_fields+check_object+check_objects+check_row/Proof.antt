@@ -1,12 +1,6 @@
 -- The walk that only checks, a cycle of four functions: each step is one of `lmcp`'s, over no output. The measure falls with the depth that is left and,
 -- at one depth, from fields to a row, objects and an object.
-use mathlib.Core.Path.{_≡_, refl, ap, sym, _∙_}
-use mathlib.Core.List.{List, []}
-use Prim.Native.Nat.{ℕ, _+_, _-_, _*_, _≤_, _<_}
-use native.Mathlib.Omega.{arith}
-use lib.ListN.{length, drop, getD}
-use lib.Seq.{slice}
-use borrow.Author.Needs.{needs}
+use Rattle.wire.proofs.Basics.{_∙_, sym, _≡_, ap, refl, ℕ, _≤_, _+_, _<_, _-_, _*_, List, [], length, drop, getD, slice, arith, needs}
 use Rattle.lmcp.specs.declared.Row.{Row}
 use Rattle.lmcp.specs.declared.Went.the-variants.{To}
 use Rattle.lmcp.specs.Run.{after, repeat}

@@ -1,11 +1,8 @@
 -- `lmcp_size::below_of` meets its contract.
-use mathlib.Core.Path.{_≡_, ap, _∙_, subst}
-use mathlib.Core.Bool.{true, false}
-use lib.IntN.{ℤ, pos}
+use Rattle.wire.proofs.Basics.{_∙_, _≡_, ap, subst, true, false, ℤ, pos, needs}
 use lib.Signed.{mag, ltZ}
 use Rattle.lmcp.proofs.Sizes.{through}
 use Rattle.lmcp_size.proofs.WriteCases.{negative-below, positive-below}
-use borrow.Author.Needs.{needs}
 use Rattle.lmcp_size.proofs.below_of.Statement.{statement}
 use Rattle.lmcp_size.proofs.below_of.Tie as tie
 

@@ -1,12 +1,5 @@
 -- `lmcp_size::check_root` meets its contract: an empty list, a null root, an object.
-use mathlib.Core.Path.{_≡_, sym, ap, _∙_}
-use mathlib.Core.Bool.{true, false}
-use mathlib.Core.List.{[]}
-use Prim.Native.Nat.{_+_}
-use native.Mathlib.Omega.{arith}
-use lib.IntN.{ℤ, pos}
-use lib.ListN.{getD, drop}
-use borrow.Author.Needs.{needs}
+use Rattle.wire.proofs.Basics.{_∙_, sym, _≡_, ap, _+_, [], true, false, drop, getD, ℤ, pos, arith, needs}
 use Rattle.lmcp.specs.Limits.{deepest}
 use Rattle.lmcp.specs.Table.{pitsurv}
 use Rattle.lmcp.specs.Value.{below}
@@ -54,12 +47,9 @@ returns-3 c =
     same-run Few15 (a .list .now) [] 8 (c .check-object .result) [] (root-object (writing T) T (a .list .now) (root-some T deepest 0 (a .list .now) (drop (0 + 1) (a .list .now)) z e f)) (c .check-object .ensures)
 
 pub check-root-spec : {M : Type 1} → statement M
-check-root-spec =
-    tie.close
-    (tie.spec
+check-root-spec = tie.close (tie.spec
     returns
-    (λ c. search needs)
-    (λ c κs. search needs)
+    (λ c. search needs) (λ c κs. search needs)
     returns-2
     (λ c κs. search needs)
     (λ c κs. record { place = omega arith; inside = omega arith; packed = c .before .table .ensures })

@@ -1,11 +1,5 @@
 -- `lmcp_size::check_value` meets its contract.
-use mathlib.Core.Path.{_≡_, sym, ap, _∙_}
-use mathlib.Core.Bool.{true, false}
-use Prim.Native.Nat.{ℕ, _+_, _*_}
-use native.Mathlib.Omega.{arith}
-use lib.IntN.{ℤ, pos}
-use lib.ListN.{getD, drop}
-use borrow.Author.Needs.{needs}
+use Rattle.wire.proofs.Basics.{_∙_, sym, _≡_, ap, ℕ, _+_, _*_, true, false, drop, getD, ℤ, pos, arith, needs}
 use Rattle.wire.specs.Bytes.{bytes}
 use Rattle.wire.specs.Signed.{unsigned}
 use Rattle.wire.proofs.Numbers.{length-bytes}
@@ -51,14 +45,9 @@ returns-3 c =
     value-bad (a .kind) (a .w) (drop (a .at) (a .list .now)) (drop (a .at + 1) (a .list .now)) z e f (c .denial-of .result) (c .denial-of .ensures)
 
 pub check-value-spec : {M : Type 1} → statement M
-check-value-spec =
-    tie.close
-    (tie.spec
+check-value-spec = tie.close (tie.spec
     returns
-    (λ c. search needs)
-    (λ c. search needs)
-    (λ c κs. search needs)
-    (λ c. search needs)
+    (λ c. search needs) (λ c. search needs) (λ c κs. search needs) (λ c. search needs)
     (λ c. let start = c .before .before .before .before in record { fits = omega (arith, start .pre .0 .0, wide-some (start .pre .1 .wide) .1, start .pre .0 .1, start .good .0 .1) })
     returns-2
     (λ c κs. search needs)

@@ -1,12 +1,9 @@
 -- `lmcp_size::check_values` meets its contract.
-use Prim.Native.Nat.{_-_, _≤_}
-use lib.ListN.{drop}
-use borrow.Author.Needs.{needs}
+use Rattle.wire.proofs.Basics.{_≤_, _-_, [], drop, needs}
 use Rattle.lmcp.specs.Run.{repeat}
 use Rattle.lmcp.specs.Write.{writeValue}
 use Rattle.lmcp.specs.InsideEnds.{begun, Sofar, Few15}
 use Rattle.lmcp.proofs.WalkPlaces.{begins, repeat-all, items-turn, items-stop, items-end}
-use mathlib.Core.List.{[]}
 use Rattle.lmcp_size.proofs.check_values.Statement.{statement}
 use Rattle.lmcp_size.proofs.check_values.Tie as tie
 
@@ -52,17 +49,13 @@ returns-2 c =
     items-end Few15 (writeValue (a .kind) (a .w)) (a .n) (x .k) (x .inv .1) (c .loop-test .left)
 
 pub check-values-spec : {M : Type 1} → statement M
-check-values-spec =
-    tie.close
-    (tie.spec
+check-values-spec = tie.close (tie.spec
     Inv-loop
     μ-loop
     loop-holds
     check-value-requires
     (λ c. search needs)
     returns
-    (λ c. search needs)
-    (λ c. search needs)
-    (λ c. search needs)
+    (λ c. search needs) (λ c. search needs) (λ c. search needs)
     loop-again
     returns-2)

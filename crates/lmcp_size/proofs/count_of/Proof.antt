@@ -1,11 +1,6 @@
 -- `lmcp_size::count_of` meets its contract.
-use mathlib.Core.Path.{sym, ap, _∙_}
-use Prim.Native.Nat.{ℕ, _+_}
-use native.Mathlib.Omega.{arith}
-use lib.IntN.{ℤ, pos}
+use Rattle.wire.proofs.Basics.{_∙_, sym, ap, ℕ, _+_, drop, getD, ℤ, pos, arith, needs}
 use lib.Signed.{mag}
-use lib.ListN.{getD, drop}
-use borrow.Author.Needs.{needs}
 use Rattle.wire.specs.Bytes.{bytes}
 use Rattle.wire.proofs.Numbers.{length-bytes}
 use Rattle.lmcp.specs.Value.{below}
@@ -53,17 +48,9 @@ returns-3 c =
     count-bad (a .w) (drop (a .at) (a .list .now)) (drop (a .at + 1) (a .list .now)) z e (at-values-of .values-of .result) (at-values-of .values-of .ensures) f
 
 pub count-of-spec : {M : Type 1} → statement M
-count-of-spec =
-    tie.close
-    (tie.spec
+count-of-spec = tie.close (tie.spec
     returns
-    (λ c. search needs)
-    (λ c. search needs)
-    (λ c. search needs)
-    (λ c κs. search needs)
-    (λ c κs. search needs)
-    (λ c κs. search needs)
-    (λ c. search needs)
+    (λ c. search needs) (λ c. search needs) (λ c. search needs) (λ c κs. search needs) (λ c κs. search needs) (λ c κs. search needs) (λ c. search needs)
     (λ c. search needs)
     returns-2
     returns-3)

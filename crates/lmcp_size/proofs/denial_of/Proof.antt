@@ -1,6 +1,6 @@
 -- `lmcp_size::denial_of` meets its contract.
 use Rattle.lmcp_size.proofs.WriteCases.{denial-char, denial-other}
-use borrow.Author.Needs.{needs}
+use Rattle.wire.proofs.Basics.{needs}
 use Rattle.lmcp_size.proofs.denial_of.Statement.{statement}
 use Rattle.lmcp_size.proofs.denial_of.Tie as tie
 

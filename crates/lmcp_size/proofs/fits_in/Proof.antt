@@ -1,10 +1,9 @@
 -- `lmcp_size::fits_in` meets its contract.
-use mathlib.Core.Path.{ap, _∙_}
+use Rattle.wire.proofs.Basics.{_∙_, ap, needs}
 use lib.Signed.{mag}
 use Rattle.lmcp.specs.Value.{below}
 use Rattle.lmcp.proofs.Sizes.{through}
 use Rattle.lmcp_size.proofs.WriteCases.{fits-signed, fits-plain}
-use borrow.Author.Needs.{needs}
 use Rattle.lmcp_size.proofs.fits_in.Statement.{statement}
 use Rattle.lmcp_size.proofs.fits_in.Tie as tie
 
@@ -23,12 +22,8 @@ returns-2 c =
     c .below-of .ensures ∙ ap (below (at-values-of .values-of .result)) (through (start .args .z) (start .fits .z)) ∙ fits-plain (start .args .kind) (start .args .w) (start .args .z) (at-values-of .values-of .result) (at-if1 .if1 .left) (at-values-of .values-of .ensures)
 
 pub fits-in-spec : {M : Type 1} → statement M
-fits-in-spec =
-    tie.close
-    (tie.spec
-    (λ c. search needs)
-    (λ c κs. search needs)
-    (λ c κs. search needs)
+fits-in-spec = tie.close (tie.spec
+    (λ c. search needs) (λ c κs. search needs) (λ c κs. search needs)
     returns
     (λ c κs. (c .before .pre .wide, c .before .pre .less (c .if1 .left)))
     (λ c κs. search needs)

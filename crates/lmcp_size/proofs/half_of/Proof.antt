@@ -1,6 +1,5 @@
 -- `lmcp_size::half_of` meets its contract.
-use mathlib.Core.Path.{sym, ap}
-use Prim.Native.Nat.{ℕ, _-_, _*_, _^_}
+use Rattle.wire.proofs.Basics.{sym, ap, ℕ, _-_, _*_, _^_}
 use Rattle.lmcp_size.proofs.WriteCases.{wide-last}
 use Rattle.lmcp_size.proofs.half_of.Statement.{statement}
 use Rattle.lmcp_size.proofs.half_of.Tie as tie
@@ -11,4 +10,8 @@ returns-4 c =
     sym (ap (λ (n : ℕ). 2 ^ (8 * n - 1)) (wide-last (start .pre) (c .before .before .if1 .left) (c .before .if2 .left) (c .if3 .left)))
 
 pub half-of-spec : {M : Type 1} → statement M
-half-of-spec = tie.close (tie.spec (λ c. sym (ap (λ (n : ℕ). 2 ^ (8 * n - 1)) (c .if1 .taken))) (λ c. sym (ap (λ (n : ℕ). 2 ^ (8 * n - 1)) (c .if2 .taken))) (λ c. sym (ap (λ (n : ℕ). 2 ^ (8 * n - 1)) (c .if3 .taken))) returns-4)
+half-of-spec = tie.close (tie.spec
+    (λ c. sym (ap (λ (n : ℕ). 2 ^ (8 * n - 1)) (c .if1 .taken)))
+    (λ c. sym (ap (λ (n : ℕ). 2 ^ (8 * n - 1)) (c .if2 .taken)))
+    (λ c. sym (ap (λ (n : ℕ). 2 ^ (8 * n - 1)) (c .if3 .taken)))
+    returns-4)

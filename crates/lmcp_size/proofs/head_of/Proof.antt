@@ -1,13 +1,6 @@
 -- `lmcp_size::head_of` meets its contract, case by case.
-use mathlib.Core.Path.{_≡_, refl, sym, ap, _∙_}
-use mathlib.Core.Bool.{true, false}
-use mathlib.Core.List.{[], _∷_}
-use Prim.Native.Nat.{ℕ, _+_}
-use native.Mathlib.Omega.{arith}
-use lib.IntN.{ℤ, pos}
+use Rattle.wire.proofs.Basics.{_∙_, sym, _≡_, ap, refl, ℕ, _+_, [], _∷_, true, false, drop, getD, ℤ, pos, arith, needs}
 use lib.Signed.{mag}
-use lib.ListN.{getD, drop}
-use borrow.Author.Needs.{needs}
 use Rattle.lmcp.specs.Table.{pitsurv}
 use Rattle.lmcp.specs.Value.{below}
 use Rattle.lmcp.specs.Write.{header, typedBy}
@@ -91,20 +84,11 @@ returns-5 c =
     head-untyped T (a .deep) (a .declared) (drop (a .at) (a .list .now)) (drop (a .at + 1) (a .list .now)) z e f (at-if3 .if3 .left) k
 
 pub head-of-spec : {M : Type 1} → statement M
-head-of-spec =
-    tie.close
-    (tie.spec
+head-of-spec = tie.close (tie.spec
     returns
-    (λ c. search needs)
-    (λ c. search needs)
-    (λ c κs. search needs)
-    (λ c. search needs)
-    (λ c. search needs)
+    (λ c. search needs) (λ c. search needs) (λ c κs. search needs) (λ c. search needs) (λ c. search needs)
     returns-2
     returns-3
-    (λ c κs. search needs)
-    (λ c κs. search needs)
-    (λ c. search needs)
-    (λ c. search needs)
+    (λ c κs. search needs) (λ c κs. search needs) (λ c. search needs) (λ c. search needs)
     returns-4
     returns-5)

@@ -1,6 +1,5 @@
 -- `lmcp_size::is_version` meets its contract.
-use mathlib.Core.Path.{sym, ap, _∙_}
-use borrow.Author.Needs.{needs}
+use Rattle.wire.proofs.Basics.{_∙_, sym, ap, needs}
 use Rattle.lmcp.specs.Value.{below}
 use Rattle.lmcp.proofs.Sizes.{through}
 use Rattle.lmcp_size.proofs.WriteCases.{version-low, version-high}

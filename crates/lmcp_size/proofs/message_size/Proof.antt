@@ -1,9 +1,6 @@
 -- `lmcp_size::message_size` meets its contract: the version, and then the rest of the list by its table.
-use mathlib.Core.Path.{sym, ap, _∙_}
-use lib.IntN.{ℤ, pos}
+use Rattle.wire.proofs.Basics.{_∙_, sym, ap, getD, ℤ, pos, needs}
 use lib.Signed.{mag}
-use lib.ListN.{getD}
-use borrow.Author.Needs.{needs}
 use Rattle.lmcp.specs.Lists.{isVersion}
 use Rattle.lmcp.proofs.Sizes.{through}
 use Rattle.lmcp_size.specs.Size.{sized}
@@ -33,16 +30,8 @@ returns-3 c =
     list-other (a .list .now) (e .if1 .left) (sym (i .is-version .ensures ∙ ap isVersion same) ∙ c .if2 .left)
 
 pub message-size-spec : {M : Type 1} → statement M
-message-size-spec =
-    tie.close
-    (tie.spec
+message-size-spec = tie.close (tie.spec
     (λ c. list-empty (c .before .args .list .now) (c .if1 .taken))
-    (λ c. search needs)
-    (λ c κs. search needs)
-    (λ c. search needs)
-    (λ c. search needs)
-    (λ c. search needs)
-    (λ c κs. search needs)
-    (λ c κs. search needs)
+    (λ c. search needs) (λ c κs. search needs) (λ c. search needs) (λ c. search needs) (λ c. search needs) (λ c κs. search needs) (λ c κs. search needs)
     returns-2
     returns-3)

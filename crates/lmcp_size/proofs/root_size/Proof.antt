@@ -1,9 +1,5 @@
 -- `lmcp_size::root_size` meets its contract: the walk, and the refusals in their order.
-use mathlib.Core.Path.{subst}
-use mathlib.Core.List.{[]}
-use Prim.Native.Nat.{ℕ}
-use native.Mathlib.Omega.{arith}
-use borrow.Author.Needs.{needs}
+use Rattle.wire.proofs.Basics.{subst, ℕ, [], arith, needs}
 use Rattle.lmcp.specs.declared.Went.{Went}
 use Rattle.lmcp.specs.Run.{got}
 use Rattle.lmcp.specs.InsideEnds.{begun, Sofar, Few15}
@@ -61,12 +57,8 @@ returns-4 c =
     answer-good (a .version) (a .list .now) (place w) (end w) (walked w) (i .if1 .left) (c .if2 .left)
 
 pub root-size-spec : {M : Type 1} → statement M
-root-size-spec =
-    tie.close
-    (tie.spec
-    (λ c κs. search needs)
-    (λ c. search needs)
-    (λ c. search needs)
+root-size-spec = tie.close (tie.spec
+    (λ c κs. search needs) (λ c. search needs) (λ c. search needs)
     returns
     add-size
     returns-2

@@ -1,12 +1,9 @@
 -- `lmcp_size::typed_by` meets its contract.
-use mathlib.Core.Path.{_≡_, ap, _∙_, subst}
-use mathlib.Core.Bool.{true, false}
-use lib.IntN.{ℤ, pos}
+use Rattle.wire.proofs.Basics.{_∙_, _≡_, ap, subst, true, false, ℤ, pos, needs}
 use lib.Signed.{mag, ltZ}
 use Rattle.lmcp.specs.Table.{pitsurv}
 use Rattle.lmcp.proofs.Sizes.{through}
 use Rattle.lmcp_size.proofs.WriteCases.{negative-typed, positive-typed}
-use borrow.Author.Needs.{needs}
 use Rattle.lmcp_size.proofs.typed_by.Statement.{statement}
 use Rattle.lmcp_size.proofs.typed_by.Tie as tie
 

@@ -1,6 +1,6 @@
 -- `lmcp_size::values_of` meets its contract.
 use Rattle.lmcp_size.proofs.WriteCases.{wide-some, values-bool, values-char, half-small, values-plain}
-use borrow.Author.Needs.{needs}
+use Rattle.wire.proofs.Basics.{needs}
 use Rattle.lmcp_size.proofs.values_of.Statement.{statement}
 use Rattle.lmcp_size.proofs.values_of.Tie as tie
 

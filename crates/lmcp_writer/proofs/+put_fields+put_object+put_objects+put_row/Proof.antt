@@ -1,14 +1,7 @@
 -- The walk that writes, a cycle of four functions, over what is in order. The measure falls with the depth that is left and, at one depth, from
 -- fields to a row, objects and an object.
-use mathlib.Core.Path.{_≡_, refl, ap, sym, _∙_}
-use mathlib.Core.List.{List}
-use Prim.Native.Nat.{ℕ, _+_, _-_, _*_, _≤_, _<_}
-use native.Mathlib.Omega.{arith}
-use lib.IntN.{ℤ, pos}
+use Rattle.wire.proofs.Basics.{_∙_, sym, _≡_, ap, refl, ℕ, _≤_, _+_, _<_, _-_, _*_, List, length, drop, getD, sets, slice, ℤ, pos, arith, needs}
 use lib.Signed.{mag}
-use lib.ListN.{length, drop, getD}
-use lib.Seq.{sets, slice}
-use borrow.Author.Needs.{needs}
 use Rattle.wire.specs.Signed.{unsigned}
 use Rattle.wire.proofs.Overlays.{overlay-sets}
 use Rattle.lmcp.specs.declared.Row.{Row}
@@ -235,9 +228,6 @@ turn-number t c =
     let test = c .before .before in
     let z : ℤ = getD (turn-start t test .args .list .now) (test .before .loop .a) (pos 0) in
     c .size-of .ensures ∙ ap mag (through z (record { sfits = c .before .z .given }))
-
-put-objects-shared-slice-copy-out-z : (t : ℕ) → put-objects-lts.Need-shared-slice-copy-out-z (put-objects-claims t) (put-objects-at t) put-objects.Post put-objects-Inv-loop put-objects-μ-loop
-put-objects-shared-slice-copy-out-z t c = first-inside (turn-object t c)
 
 put-objects-put-number-requires : (t : ℕ) → put-objects-lts.Need-put-number-requires (put-objects-claims t) (put-objects-at t) put-objects.Post put-objects-Inv-loop put-objects-μ-loop
 put-objects-put-number-requires t c κs =
@@ -669,7 +659,7 @@ pub +put-fields+put-object+put-objects+put-row-spec : {M : Type 1} → statement
     put-objects-μ-loop
     (put-objects-loop-holds t)
     (λ c. search needs)
-    (put-objects-shared-slice-copy-out-z t)
+    (λ c. first-inside (turn-object t c))
     (λ c κs. search needs)
     (put-objects-put-number-requires t)
     (put-objects-add-a t)

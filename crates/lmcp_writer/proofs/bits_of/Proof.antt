@@ -1,11 +1,8 @@
 -- `lmcp_writer::bits_of` meets its contract.
-use mathlib.Core.Path.{_≡_, ap, _∙_, subst}
-use mathlib.Core.Bool.{true, false}
-use lib.IntN.{ℤ, pos}
+use Rattle.wire.proofs.Basics.{_∙_, _≡_, ap, subst, true, false, ℤ, pos, needs}
 use lib.Signed.{mag, ltZ}
 use Rattle.lmcp.proofs.Sizes.{through}
 use Rattle.lmcp_writer.proofs.NumberBytes.{negative-bits, positive-bits}
-use borrow.Author.Needs.{needs}
 use Rattle.lmcp_writer.proofs.bits_of.Statement.{statement}
 use Rattle.lmcp_writer.proofs.bits_of.Tie as tie
 

@@ -1,15 +1,9 @@
 -- `lmcp_writer::put_checksum` meets its contract.
-use mathlib.Core.Path.{sym, ap, _∙_}
-use mathlib.Core.Bool.{Bool}
-use Prim.Native.Nat.{ℕ}
-use lib.ListN.{take}
-use lib.Seq.{length-take-le}
+use Rattle.wire.proofs.Basics.{_∙_, sym, ap, ℕ, Bool, take, length-take-le, arith, needs}
 use Rattle.wire.specs.Bytes.{bytes}
 use Rattle.wire.specs.Choice.{pick}
 use Rattle.wire.specs.Overlay.{overlay}
 use Rattle.lmcp.specs.Message.{checksumOf}
-use native.Mathlib.Omega.{arith}
-use borrow.Author.Needs.{needs}
 use Rattle.lmcp_size.specs.InsideWeighs.{four}
 use Rattle.lmcp_writer.proofs.put_checksum.Statement.{statement}
 use Rattle.lmcp_writer.proofs.put_checksum.Tie as tie
@@ -40,13 +34,10 @@ returns-2 c =
     at-put-number2 .put-number2 .ensures ∙ ap (λ (n : ℕ). overlay (a .out .now) (a .end) (bytes 4 n)) (sym (ap (λ (t : Bool). pick t s 0) (at-if1 .if1 .left)))
 
 pub put-checksum-spec : {M : Type 1} → statement M
-put-checksum-spec =
-    tie.close
-    (tie.spec
+put-checksum-spec = tie.close (tie.spec
     (λ c. search needs)
     slice-aggregate-checksum
-    (λ c κs. search needs)
-    (λ c. search needs)
+    (λ c κs. search needs) (λ c. search needs)
     (λ c κs. (search needs, four))
     (λ c. search needs)
     returns

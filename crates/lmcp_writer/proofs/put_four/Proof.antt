@@ -1,5 +1,5 @@
 -- `lmcp_writer::put_four` meets its contract.
-use borrow.Author.Needs.{needs}
+use Rattle.wire.proofs.Basics.{needs}
 use Rattle.lmcp_writer.proofs.Widths.{four-laid}
 use Rattle.lmcp_writer.proofs.put_four.Statement.{statement}
 use Rattle.lmcp_writer.proofs.put_four.Tie as tie

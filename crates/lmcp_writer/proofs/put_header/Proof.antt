@@ -1,5 +1,5 @@
 -- `lmcp_writer::put_header` meets its contract: four numbers one after the other.
-use borrow.Author.Needs.{needs}
+use Rattle.wire.proofs.Basics.{needs}
 use Rattle.wire.specs.Bytes.{be}
 use Rattle.lmcp.specs.Table.{pitsurv}
 use Rattle.lmcp_size.specs.InsideWeighs.{one, two, four, eight}
@@ -20,9 +20,7 @@ returns c =
     (at-put-number .put-number .ensures) (at-put-number2 .put-number2 .ensures) (at-put-number3 .put-number3 .ensures) (at-put-number4 .put-number4 .ensures)
 
 pub put-header-spec : {M : Type 1} → statement M
-put-header-spec =
-    tie.close
-    (tie.spec
+put-header-spec = tie.close (tie.spec
     (λ c κs. (search needs, one))
     (λ c. search needs)
     (λ c κs. (search needs, eight))

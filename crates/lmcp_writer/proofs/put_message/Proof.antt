@@ -1,8 +1,5 @@
 -- `lmcp_writer::put_message` meets its contract: "LMCP", the root's length, the root and the checksum, one after the other.
-use mathlib.Core.Path.{refl}
-use Prim.Native.Nat.{_-_}
-use native.Mathlib.Omega.{arith}
-use borrow.Author.Needs.{needs}
+use Rattle.wire.proofs.Basics.{refl, _-_, arith, needs}
 use Rattle.lmcp_size.specs.InsideWeighs.{four}
 use Rattle.lmcp_writer.proofs.Answers.{all-laid}
 use Rattle.lmcp.proofs.Aheads.{ahead-more}
@@ -44,12 +41,8 @@ returns c =
     (head .put-bytes .ensures) (size .put-number .ensures) (root .put-object .ensures) (sum .put-checksum .ensures)
 
 pub put-message-spec : {M : Type 1} → statement M
-put-message-spec =
-    tie.close
-    (tie.spec
-    (λ c. search needs)
-    (λ c κs. search needs)
-    (λ c. search needs)
+put-message-spec = tie.close (tie.spec
+    (λ c. search needs) (λ c κs. search needs) (λ c. search needs)
     put-number-requires
     (λ c κs. search needs)
     put-object-requires

@@ -1,10 +1,5 @@
 -- `lmcp_writer::put_number` meets its contract: each width goes its way.
-use mathlib.Core.Path.{_≡_, ap, sym, _∙_}
-use mathlib.Core.List.{[], _∷_}
-use Prim.Native.Nat.{ℕ, _%_}
-use native.Mathlib.Omega.{arith}
-use lib.ListN.{length}
-use borrow.Author.Needs.{needs}
+use Rattle.wire.proofs.Basics.{_∙_, sym, _≡_, ap, ℕ, _%_, [], _∷_, length, arith, needs}
 use Rattle.wire.specs.Bytes.{bytes}
 use Rattle.wire.specs.Overlay.{overlay}
 use Rattle.wire.proofs.Overlays.{overlay-sets}
@@ -58,9 +53,7 @@ returns-4 c =
     ∙ ap (λ (w : ℕ). overlay (a .out .now) (a .to) (bytes w (a .v))) (sym (last i))
 
 pub put-number-spec : {M : Type 1} → statement M
-put-number-spec =
-    tie.close
-    (tie.spec
+put-number-spec = tie.close (tie.spec
     (λ c κs. let i = c .before in omega (arith, i .if1 .taken, i .before .before .pre .0))
     (λ c. search needs)
     returns

@@ -1,7 +1,5 @@
 -- `lmcp_writer::put_two` meets its contract.
-use native.Mathlib.Omega.{arith}
-use lib.ListN.{length-set}
-use borrow.Author.Needs.{needs}
+use Rattle.wire.proofs.Basics.{length-set, arith, needs}
 use Rattle.lmcp_writer.proofs.Widths.{two-laid}
 use Rattle.lmcp_writer.proofs.put_two.Statement.{statement}
 use Rattle.lmcp_writer.proofs.put_two.Tie as tie

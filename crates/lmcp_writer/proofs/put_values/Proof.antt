@@ -1,12 +1,5 @@
 -- `lmcp_writer::put_values` meets its contract.
-use mathlib.Core.Path.{_≡_, refl, sym, ap, _∙_, subst}
-use mathlib.Core.List.{List, _∷_}
-use Prim.Native.Nat.{ℕ, suc, _+_, _-_, _*_, _≤_, _<_}
-use native.Mathlib.Omega.{arith}
-use lib.IntN.{ℤ, pos}
-use lib.ListN.{length, drop, getD}
-use lib.Seq.{sets}
-use borrow.Author.Needs.{needs}
+use Rattle.wire.proofs.Basics.{_∙_, sym, _≡_, ap, refl, subst, ℕ, _≤_, _+_, _<_, _-_, suc, _*_, List, _∷_, length, drop, getD, sets, ℤ, pos, arith, needs}
 use Rattle.wire.specs.Bytes.{bytes}
 use Rattle.wire.specs.Signed.{unsigned}
 use Rattle.wire.proofs.Numbers.{length-bytes}
@@ -113,9 +106,7 @@ returns c =
     sym (ap (λ (y : ℕ). sets (x .out) (x .to) (spelled y (a .w) (drop (a .p + x .k) (a .list .now)))) m) ∙ x .inv .1 .1 .1
 
 pub put-values-spec : {M : Type 1} → statement M
-put-values-spec =
-    tie.close
-    (tie.spec
+put-values-spec = tie.close (tie.spec
     Inv-loop
     μ-loop
     loop-holds
@@ -125,8 +116,7 @@ put-values-spec =
     (λ c κs. search needs)
     put-number-requires
     add-to
-    (λ c. search needs)
-    (λ c. search needs)
+    (λ c. search needs) (λ c. search needs)
     loop-again
     (λ c. search needs)
     returns)

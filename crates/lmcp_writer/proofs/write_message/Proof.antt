@@ -1,11 +1,6 @@
 -- `lmcp_writer::write_message` meets its contract: what is wrong with the list, no room, or the message.
-use mathlib.Core.Path.{_≡_, sym, ap, _∙_}
-use Prim.Native.Nat.{ℕ, _<_}
-use native.Mathlib.Omega.{arith}
-use lib.IntN.{ℤ, pos}
+use Rattle.wire.proofs.Basics.{_∙_, sym, _≡_, ap, ℕ, _<_, length, getD, ℤ, pos, arith, needs}
 use lib.Signed.{mag}
-use lib.ListN.{length, getD}
-use borrow.Author.Needs.{needs}
 use Rattle.lmcp.specs.declared.Made.the-variants.{Bytes}
 use Rattle.lmcp.specs.Lists.{writeList}
 use Rattle.lmcp.proofs.Sizes.{through}
@@ -66,12 +61,8 @@ returns-3 c =
     list-good (a .calculate) (a .list .now) (size w) (told w) (v .size-of .result) (version v) (a .out .now) (put .put-message .last .1 .1 .1 .1 .0) (v .before .before .if1 .left) (put .put-message .ensures)
 
 pub write-message-spec : {M : Type 1} → statement M
-write-message-spec =
-    tie.close
-    (tie.spec
-    (λ c κs. search needs)
-    (λ c. search needs)
-    (λ c. search needs)
+write-message-spec = tie.close (tie.spec
+    (λ c κs. search needs) (λ c. search needs) (λ c. search needs)
     returns
     (λ c. let l = some (c .before .before) in search needs)
     (λ c κs. search needs)

@@ -1,8 +1,7 @@
 -- `log_append::append` meets its contract. Assumes nothing.
-use native.Mathlib.Omega.{arith}
+use Rattle.wire.proofs.Basics.{arith, needs}
 use Rattle.log.specs.Entries.{entryOf}
 use Rattle.log_append.proofs.Writing.{append-long, append-short, fits-at, append-good}
-use borrow.Author.Needs.{needs}
 use Rattle.log_append.proofs.append.Statement.{statement}
 use Rattle.log_append.proofs.append.Tie as tie
 
@@ -28,14 +27,10 @@ returns-3 c =
     append-good (a .out .now) (a .at) (entryOf (a .sender) (a .tick) (a .datagram .now)) (l .entry-length .result) _ (l .before .if1 .left) (l .entry-length .ensures) (omega arith) (c .before .before .put-entry .ensures)
 
 pub append-spec : {M : Type 1} → statement M
-append-spec =
-    tie.close
-    (tie.spec
+append-spec = tie.close (tie.spec
     returns
-    (λ c κs. search needs)
-    (λ c κs. search needs)
+    (λ c κs. search needs) (λ c κs. search needs)
     returns-2
     put-entry-requires
-    (λ c. search needs)
-    (λ c. search needs)
+    (λ c. search needs) (λ c. search needs)
     returns-3)

@@ -1,9 +1,6 @@
 -- `log_append::begin` meets its contract. Assumes nothing.
-use mathlib.Core.Path.{ap, _∙_}
-use native.Mathlib.Omega.{arith}
-use lib.ListN.{length}
+use Rattle.wire.proofs.Basics.{_∙_, ap, length, arith, needs}
 use Rattle.log_append.proofs.Writing.{seven-most, begin-over, begin-short, begin-good, begin-length}
-use borrow.Author.Needs.{needs}
 use Rattle.log_append.proofs.begin.Statement.{statement}
 use Rattle.log_append.proofs.begin.Tie as tie
 
@@ -32,14 +29,11 @@ returns-3 c =
     begin-good (a .out .now) (a .limit) (l .seven-length .result) _ (l .before .if1 .left) (l .seven-length .ensures) (i .if2 .left) (p .put-seven .ensures)
 
 pub begin-spec : {M : Type 1} → statement M
-begin-spec =
-    tie.close
-    (tie.spec
+begin-spec = tie.close (tie.spec
     returns
     (λ c κs. search needs)
     (λ c. omega (arith, seven-most (c .before .before .before .args .limit)))
     returns-2
-    (λ c. search needs)
-    (λ c κs. search needs)
+    (λ c. search needs) (λ c κs. search needs)
     same-length
     returns-3)

@@ -1,8 +1,6 @@
 -- `log_append::entry_length` meets its contract. Assumes nothing.
-use native.Mathlib.Omega.{arith}
-use lib.ListN.{length}
+use Rattle.wire.proofs.Basics.{length, arith, needs}
 use Rattle.log_append.proofs.Writing.{entry-size, seven-most}
-use borrow.Author.Needs.{needs}
 use Rattle.log_append.proofs.entry_length.Statement.{statement}
 use Rattle.log_append.proofs.entry_length.Tie as tie
 
@@ -27,11 +25,8 @@ returns c =
     omega (arith, entry-size (a .sender) (a .tick) (a .datagram .now))
 
 pub entry-length-spec : {M : Type 1} → statement M
-entry-length-spec =
-    tie.close
-    (tie.spec
-    (λ c κs. search needs)
-    (λ c κs. search needs)
+entry-length-spec = tie.close (tie.spec
+    (λ c κs. search needs) (λ c κs. search needs)
     add-result
     (λ c κs. search needs)
     add-result-2

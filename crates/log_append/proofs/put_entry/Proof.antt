@@ -1,9 +1,6 @@
 -- `log_append::put_entry` meets its contract: the three numbers and the bytes, each after the one before. Assumes nothing.
-use mathlib.Core.Path.{ap}
-use native.Mathlib.Omega.{arith}
-use Prim.Native.Nat.{ℕ, _+_}
+use Rattle.wire.proofs.Basics.{ap, ℕ, _+_, arith, needs}
 use Rattle.log_append.proofs.Writing.{entry-size, entry-overlay}
-use borrow.Author.Needs.{needs}
 use Rattle.log_append.proofs.put_entry.Statement.{statement}
 use Rattle.log_append.proofs.put_entry.Tie as tie
 
@@ -36,18 +33,12 @@ returns c =
     (c .before .before .put-bytes .ensures)
 
 pub put-entry-spec : {M : Type 1} → statement M
-put-entry-spec =
-    tie.close
-    (tie.spec
+put-entry-spec = tie.close (tie.spec
     (λ c κs. search needs)
     add-a
     (λ c κs. search needs)
     add-b
     (λ c κs. search needs)
     add-c
-    (λ c κs. search needs)
-    (λ c κs. search needs)
-    (λ c κs. search needs)
-    (λ c κs. search needs)
-    (λ c. search needs)
+    (λ c κs. search needs) (λ c κs. search needs) (λ c κs. search needs) (λ c κs. search needs) (λ c. search needs)
     returns)

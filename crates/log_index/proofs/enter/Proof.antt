@@ -1,10 +1,7 @@
 -- A row goes in where there are words for it. Assumes nothing.
-use mathlib.Core.Path.{refl, ap, _∙_}
-use Prim.Native.Nat.{ℕ}
-use borrow.Author.Tests.{lt-ltb, le-ltb}
+use Rattle.wire.proofs.Basics.{_∙_, ap, refl, ℕ, le-ltb, lt-ltb, needs}
 use Rattle.log_index.specs.Rows.{rowOf}
 use Rattle.log_index.specs.Words.{inserted, entered}
-use borrow.Author.Needs.{needs}
 use Rattle.log_index.proofs.enter.Statement.{statement}
 use Rattle.log_index.proofs.enter.Tie as tie
 

@@ -1,7 +1,6 @@
 -- The place of the first row that is not before the key. Assumes nothing.
-use mathlib.Core.Path.{sym, _∙_}
+use Rattle.wire.proofs.Basics.{_∙_, sym, needs}
 use Rattle.log_index.proofs.Finds.{found-some, found-none, found-inside}
-use borrow.Author.Needs.{needs}
 use Rattle.log_index.proofs.find.Statement.{statement}
 use Rattle.log_index.proofs.find.Tie as tie
 
@@ -35,15 +34,8 @@ returns-2 c =
     found-none (a .index .now) (a .n) (a .sender) (a .sequence) _ _ (at-least .least .ensures) (k .rank .ensures .0) (sym (at-is-of .is-of .ensures) ∙ c .if1 .left)
 
 pub find-spec : {M : Type 1} → statement M
-find-spec =
-    tie.close
-    (tie.spec
-    (λ c κs. search needs)
-    (λ c κs. search needs)
-    (λ c κs. search needs)
-    (λ c. search needs)
-    (λ c. search needs)
-    (λ c. search needs)
+find-spec = tie.close (tie.spec
+    (λ c κs. search needs) (λ c κs. search needs) (λ c κs. search needs) (λ c. search needs) (λ c. search needs) (λ c. search needs)
     shared-slice-read-t14
     returns
     returns-2)

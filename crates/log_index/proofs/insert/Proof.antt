@@ -1,11 +1,6 @@
 -- The words move up, and the row goes in front of them. Assumes nothing.
-use mathlib.Core.Path.{ap, _∙_}
-use mathlib.Core.List.{List}
-use Prim.Native.Nat.{ℕ, _+_, _*_}
-use native.Mathlib.Omega.{arith}
-use lib.ListN.{length, set, length-set}
+use Rattle.wire.proofs.Basics.{_∙_, ap, ℕ, _+_, _*_, List, length, set, length-set, arith, needs}
 use Rattle.log_index.proofs.Moves.{moved-row, moved-length}
-use borrow.Author.Needs.{needs}
 use Rattle.log_index.proofs.insert.Statement.{statement}
 use Rattle.log_index.proofs.insert.Tie as tie
 
@@ -39,21 +34,11 @@ returns c =
     ∙ moved-row (a .index .now) (a .at) (a .n) (a .k) _
 
 pub insert-spec : {M : Type 1} → statement M
-insert-spec =
-    tie.close
-    (tie.spec
-    (λ c. search needs)
-    (λ c. search needs)
-    (λ c. search needs)
-    (λ c. search needs)
-    (λ c. search needs)
-    (λ c. search needs)
-    (λ c κs. search needs)
-    (λ c. search needs)
-    (λ c. search needs)
+insert-spec = tie.close (tie.spec
+    (λ c. search needs) (λ c. search needs) (λ c. search needs) (λ c. search needs) (λ c. search needs) (λ c. search needs) (λ c κs. search needs)
+    (λ c. search needs) (λ c. search needs)
     slice-write-index
-    (λ c. search needs)
-    (λ c. search needs)
+    (λ c. search needs) (λ c. search needs)
     slice-write-index-2
     (λ c. search needs)
     slice-write-index-3

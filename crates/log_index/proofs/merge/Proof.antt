@@ -1,8 +1,6 @@
 -- Where both have words for the rows. Assumes nothing.
-use mathlib.Core.Path.{_∙_}
-use native.Mathlib.Omega.{arith}
+use Rattle.wire.proofs.Basics.{_∙_, arith, needs}
 use Rattle.log_index.proofs.Merges.{merge-none, merge-full, merge-fits}
-use borrow.Author.Needs.{needs}
 use Rattle.log_index.proofs.merge.Statement.{statement}
 use Rattle.log_index.proofs.merge.Tie as tie
 

@@ -1,11 +1,7 @@
 -- The loop: what is merged and what is to be merged are all. Assumes nothing.
-use mathlib.Core.Path.{_≡_, refl, _∙_}
-use Prim.Native.Nat.{_≤_}
-use native.Mathlib.Omega.{arith}
-use lib.ListN.{length}
+use Rattle.wire.proofs.Basics.{_∙_, _≡_, refl, _≤_, length, arith, needs}
 use Rattle.log_index.specs.Words.{mergedBy}
 use Rattle.log_index.proofs.Merges.{merged-turn, merged-end}
-use borrow.Author.Needs.{needs}
 use Rattle.log_index.proofs.merge_all.Statement.{statement}
 use Rattle.log_index.proofs.merge_all.Tie as tie
 
@@ -42,9 +38,7 @@ returns c =
     merged-end (l .j) (l .high) _ (l .index) (c .loop-test .left) ∙ l .inv .1 .1 .1
 
 pub merge-all-spec : {M : Type 1} → statement M
-merge-all-spec =
-    tie.close
-    (tie.spec
+merge-all-spec = tie.close (tie.spec
     Inv-loop
     μ-loop
     (λ c. (omega arith, (omega arith, (refl, refl))))

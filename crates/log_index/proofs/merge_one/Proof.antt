@@ -1,10 +1,7 @@
 -- The row goes to its place. Assumes nothing.
-use mathlib.Core.Path.{ap, _∙_}
-use Prim.Native.Nat.{ℕ}
-use lib.ListN.{length}
+use Rattle.wire.proofs.Basics.{_∙_, ap, ℕ, length, needs}
 use Rattle.log_index.specs.Words.{rowAt, inserted}
 use Rattle.log_index.proofs.Moves.{inserted-length}
-use borrow.Author.Needs.{needs}
 use Rattle.log_index.proofs.merge_one.Statement.{statement}
 use Rattle.log_index.proofs.merge_one.Tie as tie
 
@@ -20,19 +17,7 @@ returns c =
     record { place = r .0; within = r .1; size = ap length s ∙ inserted-length (a .index .now) _ (a .n) (a .j) _; words = s }
 
 pub merge-one-spec : {M : Type 1} → statement M
-merge-one-spec =
-    tie.close
-    (tie.spec
-    (λ c. search needs)
-    (λ c. search needs)
-    (λ c. search needs)
-    (λ c. search needs)
-    (λ c. search needs)
-    (λ c. search needs)
-    (λ c. search needs)
-    (λ c. search needs)
-    (λ c. search needs)
-    (λ c κs. search needs)
-    (λ c κs. search needs)
-    (λ c. search needs)
+merge-one-spec = tie.close (tie.spec
+    (λ c. search needs) (λ c. search needs) (λ c. search needs) (λ c. search needs) (λ c. search needs) (λ c. search needs) (λ c. search needs)
+    (λ c. search needs) (λ c. search needs) (λ c κs. search needs) (λ c κs. search needs) (λ c. search needs)
     returns)

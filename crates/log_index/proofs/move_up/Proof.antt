@@ -1,11 +1,7 @@
 -- The loop: the words from the place on have moved. Assumes nothing.
-use mathlib.Core.Path.{_≡_, refl, sym, ap, _∙_}
-use Prim.Native.Nat.{ℕ, _+_, _-_, _≤_}
-use native.Mathlib.Omega.{arith}
-use lib.ListN.{length, getD, set}
+use Rattle.wire.proofs.Basics.{_∙_, sym, _≡_, ap, refl, ℕ, _≤_, _+_, _-_, length, getD, set, arith, needs}
 use Rattle.log_index.specs.Inside.{movedUp}
 use Rattle.log_index.proofs.Moves.{moved-none, moved-next, moved-length}
-use borrow.Author.Needs.{needs}
 use Rattle.log_index.proofs.move_up.Statement.{statement}
 use Rattle.log_index.proofs.move_up.Tie as tie
 
@@ -52,15 +48,11 @@ returns c =
     l .inv .1 .1 .1 ∙ ap (λ (k : ℕ). movedUp (a .index .now) k (a .to) (a .by)) e
 
 pub move-up-spec : {M : Type 1} → statement M
-move-up-spec =
-    tie.close
-    (tie.spec
+move-up-spec = tie.close (tie.spec
     Inv-loop
     μ-loop
     loop-holds
-    (λ c. search needs)
-    (λ c. search needs)
-    (λ c. search needs)
+    (λ c. search needs) (λ c. search needs) (λ c. search needs)
     (λ c. omega (arith, c .before .before .before .pre .1 .1))
     (λ c. search needs)
     slice-write-index

@@ -1,12 +1,9 @@
 -- The loop: between low and high the row has the place that it has among all. Assumes nothing.
-use mathlib.Core.Path.{_≡_, refl, sym, _∙_}
-use Prim.Native.Nat.{ℕ, _-_, _≤_}
-use native.Mathlib.Omega.{arith}
+use Rattle.wire.proofs.Basics.{_∙_, sym, _≡_, refl, ℕ, _≤_, _-_, arith, needs}
 use Rattle.log_index.specs.Rows.{rowOf, earlier}
 use Rattle.wire.specs.Halving.{halve}
 use Rattle.log_index.specs.Words.{rowAt, rankIn}
 use Rattle.wire.proofs.Halves.{starts, goes-behind, goes-before, ends}
-use borrow.Author.Needs.{needs}
 use Rattle.log_index.proofs.rank.Statement.{statement}
 use Rattle.log_index.proofs.rank.Tie as tie
 
@@ -46,17 +43,13 @@ returns c =
     (sym (ends _ (l .low) (l .high) (omega arith)) ∙ l .inv .1 .1, omega arith)
 
 pub rank-spec : {M : Type 1} → statement M
-rank-spec =
-    tie.close
-    (tie.spec
+rank-spec = tie.close (tie.spec
     Inv-loop
     μ-loop
     loop-holds
-    (λ c. search needs)
-    (λ c. search needs)
+    (λ c. search needs) (λ c. search needs)
     (λ c κs. omega (arith, c .before .before .before .pre))
-    (λ c. search needs)
-    (λ c. search needs)
+    (λ c. search needs) (λ c. search needs)
     loop-again
     (λ c. search needs)
     loop-again-2

@@ -1,14 +1,10 @@
 -- `log_lines::pour_last` meets its contract. Assumes nothing.
-use mathlib.Core.Path.{sym, ap}
+use Rattle.wire.proofs.Basics.{sym, ap, needs}
 use Rattle.output.proofs.Sending.{pours-is, pours-then, pours-none}
 use Rattle.log.specs.declared.reader.Step.{Step}
 use Rattle.log_lines.specs.Lines.{lastLine}
-use borrow.Author.Needs.{needs}
 use Rattle.log_lines.proofs.pour_last.Statement.{statement}
 use Rattle.log_lines.proofs.pour_last.Tie as tie
-
-enum-told : tie.Need-enum-told
-enum-told c = search needs
 
 returns : tie.Need-returns
 returns c =
@@ -31,20 +27,10 @@ returns-3 c =
     pours-is (pours-none (a .out .now) (a .at)) (sym (ap (λ (s : Step). lastLine s (a .n)) (c .enum-told2 .given .1)))
 
 pub pour-last-spec : {M : Type 1} → statement M
-pour-last-spec =
-    tie.close
-    (tie.spec
-    enum-told
+pour-last-spec = tie.close (tie.spec
     (λ c. search needs)
-    (λ c κs. search needs)
-    (λ c. search needs)
-    (λ c. search needs)
-    (λ c. search needs)
-    (λ c κs. search needs)
-    (λ c. search needs)
-    (λ c κs. search needs)
-    (λ c. search needs)
-    (λ c. search needs)
+    (λ c. search needs) (λ c κs. search needs) (λ c. search needs) (λ c. search needs) (λ c. search needs) (λ c κs. search needs) (λ c. search needs)
+    (λ c κs. search needs) (λ c. search needs) (λ c. search needs)
     returns
     (λ c. search needs)
     returns-2

@@ -1,7 +1,7 @@
 -- The entry went to its space, and from there out. Assumes nothing.
 use Rattle.output.proofs.Sending.{pours-is}
 use Rattle.log_write.proofs.Keeping.{kept-pours, kept-never, of-numbers}
-use borrow.Author.Needs.{needs}
+use Rattle.wire.proofs.Basics.{needs}
 use Rattle.log_write.proofs.keep.Statement.{statement}
 use Rattle.log_write.proofs.keep.Tie as tie
 
@@ -27,18 +27,9 @@ returns-2 c =
     kept-never (a .space .now) _ (a .out .now) _ (a .at) _ _ (s .pre) k _ _ (c .enum-told .given .1)
 
 pub keep-spec : {M : Type 1} → statement M
-keep-spec =
-    tie.close
-    (tie.spec
-    (λ c κs. search needs)
-    (λ c κs. search needs)
-    (λ c κs. search needs)
-    (λ c. search needs)
-    (λ c κs. search needs)
-    (λ c κs. search needs)
-    (λ c. search needs)
-    (λ c. search needs)
-    (λ c. search needs)
+keep-spec = tie.close (tie.spec
+    (λ c κs. search needs) (λ c κs. search needs) (λ c κs. search needs) (λ c. search needs) (λ c κs. search needs) (λ c κs. search needs) (λ c. search needs)
+    (λ c. search needs) (λ c. search needs)
     returns
     (λ c. search needs)
     returns-2)

@@ -1,8 +1,5 @@
 -- Record by record. The loop's invariant: the records taken went out as entries. Assumes nothing.
-use mathlib.Core.Path.{_≡_, refl, _∙_}
-use Prim.Native.Nat.{_-_}
-use native.Mathlib.Omega.{arith}
-use lib.ListN.{length, drop}
+use Rattle.wire.proofs.Basics.{_∙_, _≡_, refl, _-_, length, drop, arith, needs}
 use Rattle.wire.specs.Bytes.{be}
 use Rattle.stream.specs.declared.Kind.the-variants.{Entry}
 use Rattle.output.proofs.Sending.{pours-is}
@@ -11,7 +8,6 @@ use Rattle.record_lines.proofs.RecordLoop.{Going, going-none, going-more, going
 use Rattle.log.specs.Entries.{entryOf, entryBytes}
 use Rattle.log_write.specs.Inside.{says}
 use Rattle.log_write.proofs.Records.{short-part, finishes-out}
-use borrow.Author.Needs.{needs}
 use Rattle.log_write.proofs.kept.Statement.{statement}
 use Rattle.log_write.proofs.kept.Tie as tie
 
@@ -73,31 +69,17 @@ returns-3 : tie.Need-returns-3 Inv-loop μ-loop
 returns-3 c = let t = c .before .before in going-over (t .before .loop .inv .2) (t .loop-test .left) (finishes-out (c .write-out2 .ensures))
 
 pub kept-spec : {M : Type 1} → statement M
-kept-spec =
-    tie.close
-    (tie.spec
+kept-spec = tie.close (tie.spec
     Inv-loop
     μ-loop
     loop-holds
-    (λ c κs. search needs)
-    (λ c. search needs)
-    (λ c κs. search needs)
-    (λ c. search needs)
-    (λ c. search needs)
-    (λ c. search needs)
+    (λ c κs. search needs) (λ c. search needs) (λ c κs. search needs) (λ c. search needs) (λ c. search needs) (λ c. search needs)
     returns
-    (λ c. search needs)
-    (λ c κs. search needs)
-    (λ c κs. search needs)
+    (λ c. search needs) (λ c κs. search needs) (λ c κs. search needs)
     keep-requires
-    (λ c. search needs)
-    (λ c. search needs)
-    (λ c. search needs)
+    (λ c. search needs) (λ c. search needs) (λ c. search needs)
     returns-2
     (λ c. search needs)
     loop-again
-    (λ c κs. search needs)
-    (λ c. search needs)
-    (λ c. search needs)
-    (λ c. search needs)
+    (λ c κs. search needs) (λ c. search needs) (λ c. search needs) (λ c. search needs)
     returns-3)

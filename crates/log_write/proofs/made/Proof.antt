@@ -1,6 +1,6 @@
 -- The log's head stands in the buffer, which is not refused, and the entries go behind it. Assumes nothing.
 use Rattle.log_write.proofs.Records.{begun-never, begun-pours, made-tells}
-use borrow.Author.Needs.{needs}
+use Rattle.wire.proofs.Basics.{needs}
 use Rattle.log_write.proofs.made.Statement.{statement}
 use Rattle.log_write.proofs.made.Tie as tie
 
@@ -19,16 +19,8 @@ returns-2 c =
     made-tells (begun-pours (s .args .out .now) _ _ (s .pre .1) (b .begin .ensures) _ (g .begun .given .1)) (k .kept .ensures)
 
 pub made-spec : {M : Type 1} → statement M
-made-spec =
-    tie.close
-    (tie.spec
-    (λ c κs. search needs)
-    (λ c. search needs)
-    (λ c. search needs)
-    (λ c. search needs)
+made-spec = tie.close (tie.spec
+    (λ c κs. search needs) (λ c. search needs) (λ c. search needs) (λ c. search needs)
     returns
-    (λ c κs. search needs)
-    (λ c. search needs)
-    (λ c. search needs)
-    (λ c. search needs)
+    (λ c κs. search needs) (λ c. search needs) (λ c. search needs) (λ c. search needs)
     returns-2)

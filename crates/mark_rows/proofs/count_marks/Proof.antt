@@ -1,12 +1,8 @@
 -- Element by element. The loop's invariant: those counted, and those from the place on, are all. Assumes nothing.
-use mathlib.Core.Path.{_≡_}
-use Prim.Native.Nat.{_+_, _-_, _≤_, _<_}
-use native.Mathlib.Omega.{arith}
-use lib.ListN.{length, drop}
+use Rattle.wire.proofs.Basics.{_≡_, _≤_, _+_, _<_, _-_, length, drop, arith, needs}
 use Rattle.mark_rows.specs.InsideRows.{placedFrom}
 use Rattle.mark_rows.proofs.RowsLaid.{at-most-one}
 use Rattle.mark_rows.proofs.RowTurn.{goes-on, turn-long, end-long}
-use borrow.Author.Needs.{needs}
 use Rattle.mark_rows.proofs.count_marks.Statement.{statement}
 use Rattle.mark_rows.proofs.count_marks.Tie as tie
 

@@ -1,13 +1,7 @@
 -- By the element's type, the type of its place and the version. Assumes nothing.
-use mathlib.Core.Path.{sym, ap, _∙_}
-use mathlib.Core.Bool.{not}
-use Prim.Native.Nat.{ℕ}
-use native.Mathlib.Omega.{arith}
-use lib.Dec.{eqb}
-use lib.ListN.{drop}
+use Rattle.wire.proofs.Basics.{_∙_, sym, ap, ℕ, not, drop, eqb, arith, needs}
 use Rattle.wire.specs.Choice.{pick}
 use Rattle.mark_rows.proofs.Lengths.{length-null, length-one, length-two, depth-most}
-use borrow.Author.Needs.{needs}
 use Rattle.mark_rows.proofs.element_length.Statement.{statement}
 use Rattle.mark_rows.proofs.element_length.Tie as tie
 

@@ -1,10 +1,7 @@
 -- Assumes nothing.
-use mathlib.Core.Path.{sym, ap, _∙_}
-use mathlib.Core.List.{List}
-use lib.ListN.{length, drop}
+use Rattle.wire.proofs.Basics.{_∙_, sym, ap, List, length, drop, needs}
 use Rattle.mark_rows.specs.Placed.{PlacedMark}
 use Rattle.mark_rows.proofs.RowsLaid.{null-none, mark-one}
-use borrow.Author.Needs.{needs}
 use Rattle.mark_rows.proofs.marks_at.Statement.{statement}
 use Rattle.mark_rows.proofs.marks_at.Tie as tie
 

@@ -1,10 +1,6 @@
 -- By whether it is a list, and whether there is room for its rows. Assumes nothing.
-use mathlib.Core.Path.{ap}
-use Prim.Native.Nat.{ℕ}
-use lib.Dec.{eqb}
-use borrow.Author.Tests.{not-true, not-false}
+use Rattle.wire.proofs.Basics.{ap, ℕ, eqb, not-false, not-true, needs}
 use Rattle.mark_rows.proofs.RowsGiven.{no-list, no-room, rows-given}
-use borrow.Author.Needs.{needs}
 use Rattle.mark_rows.proofs.marks_of.Statement.{statement}
 use Rattle.mark_rows.proofs.marks_of.Tie as tie
 
@@ -36,15 +32,10 @@ returns-3 c =
     (s .if2 .left) (c .size-at2 .result) (c .size-at2 .ensures) _ (p .put-rows .ensures)
 
 pub marks-of-spec : {M : Type 1} → statement M
-marks-of-spec =
-    tie.close
-    (tie.spec
+marks-of-spec = tie.close (tie.spec
     (λ c κs. search needs)
     returns
-    (λ c κs. search needs)
-    (λ c κs. search needs)
+    (λ c κs. search needs) (λ c κs. search needs)
     returns-2
-    (λ c κs. search needs)
-    (λ c κs. search needs)
-    (λ c. search needs)
+    (λ c κs. search needs) (λ c κs. search needs) (λ c. search needs)
     returns-3)

@@ -1,12 +1,6 @@
 -- A number of the list from a place on; past its end there are none. Assumes nothing.
-use mathlib.Core.Path.{sym, _∙_}
-use Prim.Native.Nat.{_+_}
-use native.Mathlib.Omega.{arith}
-use lib.IntN.{pos}
-use lib.ListN.{getD, drop, length-drop, List·getD-eq-default}
-use lib.Seq.{getD-drop}
+use Rattle.wire.proofs.Basics.{_∙_, sym, _+_, drop, getD, length-drop, List·getD-eq-default, getD-drop, pos, arith, needs}
 use Rattle.lmcp.proofs.Sizes.{through}
-use borrow.Author.Needs.{needs}
 use Rattle.mark_rows.proofs.number_at.Statement.{statement}
 use Rattle.mark_rows.proofs.number_at.Tie as tie
 

@@ -1,7 +1,6 @@
 -- Assumes nothing.
-use mathlib.Core.Path.{_∙_}
+use Rattle.wire.proofs.Basics.{_∙_, needs}
 use Rattle.lmcp.proofs.Sizes.{through}
-use borrow.Author.Needs.{needs}
 use Rattle.mark_rows.proofs.number_if.Statement.{statement}
 use Rattle.mark_rows.proofs.number_if.Tie as tie
 

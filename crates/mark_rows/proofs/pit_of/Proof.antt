@@ -1,10 +1,8 @@
 -- A uint32 fits. Assumes nothing.
-use Prim.Native.Nat.{_%_, _^_, _<_}
-use native.Mathlib.Omega.{arith}
+use Rattle.wire.proofs.Basics.{_<_, _^_, _%_, arith, needs}
 use mir.Syntax.{w64}
 use mir.ValLaws.{toZ-pos}
 use Rattle.count_rules.specs.Keys.{span}
-use borrow.Author.Needs.{needs}
 use Rattle.mark_rows.proofs.pit_of.Statement.{statement}
 use Rattle.mark_rows.proofs.pit_of.Tie as tie
 

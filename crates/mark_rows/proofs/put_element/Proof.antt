@@ -1,11 +1,6 @@
 -- Null, or a mark. Assumes nothing.
-use mathlib.Core.Path.{_≡_, sym, ap, _∙_}
-use mathlib.Core.List.{List}
-use native.Mathlib.Omega.{arith}
-use lib.IntN.{ℤ}
-use lib.ListN.{length, drop}
+use Rattle.wire.proofs.Basics.{_∙_, sym, _≡_, ap, List, length, drop, ℤ, arith, needs}
 use Rattle.mark_rows.proofs.RowsLaid.{mark-one, null-laid, mark-laid}
-use borrow.Author.Needs.{needs}
 use Rattle.mark_rows.proofs.put_element.Statement.{statement}
 use Rattle.mark_rows.proofs.put_element.Tie as tie
 

@@ -1,12 +1,6 @@
 -- Number by number. The loop's invariant: with those from i on, all are written. Assumes nothing.
-use mathlib.Core.Path.{_≡_, refl, sym, ap, _∙_}
-use Prim.Native.Nat.{ℕ, suc, _+_, _-_, _≤_, _<_}
-use native.Mathlib.Omega.{arith}
-use lib.IntN.{pos}
-use lib.ListN.{length, getD, set, drop, length-set, drop-of-length-le}
-use lib.Seq.{sets, drop-cons}
+use Rattle.wire.proofs.Basics.{_∙_, sym, _≡_, ap, refl, ℕ, _≤_, _+_, _<_, _-_, suc, length, drop, getD, set, length-set, drop-of-length-le, sets, drop-cons, pos, arith, needs}
 use Rattle.lmcp.proofs.Sizes.{through}
-use borrow.Author.Needs.{needs}
 use Rattle.mark_rows.proofs.put_numbers.Statement.{statement}
 use Rattle.mark_rows.proofs.put_numbers.Tie as tie
 
@@ -46,19 +40,15 @@ returns c =
     sym (ap (sets (l .rows) (a .q + l .i)) (drop-of-length-le (a .src .now) (c .loop-test .left))) ∙ l .inv .1 .1
 
 pub put-numbers-spec : {M : Type 1} → statement M
-put-numbers-spec =
-    tie.close
-    (tie.spec
+put-numbers-spec = tie.close (tie.spec
     Inv-loop
     μ-loop
     loop-holds
-    (λ c. search needs)
-    (λ c. search needs)
+    (λ c. search needs) (λ c. search needs)
     (λ c. let s = c .before .before .before in omega (arith, s .pre, c .before .loop-test .taken, s .fits))
     (λ c. let s = c .before .before .before in omega (arith, s .pre, c .before .loop-test .taken, s .fits))
     (λ c. let s = c .before .before .before in omega (arith, s .pre, c .before .loop-test .taken, c .before .before .loop .inv .0))
-    (λ c. search needs)
-    (λ c. search needs)
+    (λ c. search needs) (λ c. search needs)
     loop-again
     (λ c. search needs)
     returns)

@@ -1,16 +1,10 @@
 -- Element by element. The loop's invariant: with those from the place on, all are laid. Assumes nothing.
-use mathlib.Core.Path.{_≡_, refl, sym, ap, _∙_}
-use mathlib.Core.List.{List, _++_}
-use Prim.Native.Nat.{ℕ, _+_, _-_, _*_, _≤_, _<_}
-use native.Mathlib.Omega.{arith}
-use lib.ListN.{length, drop}
-use lib.Seq.{sets}
+use Rattle.wire.proofs.Basics.{_∙_, sym, _≡_, ap, refl, ℕ, _≤_, _+_, _<_, _-_, _*_, List, _++_, length, drop, sets, arith, needs}
 use Rattle.mark_rows.specs.Placed.{PlacedMark, placedAt}
 use Rattle.mark_rows.specs.Rows.{rowsOf}
 use Rattle.mark_rows.specs.InsideRows.{placedFrom}
 use Rattle.mark_rows.proofs.RowsLaid.{then-laid}
 use Rattle.mark_rows.proofs.RowTurn.{placed-turn, placed-end, goes-on, turn-long}
-use borrow.Author.Needs.{needs}
 use Rattle.mark_rows.proofs.put_rows.Statement.{statement}
 use Rattle.mark_rows.proofs.put_rows.Tie as tie
 

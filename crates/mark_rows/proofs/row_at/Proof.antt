@@ -1,16 +1,9 @@
 -- Number by number. Assumes nothing.
-use mathlib.Core.Path.{ap, _∙_}
-use mathlib.Core.Bool.{Bool, not}
-use mathlib.Core.List.{[], _∷_}
-use Prim.Native.Nat.{ℕ, _%_}
-use lib.Dec.{eqb}
-use lib.IntN.{pos}
-use lib.ListN.{drop}
+use Rattle.wire.proofs.Basics.{_∙_, ap, ℕ, _%_, [], _∷_, Bool, not, drop, eqb, pos, needs}
 use Rattle.wire.specs.Choice.{pick}
 use Rattle.lmcp.proofs.Sizes.{through}
 use Rattle.count_rules.specs.Keys.{span}
 use Rattle.mark_rows.specs.Placed.{signedAt}
-use borrow.Author.Needs.{needs}
 use Rattle.mark_rows.proofs.row_at.Statement.{statement}
 use Rattle.mark_rows.proofs.row_at.Tie as tie
 
@@ -42,19 +35,7 @@ returns c =
     ∷ []
 
 pub row-at-spec : {M : Type 1} → statement M
-row-at-spec =
-    tie.close
-    (tie.spec
-    (λ c κs. search needs)
-    (λ c κs. search needs)
-    (λ c κs. search needs)
-    (λ c κs. search needs)
-    (λ c κs. search needs)
-    (λ c κs. search needs)
-    (λ c κs. search needs)
-    (λ c κs. search needs)
-    (λ c κs. search needs)
-    (λ c κs. search needs)
-    (λ c κs. search needs)
-    (λ c κs. search needs)
+row-at-spec = tie.close (tie.spec
+    (λ c κs. search needs) (λ c κs. search needs) (λ c κs. search needs) (λ c κs. search needs) (λ c κs. search needs) (λ c κs. search needs)
+    (λ c κs. search needs) (λ c κs. search needs) (λ c κs. search needs) (λ c κs. search needs) (λ c κs. search needs) (λ c κs. search needs)
     returns)

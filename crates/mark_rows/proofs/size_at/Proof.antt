@@ -1,8 +1,7 @@
 -- Assumes nothing.
-use mathlib.Core.Path.{ap, _∙_}
+use Rattle.wire.proofs.Basics.{_∙_, ap, needs}
 use lib.Signed.{mag}
 use Rattle.lmcp.proofs.Sizes.{through}
-use borrow.Author.Needs.{needs}
 use Rattle.mark_rows.proofs.size_at.Statement.{statement}
 use Rattle.mark_rows.proofs.size_at.Tie as tie
 

@@ -1,10 +1,5 @@
 -- `memory::free_place` meets its contract. The loop's invariant: none of the i places passed is free. Assumes nothing.
-use mathlib.Core.Path.{_≡_, sym, _∙_}
-use mathlib.Core.Bool.{false}
-use Prim.Native.Nat.{ℕ, _-_, _≤_, _<_}
-use native.Mathlib.Omega.{arith}
-use borrow.Author.Needs.{needs}
-use borrow.Author.Tests.{eq-eqb, ne-eqb}
+use Rattle.wire.proofs.Basics.{_∙_, sym, _≡_, ℕ, _≤_, _<_, _-_, false, eq-eqb, ne-eqb, arith, needs}
 use borrow.Author.Count.{below-more}
 use Rattle.steps.specs.Limits.{sendersMost}
 use Rattle.steps.specs.Memory.{vacant}
@@ -18,9 +13,6 @@ Inv-loop memory i₀ i = (i ≤ sendersMost) × ((j : ℕ) → j < i → vacant 
 
 abbrev μ-loop : tie.MeasureT-loop
 μ-loop memory i₀ i = sendersMost - i
-
-loop-holds : tie.Need-loop-holds Inv-loop μ-loop
-loop-holds c = (omega arith, λ j h. absurd (let z : ⊥ = omega arith in z))
 
 returns : tie.Need-returns Inv-loop μ-loop
 returns c =
@@ -40,16 +32,12 @@ returns-2 c =
     found-none vacant (c .before .before .before .args .memory .now) (λ j h. l .inv .1 j (omega arith))
 
 pub free-place-spec : {M : Type 1} → statement M
-free-place-spec =
-    tie.close
-    (tie.spec
+free-place-spec = tie.close (tie.spec
     Inv-loop
     μ-loop
-    loop-holds
-    (λ c. search needs)
-    (λ c κs. search needs)
+    (λ c. (omega arith, λ j h. absurd (let z : ⊥ = omega arith in z)))
+    (λ c. search needs) (λ c κs. search needs)
     returns
-    (λ c. search needs)
-    (λ c. search needs)
+    (λ c. search needs) (λ c. search needs)
     loop-again
     returns-2)

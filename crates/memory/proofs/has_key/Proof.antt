@@ -1,11 +1,5 @@
 -- `memory::has_key` meets its contract. The loop's invariant: none of the j sequences passed is the one. Assumes nothing.
-use mathlib.Core.Path.{_≡_, refl, sym, _∙_, ap}
-use mathlib.Core.Bool.{false}
-use Prim.Native.Nat.{ℕ, _-_, _≤_}
-use Prim.Native.Nat.{min}
-use native.Mathlib.Omega.{arith}
-use borrow.Author.Needs.{needs}
-use lib.ListN.{take}
+use Rattle.wire.proofs.Basics.{_∙_, sym, _≡_, ap, refl, ℕ, _≤_, _-_, min, false, take, arith, needs}
 use Rattle.steps.specs.Limits.{keysEach}
 use Rattle.steps.specs.Memory.{has}
 use Rattle.memory.specs.Words.{sequencesIn}
@@ -18,9 +12,6 @@ Inv-loop memory i sequence n a j₀ j = (j ≤ n) × (n ≤ keysEach) × (has (t
 
 abbrev μ-loop : tie.MeasureT-loop
 μ-loop memory i sequence n a j₀ j = n - j
-
-loop-holds : tie.Need-loop-holds Inv-loop μ-loop
-loop-holds c = (omega arith, omega (arith, c .least .ensures), refl)
 
 returns : tie.Need-returns Inv-loop μ-loop
 returns c =
@@ -49,21 +40,13 @@ returns-2 c =
     sym (key-missed (a .memory .now) (a .i) (a .sequence) _ n (rw e at (start .loop .inv .2)))
 
 pub has-key-spec : {M : Type 1} → statement M
-has-key-spec =
-    tie.close
-    (tie.spec
+has-key-spec = tie.close (tie.spec
     Inv-loop
     μ-loop
-    (λ c. search needs)
-    (λ c κs. search needs)
-    (λ c κs. search needs)
-    (λ c. search needs)
-    (λ c. search needs)
-    loop-holds
-    (λ c. search needs)
-    (λ c κs. search needs)
+    (λ c. search needs) (λ c κs. search needs) (λ c κs. search needs) (λ c. search needs) (λ c. search needs)
+    (λ c. (omega arith, omega (arith, c .least .ensures), refl))
+    (λ c. search needs) (λ c κs. search needs)
     returns
-    (λ c. search needs)
-    (λ c. search needs)
+    (λ c. search needs) (λ c. search needs)
     loop-again
     returns-2)

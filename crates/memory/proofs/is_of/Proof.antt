@@ -1,6 +1,5 @@
 -- `memory::is_of` meets its contract. Assumes nothing.
-use mathlib.Core.Path.{sym, _∙_}
-use borrow.Author.Needs.{needs}
+use Rattle.wire.proofs.Basics.{_∙_, sym, needs}
 use Rattle.memory.proofs.Loops.{of-other, of-by}
 use Rattle.memory.proofs.is_of.Statement.{statement}
 use Rattle.memory.proofs.is_of.Tie as tie

@@ -1,7 +1,5 @@
 -- `memory::is_remembered` meets its contract. Assumes nothing.
-use mathlib.Core.Path.{sym}
-use borrow.Author.Tests.{not-true}
-use borrow.Author.Needs.{needs}
+use Rattle.wire.proofs.Basics.{sym, not-true, needs}
 use Rattle.memory.proofs.Views.{known-there, known-nowhere}
 use Rattle.memory.proofs.is_remembered.Statement.{statement}
 use Rattle.memory.proofs.is_remembered.Tie as tie

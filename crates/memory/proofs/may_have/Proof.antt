@@ -1,10 +1,5 @@
 -- `memory::may_have` meets its contract. The loop's invariant: while no low half was seen, none of the j sequences passed is the one. Assumes nothing.
-use mathlib.Core.Path.{_≡_}
-use mathlib.Core.Bool.{false}
-use Prim.Native.Nat.{ℕ, _+_, _-_, _≤_, _<_}
-use native.Mathlib.Omega.{arith}
-use lib.ListN.{getD}
-use borrow.Author.Needs.{needs}
+use Rattle.wire.proofs.Basics.{_≡_, ℕ, _≤_, _+_, _<_, _-_, false, getD, arith, needs}
 use Rattle.steps.specs.Limits.{keysEach}
 use Rattle.memory.specs.Words.{sequencesAt}
 use Rattle.memory.proofs.Loops.{seen-more, key-nowhere}
@@ -17,9 +12,6 @@ Inv-loop memory i sequence a low seen₀ j₀ seen j =
 
 abbrev μ-loop : tie.MeasureT-loop
 μ-loop memory i sequence a low seen₀ j₀ seen j = keysEach - j
-
-loop-holds : tie.Need-loop-holds Inv-loop μ-loop
-loop-holds c = (omega arith, λ e k h. absurd (omega arith))
 
 loop-again : tie.Need-loop-again Inv-loop μ-loop
 loop-again c =
@@ -36,20 +28,11 @@ returns c =
     λ e. key-nowhere (a .memory .now) (a .i) (a .sequence) (λ j h. l .inv .1 e j (omega (arith, l .inv .0)))
 
 pub may-have-spec : {M : Type 1} → statement M
-may-have-spec =
-    tie.close
-    (tie.spec
+may-have-spec = tie.close (tie.spec
     Inv-loop
     μ-loop
-    (λ c. search needs)
-    (λ c. search needs)
-    (λ c κs. search needs)
-    loop-holds
-    (λ c. search needs)
-    (λ c. search needs)
-    (λ c. search needs)
-    (λ c κs. search needs)
-    (λ c. search needs)
-    (λ c. search needs)
+    (λ c. search needs) (λ c. search needs) (λ c κs. search needs)
+    (λ c. (omega arith, λ e k h. absurd (omega arith)))
+    (λ c. search needs) (λ c. search needs) (λ c. search needs) (λ c κs. search needs) (λ c. search needs) (λ c. search needs)
     loop-again
     returns)

@@ -1,9 +1,5 @@
 -- `memory::own_place` meets its contract. The loop's invariant: none of the i places passed is the sender's. Assumes nothing.
-use mathlib.Core.Path.{_≡_, sym, _∙_}
-use mathlib.Core.Bool.{false}
-use Prim.Native.Nat.{ℕ, _-_, _≤_, _<_}
-use native.Mathlib.Omega.{arith}
-use borrow.Author.Needs.{needs}
+use Rattle.wire.proofs.Basics.{_∙_, sym, _≡_, ℕ, _≤_, _<_, _-_, false, arith, needs}
 use borrow.Author.Count.{below-more}
 use Rattle.steps.specs.Limits.{sendersMost}
 use Rattle.steps.specs.Memory.{isOf}
@@ -17,9 +13,6 @@ Inv-loop memory sender i₀ i = (i ≤ sendersMost) × ((j : ℕ) → j < i → 
 
 abbrev μ-loop : tie.MeasureT-loop
 μ-loop memory sender i₀ i = sendersMost - i
-
-loop-holds : tie.Need-loop-holds Inv-loop μ-loop
-loop-holds c = (omega arith, λ j h. absurd (let z : ⊥ = omega arith in z))
 
 returns : tie.Need-returns Inv-loop μ-loop
 returns c =
@@ -42,15 +35,12 @@ returns-2 c =
     found-none (isOf (a .sender)) (a .memory .now) (λ j h. l .inv .1 j (omega arith))
 
 pub own-place-spec : {M : Type 1} → statement M
-own-place-spec =
-    tie.close
-    (tie.spec
+own-place-spec = tie.close (tie.spec
     Inv-loop
     μ-loop
-    loop-holds
+    (λ c. (omega arith, λ j h. absurd (let z : ⊥ = omega arith in z)))
     (λ c κs. search needs)
     returns
-    (λ c. search needs)
-    (λ c. search needs)
+    (λ c. search needs) (λ c. search needs)
     loop-again
     returns-2)

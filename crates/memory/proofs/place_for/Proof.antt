@@ -1,6 +1,5 @@
 -- `memory::place_for` meets its contract. Assumes nothing.
-use mathlib.Core.Path.{_∙_, ap}
-use borrow.Author.Needs.{needs}
+use Rattle.wire.proofs.Basics.{_∙_, ap, needs}
 use Rattle.steps.specs.Limits.{sendersMost}
 use Rattle.ranks.specs.Ranks.{lowestRanked}
 use Rattle.ranks.specs.declared.Ranked.{Ranked}
@@ -28,13 +27,10 @@ returns-3 c =
     (c .lowest-ranked .ensures ∙ ap (λ (p : Ranked). lowestRanked (a .memory .now) p sendersMost) (c .before .turns .ensures))
 
 pub place-for-spec : {M : Type 1} → statement M
-place-for-spec =
-    tie.close
-    (tie.spec
+place-for-spec = tie.close (tie.spec
     (λ c κs. search needs)
     returns
     (λ c κs. search needs)
     returns-2
-    (λ c κs. search needs)
-    (λ c κs. search needs)
+    (λ c κs. search needs) (λ c κs. search needs)
     returns-3)

@@ -1,15 +1,10 @@
 -- `memory::remember` meets its contract. Assumes nothing.
-use mathlib.Core.Path.{sym, _∙_, ap}
-use borrow.Author.Needs.{needs}
-use lib.ListN.{length}
+use Rattle.wire.proofs.Basics.{_∙_, sym, ap, length, needs}
 use Rattle.memory.specs.Words.{memoryIn}
 use Rattle.memory.specs.InsideParts.{addedIn}
 use Rattle.memory.proofs.Views.{stays, left, for-inside, settled-length, remembered-memory, remembered-length}
 use Rattle.memory.proofs.remember.Statement.{statement}
 use Rattle.memory.proofs.remember.Tie as tie
-
-returns : tie.Need-returns
-returns c = stays (c .before .before .args .memory .now) _ (c .if1 .taken)
 
 count-of-requires : tie.Need-count-of-requires
 count-of-requires c κs =
@@ -49,10 +44,8 @@ returns-2 c =
     left w _ _ e (ap memoryIn u ∙ remembered-memory w e s q i n p (counted .count-of .ensures)) (ap length u ∙ remembered-length w e s q i n (for-inside w s i p) ∙ sym e)
 
 pub remember-spec : {M : Type 1} → statement M
-remember-spec =
-    tie.close
-    (tie.spec
-    returns
+remember-spec = tie.close (tie.spec
+    (λ c. stays (c .before .before .args .memory .now) _ (c .if1 .taken))
     (λ c κs. search needs)
     count-of-requires
     settle-requires

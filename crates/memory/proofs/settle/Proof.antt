@@ -1,6 +1,5 @@
 -- `memory::settle` meets its contract. Assumes nothing.
-use mathlib.Core.Path.{_∙_}
-use borrow.Author.Needs.{needs}
+use Rattle.wire.proofs.Basics.{_∙_, needs}
 use Rattle.memory.specs.InsideParts.{settledIn}
 use Rattle.memory.proofs.settle.Statement.{statement}
 use Rattle.memory.proofs.settle.Tie as tie
@@ -16,16 +15,7 @@ returns c =
     sender .put-word2 .ensures ∙ rw (turn .put-word .ensures, lowered .lower-ranks .ensures, ranks .turns .ensures, first .word .ensures)
 
 pub settle-spec : {M : Type 1} → statement M
-settle-spec =
-    tie.close
-    (tie.spec
-    (λ c. search needs)
-    (λ c κs. search needs)
-    (λ c κs. search needs)
-    (λ c κs. search needs)
-    (λ c. search needs)
-    (λ c. search needs)
-    (λ c κs. search needs)
-    (λ c κs. search needs)
-    (λ c. search needs)
+settle-spec = tie.close (tie.spec
+    (λ c. search needs) (λ c κs. search needs) (λ c κs. search needs) (λ c κs. search needs) (λ c. search needs) (λ c. search needs) (λ c κs. search needs)
+    (λ c κs. search needs) (λ c. search needs)
     returns)

@@ -1,9 +1,5 @@
 -- `memory::shift` meets its contract. The loop's invariant: the first i numbers have taken the next one's place. Assumes nothing.
-use mathlib.Core.Path.{_≡_, refl}
-use Prim.Native.Nat.{_-_, _≤_}
-use native.Mathlib.Omega.{arith}
-use lib.ListN.{length, length-set}
-use borrow.Author.Needs.{needs}
+use Rattle.wire.proofs.Basics.{_≡_, refl, _≤_, _-_, length, length-set, arith, needs}
 use Rattle.steps.specs.Limits.{keysEach}
 use Rattle.memory.specs.InsideParts.{shiftedIn}
 use Rattle.memory.proofs.Loops.{shifted-none, shifted-more}
@@ -27,31 +23,18 @@ loop-again c =
     let a = c .before .before .before .args in
     (omega arith, simp length-set (l .inv .1), shifted-more (a .memory .now) (l .memory) _ (a .a) (l .i) _ (l .inv .2) refl refl)
 
-same-length : tie.Need-same-length Inv-loop μ-loop
-same-length c = c .before .loop .inv .1
-
 returns : tie.Need-returns Inv-loop μ-loop
 returns c =
     let e : c .before .loop .i ≡ keysEach - 1 = omega arith in
     rw e at (c .before .loop .inv .2)
 
 pub shift-spec : {M : Type 1} → statement M
-shift-spec =
-    tie.close
-    (tie.spec
+shift-spec = tie.close (tie.spec
     Inv-loop
     μ-loop
     loop-holds
-    (λ c. search needs)
-    (λ c. search needs)
-    (λ c. search needs)
-    (λ c. search needs)
-    (λ c. search needs)
-    (λ c. search needs)
-    (λ c. search needs)
-    (λ c. search needs)
-    (λ c. search needs)
-    (λ c. search needs)
+    (λ c. search needs) (λ c. search needs) (λ c. search needs) (λ c. search needs) (λ c. search needs) (λ c. search needs) (λ c. search needs)
+    (λ c. search needs) (λ c. search needs) (λ c. search needs)
     loop-again
-    same-length
+    (λ c. c .before .loop .inv .1)
     returns)

@@ -1,7 +1,5 @@
 -- What is wrong with message blocks: the type, then the walk. Assumes nothing.
-use mathlib.Core.Path.{sym, _∙_}
-use borrow.Author.Tests.{not-true, not-false}
-use borrow.Author.Needs.{needs}
+use Rattle.wire.proofs.Basics.{_∙_, sym, not-false, not-true, needs}
 use Rattle.moss.proofs.Faults.{fault-type, fault-broken, fault-filled}
 use Rattle.moss.proofs.block_fault.Statement.{statement}
 use Rattle.moss.proofs.block_fault.Tie as tie
@@ -11,9 +9,6 @@ returns c =
     let at-is-known = c .before in
     let a = at-is-known .before .before .args in
     sym (fault-type (a .kind) (a .blocks .now) (sym (at-is-known .is-known .ensures) ∙ not-true _ (c .if1 .taken)))
-
-enum-told : tie.Need-enum-told
-enum-told c = search needs
 
 returns-2 : tie.Need-returns-2
 returns-2 c =
@@ -36,4 +31,4 @@ returns-3 c =
 pub block-fault-spec : {M : Type 1} → statement M
 block-fault-spec =
     tie.close
-    (tie.spec (λ c κs. search needs) returns (λ c κs. search needs) enum-told (λ c. search needs) returns-2 returns-3)
+    (tie.spec (λ c κs. search needs) returns (λ c κs. search needs) (λ c. search needs) (λ c. search needs) returns-2 returns-3)

@@ -1,9 +1,5 @@
 -- What a packet says, refusals 50, 51, 52 first. Assumes nothing.
-use mathlib.Core.Path.{_≡_, sym, ap, _∙_}
-use Prim.Native.Nat.{_≤_}
-use borrow.Author.Tests.{not-true, not-false}
-use borrow.Author.Needs.{needs}
-use lib.ListN.{length}
+use Rattle.wire.proofs.Basics.{_∙_, sym, _≡_, ap, _≤_, length, not-false, not-true, needs}
 use Rattle.moss.specs.Limits.{headLength}
 use Rattle.moss.specs.Packet.{lengthIn}
 use Rattle.moss.specs.InsideWalk.{looked}
@@ -17,9 +13,6 @@ whole c = c .before .before .if1 .left
 
 true-length : (c : tie.Else2) → let b = c .before .before .before .before .args .p .now in lengthIn b ≡ length b
 true-length c = sym (c .before .number .ensures .value) ∙ c .if2 .left
-
-returns : tie.Need-returns
-returns c = let a = c .before .before .args in ap (looked (a .n)) (sym (packet-short (a .p .now) (c .if1 .taken)))
 
 returns-2 : tie.Need-returns-2
 returns-2 c =
@@ -56,15 +49,12 @@ returns-5 c =
     (sym (packet-held (a .p .now) (whole s) (true-length s) (f .if3 .left) (sym (k .before .is-known .ensures) ∙ not-false _ (k .if4 .left))))
 
 pub look-spec : {M : Type 1} → statement M
-look-spec =
-    tie.close
-    (tie.spec
-    returns
+look-spec = tie.close (tie.spec
+    (λ c. let a = c .before .before .args in ap (looked (a .n)) (sym (packet-short (a .p .now) (c .if1 .taken))))
     (λ c κs. search needs)
     returns-2
     returns-3
-    (λ c. search needs)
-    (λ c κs. search needs)
+    (λ c. search needs) (λ c κs. search needs)
     returns-4
     (λ c κs. search needs)
     returns-5)

@@ -1,15 +1,10 @@
 -- A packet of known type. Assumes nothing.
-use mathlib.Core.Path.{sym, _∙_}
-use borrow.Author.Needs.{needs}
-use lib.ListN.{drop}
+use Rattle.wire.proofs.Basics.{_∙_, sym, drop, needs}
 use Rattle.moss.specs.Limits.{headLength}
 use Rattle.moss.specs.Packet.{sessionPlace, carried}
 use Rattle.moss.proofs.Looks.{look-broken, look-filled}
 use Rattle.moss.proofs.look_inside.Statement.{statement}
 use Rattle.moss.proofs.look_inside.Tie as tie
-
-enum-told : tie.Need-enum-told
-enum-told c = search needs
 
 returns : tie.Need-returns
 returns c =
@@ -34,4 +29,4 @@ returns-2 c =
 pub look-inside-spec : {M : Type 1} → statement M
 look-inside-spec =
     tie.close
-    (tie.spec (λ c κs. search needs) (λ c. search needs) enum-told returns (λ c κs. search needs) returns-2)
+    (tie.spec (λ c κs. search needs) (λ c. search needs) (λ c. search needs) returns (λ c κs. search needs) returns-2)

@@ -1,14 +1,10 @@
 -- The n-th message is the part at its place. Assumes nothing.
-use mathlib.Core.Path.{sym, ap, _∙_}
-use borrow.Author.Needs.{needs}
+use Rattle.wire.proofs.Basics.{_∙_, sym, ap, needs}
 use Rattle.moss.specs.Packet.{packetOf}
 use Rattle.moss.specs.Answers.{locates}
 use Rattle.moss.proofs.Parts.{message-part, message-none}
 use Rattle.moss.proofs.message.Statement.{statement}
 use Rattle.moss.proofs.message.Tie as tie
-
-enum-told : tie.Need-enum-told
-enum-told c = search needs
 
 returns : tie.Need-returns
 returns c =
@@ -29,13 +25,8 @@ returns-2 c =
     c .part2 .ensures ∙ sym (message-none (packetOf (a .p .now)) (a .n) _ (sym (k .message-place .ensures) ∙ ap locates (l .given .1)))
 
 pub message-spec : {M : Type 1} → statement M
-message-spec =
-    tie.close
-    (tie.spec
-    (λ c κs. search needs)
-    (λ c. search needs)
-    (λ c κs. search needs)
-    enum-told
-    (λ c κs. search needs)
+message-spec = tie.close (tie.spec
+    (λ c κs. search needs) (λ c. search needs) (λ c κs. search needs)
+    (λ c. search needs) (λ c κs. search needs)
     returns
     returns-2)

@@ -1,6 +1,5 @@
 -- Where the n-th message stands. Assumes nothing.
-use mathlib.Core.Path.{sym, ap, _∙_}
-use borrow.Author.Needs.{needs}
+use Rattle.wire.proofs.Basics.{_∙_, sym, ap, needs}
 use Rattle.moss.specs.Packet.{Given, Packet, packetOf}
 use Rattle.moss.specs.Message.{placeIn}
 use Rattle.moss.proofs.Looks.{looked-place, looked-refused}

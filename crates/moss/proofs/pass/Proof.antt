@@ -1,14 +1,7 @@
 -- Past one block. Assumes nothing.
-use borrow.Author.Tests.{eq-eqb, ne-eqb}
-use borrow.Author.Needs.{needs}
+use Rattle.wire.proofs.Basics.{eq-eqb, ne-eqb, needs}
 use Rattle.moss.proofs.pass.Statement.{statement}
 use Rattle.moss.proofs.pass.Tie as tie
 
-returns : tie.Need-returns
-returns c = rw (eq-eqb _ _ (c .if1 .taken))
-
-returns-2 : tie.Need-returns-2
-returns-2 c = rw (ne-eqb _ _ (c .if1 .left))
-
 pub pass-spec : {M : Type 1} → statement M
-pass-spec = tie.close (tie.spec (λ c. search needs) (λ c. search needs) returns (λ c. search needs) returns-2)
+pass-spec = tie.close (tie.spec (λ c. search needs) (λ c. search needs) (λ c. rw (eq-eqb _ _ (c .if1 .taken))) (λ c. search needs) (λ c. rw (ne-eqb _ _ (c .if1 .left))))

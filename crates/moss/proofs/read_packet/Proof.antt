@@ -1,6 +1,5 @@
 -- What a packet says. Assumes nothing.
-use mathlib.Core.Path.{sym, ap, _∙_}
-use borrow.Author.Needs.{needs}
+use Rattle.wire.proofs.Basics.{_∙_, sym, ap, needs}
 use Rattle.moss.specs.Packet.{packetOf}
 use Rattle.moss.specs.Answers.{headersOf}
 use Rattle.moss.proofs.Looks.{looked-head, looked-refused}

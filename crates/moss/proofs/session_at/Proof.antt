@@ -1,9 +1,5 @@
 -- Ten bytes of a slice by value. Assumes nothing.
-use mathlib.Core.Path.{ap, _∙_}
-use native.Mathlib.Omega.{arith}
-use lib.ListN.{length, drop, replicate, length-drop}
-use lib.Seq.{take-all}
-use borrow.Author.Needs.{needs}
+use Rattle.wire.proofs.Basics.{_∙_, ap, length, drop, length-drop, replicate, take-all, arith, needs}
 use Rattle.wire.specs.Overlay.{overlay}
 use Rattle.moss.specs.Limits.{sessionLength}
 use Rattle.moss.proofs.session_at.Statement.{statement}

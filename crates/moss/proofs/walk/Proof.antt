@@ -1,9 +1,5 @@
 -- The walk over the blocks: at each turn what is walked is what was passed and the messages of what is left. Assumes nothing.
-use Prim.Native.Nat.{_+_, _-_, _≤_}
-use mathlib.Core.Path.{_≡_, refl, sym, _∙_, ap}
-use native.Mathlib.Omega.{arith}
-use lib.ListN.{length, drop}
-use borrow.Author.Needs.{needs}
+use Rattle.wire.proofs.Basics.{_∙_, sym, _≡_, ap, refl, _≤_, _+_, _-_, length, drop, arith, needs}
 use Rattle.moss.specs.Blocks.{messagesIn}
 use Rattle.moss.specs.InsideWalk.{start, walked}
 use Rattle.moss.specs.declared.Trail.{Trail}
@@ -18,12 +14,6 @@ Inv-loop b from n t₀ at₀ t at =
 abbrev μ-loop : tie.MeasureT-loop
 μ-loop b from n t₀ at₀ t at = length b - at
 
-loop-holds : tie.Need-loop-holds Inv-loop μ-loop
-loop-holds c = (omega arith, refl)
-
-add-if1 : tie.Need-add-if1 Inv-loop μ-loop
-add-if1 c = omega (arith, c .size-at .ensures .1)
-
 returns : tie.Need-returns Inv-loop μ-loop
 returns c =
     let at-size-at = c .before in
@@ -33,12 +23,6 @@ returns c =
     let l = turn .loop in
     let a = start .args in
     sym (l .inv .1 ∙ walk-broken (a .b .now) (l .t) (a .n) (l .at) (at-loop-test .loop-test .taken) _ (at-size-at .size-at .ensures .0) (c .if1 .taken))
-
-pass-requires : tie.Need-pass-requires Inv-loop μ-loop
-pass-requires c κs = (c .before .before .before .loop .inv .0, omega arith)
-
-add-at : tie.Need-add-at Inv-loop μ-loop
-add-at c = omega (arith, c .before .before .size-at .ensures .1)
 
 loop-again : tie.Need-loop-again Inv-loop μ-loop
 loop-again c =
@@ -66,19 +50,15 @@ returns-2 c =
     sym (l .inv .1 ∙ walk-end (a .b .now) (l .t) (a .n) (l .at) (c .loop-test .left))
 
 pub walk-spec : {M : Type 1} → statement M
-walk-spec =
-    tie.close
-    (tie.spec
+walk-spec = tie.close (tie.spec
     Inv-loop
     μ-loop
-    loop-holds
-    (λ c κs. search needs)
-    (λ c. search needs)
-    add-if1
+    (λ c. (omega arith, refl))
+    (λ c κs. search needs) (λ c. search needs)
+    (λ c. omega (arith, c .size-at .ensures .1))
     returns
-    pass-requires
-    add-at
-    (λ c. omega arith)
-    (λ c. omega arith)
+    (λ c κs. (c .before .before .before .loop .inv .0, omega arith))
+    (λ c. omega (arith, c .before .before .size-at .ensures .1))
+    (λ c. omega arith) (λ c. omega arith)
     loop-again
     returns-2)

@@ -1,16 +1,9 @@
 -- What a packet of a type carries. Assumes nothing.
-use mathlib.Core.Path.{sym, ap}
-use lib.ListN.{drop, length-drop}
-use borrow.Author.Tests.{eq-eqb, ne-eqb}
-use native.Mathlib.Omega.{arith}
-use borrow.Author.Needs.{needs}
+use Rattle.wire.proofs.Basics.{sym, ap, drop, length-drop, eq-eqb, ne-eqb, arith, needs}
 use Rattle.moss.specs.InsideWalk.{start, walked}
 use Rattle.moss.proofs.MessageTurn.{nothing-inside, nothing-at-end}
 use Rattle.moss.proofs.walk_kind.Statement.{statement}
 use Rattle.moss.proofs.walk_kind.Tie as tie
-
-returns : tie.Need-returns
-returns c = rw (eq-eqb _ _ (c .before .if1 .taken)) (c .walk .ensures)
 
 returns-2 : tie.Need-returns-2
 returns-2 c =
@@ -29,4 +22,4 @@ returns-3 c =
     (sym (ap (walked start (a .n) (a .from)) (nothing-at-end (a .b .now) (a .from) (c .if2 .left))))
 
 pub walk-kind-spec : {M : Type 1} → statement M
-walk-kind-spec = tie.close (tie.spec (λ c κs. search needs) returns returns-2 returns-3)
+walk-kind-spec = tie.close (tie.spec (λ c κs. search needs) (λ c. rw (eq-eqb _ _ (c .before .if1 .taken)) (c .walk .ensures)) returns-2 returns-3)

@@ -1,9 +1,5 @@
 -- One block at a place of the output. Assumes nothing.
-use mathlib.Core.Path.{sym, ap, _∙_}
-use Prim.Native.Nat.{ℕ, _+_}
-use native.Mathlib.Omega.{arith}
-use lib.ListN.{length}
-use borrow.Author.Needs.{needs}
+use Rattle.wire.proofs.Basics.{_∙_, sym, ap, ℕ, _+_, length, arith, needs}
 use Rattle.wire.specs.Bytes.{bytes}
 use Rattle.wire.specs.Overlay.{overlay}
 use Rattle.wire.proofs.Numbers.{length-bytes}
@@ -42,16 +38,9 @@ returns-3 c =
     record { answer = sym e; output = put ∙ sym both ∙ ap (λ (g : Given ℕ). outputOf g (a .out .now) (a .at) (block m)) (sym e) }
 
 pub lay-block-spec : {M : Type 1} → statement M
-lay-block-spec =
-    tie.close
-    (tie.spec
+lay-block-spec = tie.close (tie.spec
     returns
-    (λ c κs. search needs)
-    (λ c. search needs)
+    (λ c κs. search needs) (λ c. search needs)
     returns-2
-    (λ c κs. search needs)
-    (λ c. search needs)
-    (λ c κs. search needs)
-    (λ c. search needs)
-    (λ c. search needs)
+    (λ c κs. search needs) (λ c. search needs) (λ c κs. search needs) (λ c. search needs) (λ c. search needs)
     returns-3)

@@ -1,9 +1,5 @@
 -- How long a packet is, or why there is none. Assumes nothing.
-use mathlib.Core.Path.{sym, _∙_}
-use Prim.Native.Nat.{_+_, _≤_}
-use native.Mathlib.Omega.{arith}
-use lib.ListN.{length}
-use borrow.Author.Needs.{needs}
+use Rattle.wire.proofs.Basics.{_∙_, sym, _≤_, _+_, length, arith, needs}
 use Rattle.moss.specs.Limits.{headLength, maxPacket}
 use Rattle.moss_writer.proofs.Plans.{written-long, written-fault, written-good, room-short, room-enough}
 use Rattle.moss_writer.proofs.plan.Statement.{statement}

@@ -1,7 +1,5 @@
 -- The bytes of a packet, field by field. Assumes nothing.
-use native.Mathlib.Omega.{arith}
-use lib.ListN.{length-append}
-use borrow.Author.Needs.{needs}
+use Rattle.wire.proofs.Basics.{length-append, arith, needs}
 use Rattle.wire.proofs.Numbers.{length-bytes}
 use Rattle.wire.proofs.Overlays.{overlay-next}
 use Rattle.moss_writer.specs.Write.{packetBytes}
@@ -24,15 +22,7 @@ returns c =
     overlay-next d _ _ _ _ 19 w3 (simp (length-append, length-bytes) (omega (arith, s .good))) (e .put-bytes2 .ensures)
 
 pub put-packet-spec : {M : Type 1} → statement M
-put-packet-spec =
-    tie.close
-    (tie.spec
-    (λ c. search needs)
-    (λ c κs. search needs)
-    (λ c. search needs)
-    (λ c κs. search needs)
-    (λ c κs. search needs)
-    (λ c κs. search needs)
-    (λ c κs. search needs)
+put-packet-spec = tie.close (tie.spec
+    (λ c. search needs) (λ c κs. search needs) (λ c. search needs) (λ c κs. search needs) (λ c κs. search needs) (λ c κs. search needs) (λ c κs. search needs)
     (λ c. search needs)
     returns)

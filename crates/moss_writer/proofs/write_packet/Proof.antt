@@ -1,17 +1,11 @@
 -- A packet at the start of the output, or a refusal, which writes nothing. Assumes nothing.
-use mathlib.Core.Path.{sym, ap, _∙_}
-use Prim.Native.Nat.{ℕ}
-use native.Mathlib.Omega.{arith}
-use borrow.Author.Needs.{needs}
+use Rattle.wire.proofs.Basics.{_∙_, sym, ap, ℕ, arith, needs}
 use Rattle.moss.specs.Packet.{Given}
 use Rattle.moss_writer.specs.Write.{writes}
 use Rattle.moss_writer.specs.Write.{packetBytes, outputOf}
 use Rattle.moss_writer.proofs.Plans.{written-makes}
 use Rattle.moss_writer.proofs.write_packet.Statement.{statement}
 use Rattle.moss_writer.proofs.write_packet.Tie as tie
-
-enum-told : tie.Need-enum-told
-enum-told c = search needs
 
 returns : tie.Need-returns
 returns c =
@@ -45,4 +39,4 @@ returns-2 c =
 pub write-packet-spec : {M : Type 1} → statement M
 write-packet-spec =
     tie.close
-    (tie.spec (λ c κs. search needs) enum-told (λ c. search needs) returns put-packet-requires (λ c. search needs) returns-2)
+    (tie.spec (λ c κs. search needs) (λ c. search needs) (λ c. search needs) returns put-packet-requires (λ c. search needs) returns-2)

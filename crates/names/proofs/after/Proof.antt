@@ -1,10 +1,7 @@
 -- `names::after` meets its contract. Assumes nothing.
-use borrow.Author.Needs.{needs}
+use Rattle.wire.proofs.Basics.{needs}
 use Rattle.names.proofs.after.Statement.{statement}
 use Rattle.names.proofs.after.Tie as tie
 
-returns : tie.Need-returns
-returns c = rw (c .before .low-after .ensures, c .high-after .ensures)
-
 pub after-spec : {M : Type 1} → statement M
-after-spec = tie.close (tie.spec (λ c κs. search needs) (λ c κs. search needs) returns)
+after-spec = tie.close (tie.spec (λ c κs. search needs) (λ c κs. search needs) (λ c. rw (c .before .low-after .ensures, c .high-after .ensures)))

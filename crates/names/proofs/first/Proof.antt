@@ -1,11 +1,7 @@
 -- `names::first` meets its contract. Assumes nothing.
-use mathlib.Core.Path.{sym, _∙_}
-use borrow.Author.Needs.{needs}
+use Rattle.wire.proofs.Basics.{_∙_, sym, needs}
 use Rattle.names.proofs.first.Statement.{statement}
 use Rattle.names.proofs.first.Tie as tie
-
-returns : tie.Need-returns
-returns c = rw (sym (c .before .within .ensures) ∙ c .if1 .taken)
 
 returns-2 : tie.Need-returns-2
 returns-2 c =
@@ -45,18 +41,13 @@ returns-5 c =
     rw (a, b, d, sym (asked4 .within4 .ensures) ∙ c .if4 .left)
 
 pub first-spec : {M : Type 1} → statement M
-first-spec =
-    tie.close
-    (tie.spec
+first-spec = tie.close (tie.spec
     (λ c κs. search needs)
-    returns
-    (λ c κs. search needs)
-    (λ c κs. search needs)
+    (λ c. rw (sym (c .before .within .ensures) ∙ c .if1 .taken))
+    (λ c κs. search needs) (λ c κs. search needs)
     returns-2
-    (λ c κs. search needs)
-    (λ c κs. search needs)
+    (λ c κs. search needs) (λ c κs. search needs)
     returns-3
-    (λ c κs. search needs)
-    (λ c κs. search needs)
+    (λ c κs. search needs) (λ c κs. search needs)
     returns-4
     returns-5)

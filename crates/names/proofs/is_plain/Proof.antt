@@ -1,12 +1,7 @@
 -- `names::is_plain` meets its contract. The loop's invariant: the bytes passed lead back to the start. Assumes nothing.
-use mathlib.Core.Path.{_≡_, refl, sym, _∙_}
-use Prim.Native.Nat.{ℕ, _-_, _≤_}
-use native.Mathlib.Omega.{arith}
-use lib.ListN.{length, drop}
-use borrow.Author.Tests.{not-false}
+use Rattle.wire.proofs.Basics.{_∙_, sym, _≡_, refl, ℕ, _≤_, _-_, length, drop, not-false, arith, needs}
 use Rattle.names.specs.Scan.{start, scan}
 use Rattle.names.proofs.Scans.{scan-end, plain-step}
-use borrow.Author.Needs.{needs}
 use Rattle.names.proofs.is_plain.Statement.{statement}
 use Rattle.names.proofs.is_plain.Tie as tie
 
@@ -15,12 +10,6 @@ Inv-loop name i₀ i = (i ≤ length name) × (scan start name ≡ scan start (d
 
 abbrev μ-loop : tie.MeasureT-loop
 μ-loop name i₀ i = length name - i
-
-loop-holds : tie.Need-loop-holds Inv-loop μ-loop
-loop-holds c = (omega arith, refl)
-
-returns : tie.Need-returns Inv-loop μ-loop
-returns c = λ e. absurd (let z : _≡_ {A = ℕ} 0 1 = cc in omega arith)
 
 loop-again : tie.Need-loop-again Inv-loop μ-loop
 loop-again c =
@@ -34,16 +23,12 @@ returns-2 c =
     λ e. l .inv .1 ∙ scan-end start (c .before .before .before .args .name .now) (l .i) (c .loop-test .left)
 
 pub is-plain-spec : {M : Type 1} → statement M
-is-plain-spec =
-    tie.close
-    (tie.spec
+is-plain-spec = tie.close (tie.spec
     Inv-loop
     μ-loop
-    loop-holds
-    (λ c. search needs)
-    (λ c κs. search needs)
-    returns
-    (λ c. search needs)
-    (λ c. search needs)
+    (λ c. (omega arith, refl))
+    (λ c. search needs) (λ c κs. search needs)
+    (λ c. λ e. absurd (let z : _≡_ {A = ℕ} 0 1 = cc in omega arith))
+    (λ c. search needs) (λ c. search needs)
     loop-again
     returns-2)

@@ -1,12 +1,7 @@
 -- `names::next` meets its contract. Assumes nothing.
-use mathlib.Core.Path.{sym, _∙_}
-use borrow.Author.Tests.{eq-eqb, ne-eqb}
-use borrow.Author.Needs.{needs}
+use Rattle.wire.proofs.Basics.{_∙_, sym, eq-eqb, ne-eqb, needs}
 use Rattle.names.proofs.next.Statement.{statement}
 use Rattle.names.proofs.next.Tie as tie
-
-returns : tie.Need-returns
-returns c = rw (eq-eqb _ _ (c .before .if1 .taken)) (c .first .ensures)
 
 returns-2 : tie.Need-returns-2
 returns-2 c =
@@ -19,4 +14,4 @@ returns-3 c =
     rw (ne-eqb _ _ (asked .before .if1 .left), sym (asked .within .ensures) ∙ c .if2 .left)
 
 pub next-spec : {M : Type 1} → statement M
-next-spec = tie.close (tie.spec (λ c κs. search needs) returns (λ c κs. search needs) (λ c. search needs) returns-2 returns-3)
+next-spec = tie.close (tie.spec (λ c κs. search needs) (λ c. rw (eq-eqb _ _ (c .before .if1 .taken)) (c .first .ensures)) (λ c κs. search needs) (λ c. search needs) returns-2 returns-3)

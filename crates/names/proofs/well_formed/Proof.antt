@@ -1,13 +1,8 @@
 -- `names::well_formed` meets its contract. The loop's invariant: what is left decides. Assumes nothing.
-use mathlib.Core.Path.{_≡_, refl, ap, sym, _∙_}
-use Prim.Native.Nat.{_+_, _≤_, _-_}
-use native.Mathlib.Omega.{arith}
-use lib.Dec.{eqb}
-use lib.ListN.{length, drop}
+use Rattle.wire.proofs.Basics.{_∙_, sym, _≡_, ap, refl, _≤_, _+_, _-_, length, drop, eqb, arith, needs}
 use Rattle.names.specs.Scan.{start, scan}
 use Rattle.names.specs.declared.Scan.{Scan}
 use Rattle.names.proofs.Scans.{scan-step, scan-end}
-use borrow.Author.Needs.{needs}
 use Rattle.names.proofs.well_formed.Statement.{statement}
 use Rattle.names.proofs.well_formed.Tie as tie
 
@@ -16,9 +11,6 @@ Inv-loop name s₀ i₀ s i = (i ≤ length name) × (scan start name ≡ scan s
 
 abbrev μ-loop : tie.MeasureT-loop
 μ-loop name s₀ i₀ s i = length name - i
-
-loop-holds : tie.Need-loop-holds Inv-loop μ-loop
-loop-holds c = (omega arith, refl)
 
 loop-again : tie.Need-loop-again Inv-loop μ-loop
 loop-again c =
@@ -35,15 +27,10 @@ returns c =
     ap (λ (s : Scan). eqb (s .left) 0) (sym (at .loop .inv .1 ∙ scan-end (at .loop .s) l (at .loop .i) (omega arith)))
 
 pub well-formed-spec : {M : Type 1} → statement M
-well-formed-spec =
-    tie.close
-    (tie.spec
+well-formed-spec = tie.close (tie.spec
     Inv-loop
     μ-loop
-    loop-holds
-    (λ c. search needs)
-    (λ c κs. search needs)
-    (λ c. search needs)
-    (λ c. search needs)
+    (λ c. (omega arith, refl))
+    (λ c. search needs) (λ c κs. search needs) (λ c. search needs) (λ c. search needs)
     loop-again
     returns)

@@ -1,13 +1,7 @@
 -- `names::within` meets its contract. Assumes nothing.
-use borrow.Author.Tests.{lt-leb, le-leb}
+use Rattle.wire.proofs.Basics.{le-leb, lt-leb}
 use Rattle.names.proofs.within.Statement.{statement}
 use Rattle.names.proofs.within.Tie as tie
 
-returns : tie.Need-returns
-returns c = rw (lt-leb _ _ (c .if1 .taken))
-
-returns-2 : tie.Need-returns-2
-returns-2 c = rw (le-leb _ _ (c .if1 .left))
-
 pub within-spec : {M : Type 1} → statement M
-within-spec = tie.close (tie.spec returns returns-2)
+within-spec = tie.close (tie.spec (λ c. rw (lt-leb _ _ (c .if1 .taken))) (λ c. rw (le-leb _ _ (c .if1 .left))))

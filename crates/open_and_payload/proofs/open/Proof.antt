@@ -1,6 +1,6 @@
 -- `open_and_payload::open` meets its contract. Assumes nothing.
 use Rattle.open_and_payload.proofs.Opening.{words-opens, names-opens, opens}
-use borrow.Author.Needs.{needs}
+use Rattle.wire.proofs.Basics.{needs}
 use Rattle.open_and_payload.proofs.open.Statement.{statement}
 use Rattle.open_and_payload.proofs.open.Tie as tie
 
@@ -31,4 +31,9 @@ returns-3 c =
     (at-put-words .put-words .ensures) (at-put-word .put-word .ensures) (at-put-word2 .put-word2 .ensures) (at-put-bytes .put-bytes .ensures)
 
 pub open-spec : {M : Type 1} → statement M
-open-spec = tie.close (tie.spec returns returns-2 (λ c. search needs) (λ c κs. search needs) (λ c κs. search needs) (λ c κs. search needs) (λ c κs. search needs) (λ c. search needs) (λ c κs. search needs) (λ c. search needs) (λ c. search needs) returns-3)
+open-spec = tie.close (tie.spec
+    returns
+    returns-2
+    (λ c. search needs) (λ c κs. search needs) (λ c κs. search needs) (λ c κs. search needs) (λ c κs. search needs) (λ c. search needs) (λ c κs. search needs)
+    (λ c. search needs) (λ c. search needs)
+    returns-3)

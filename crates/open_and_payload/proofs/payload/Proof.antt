@@ -1,14 +1,10 @@
 -- `open_and_payload::payload` meets its contract. Assumes nothing.
-use mathlib.Core.Path.{_≡_, sym, _∙_, ap}
-use mathlib.Core.List.{List}
-use Prim.Native.Nat.{ℕ}
-use lib.ListN.{take}
+use Rattle.wire.proofs.Basics.{_∙_, sym, _≡_, ap, ℕ, List, take, needs}
 use Rattle.steps.specs.declared.Answer.{Answer}
 use Rattle.steps.specs.declared.Answer.the-variants.{Delivered}
 use Rattle.steps.specs.declared.PayloadAt.{PayloadAt}
 use Rattle.steps.specs.Answers.{payloadAt, reply}
 use Rattle.open_and_payload.specs.Ends.{payloadOf}
-use borrow.Author.Needs.{needs}
 use Rattle.open_and_payload.proofs.payload.Statement.{statement}
 use Rattle.open_and_payload.proofs.payload.Tie as tie
 

@@ -1,10 +1,8 @@
 -- A number goes to a line, and from there out. Assumes nothing.
 use Rattle.text.proofs.Texts.{length-word}
-use mathlib.Core.Path.{_∙_}
-use native.Mathlib.Omega.{arith}
+use Rattle.wire.proofs.Basics.{_∙_, arith, needs}
 use Rattle.output.proofs.Zeros.{zeros}
 use Rattle.output.proofs.Sending.{pours-is, put-front}
-use borrow.Author.Needs.{needs}
 use Rattle.output.proofs.decimal_apart.Statement.{statement}
 use Rattle.output.proofs.decimal_apart.Tie as tie
 
@@ -17,13 +15,6 @@ returns c =
     pours-is (p .pour .ensures) (q .part .ensures ∙ put-front _ _ _ _ (omega (arith, zeros 128, length-word (s .args .n) (s .fits .n .fits))) (d .put-decimal .ensures))
 
 pub decimal-apart-spec : {M : Type 1} → statement M
-decimal-apart-spec =
-    tie.close
-    (tie.spec
-    (λ c. search needs)
-    (λ c κs. search needs)
-    (λ c. search needs)
-    (λ c κs. search needs)
-    (λ c κs. search needs)
-    (λ c. search needs)
+decimal-apart-spec = tie.close (tie.spec
+    (λ c. search needs) (λ c κs. search needs) (λ c. search needs) (λ c κs. search needs) (λ c κs. search needs) (λ c. search needs)
     returns)

@@ -1,5 +1,5 @@
 -- The last line, and all that is not written out yet. Assumes nothing.
-use borrow.Author.Needs.{needs}
+use Rattle.wire.proofs.Basics.{needs}
 use Rattle.output.proofs.finish.Statement.{statement}
 use Rattle.output.proofs.finish.Tie as tie
 

@@ -1,14 +1,8 @@
 -- Bytes of any number, as many at a time as there is room for. The loop's invariant: the i bytes passed went out. Assumes nothing.
-use mathlib.Core.List.{List}
-use mathlib.Core.Path.{_≡_, refl, sym, ap, _∙_}
-use Prim.Native.Nat.{ℕ, _+_, _-_, _≤_}
-use native.Mathlib.Omega.{arith}
-use lib.ListN.{length, take, drop, length-take, length-drop, take-append-drop}
-use lib.Seq.{take-add, take-length}
+use Rattle.wire.proofs.Basics.{_∙_, sym, _≡_, ap, refl, ℕ, _≤_, _+_, _-_, List, length, drop, take, length-drop, length-take, take-append-drop, take-add, take-length, arith, needs}
 use Rattle.wire.specs.Overlay.{overlay}
 use Rattle.output.specs.Output.{Pours}
 use Rattle.output.proofs.Sending.{pours-none, pours-then, pours-is, pours-at, pours-turn, pours-stuck, not-none}
-use borrow.Author.Needs.{needs}
 use Rattle.output.proofs.pour.Statement.{statement}
 use Rattle.output.proofs.pour.Tie as tie
 
@@ -17,9 +11,6 @@ Inv-loop out₀ at bytes next₀ i₀ out next i = (i ≤ length bytes) × (leng
 
 abbrev μ-loop : tie.MeasureT-loop
 μ-loop out₀ at bytes next₀ i₀ out next i = length bytes - i
-
-loop-holds : tie.Need-loop-holds Inv-loop μ-loop
-loop-holds c = let a = c .before .before .args in (omega arith, refl, pours-none (a .out .now) (a .at))
 
 returns : tie.Need-returns Inv-loop μ-loop
 returns c =
@@ -78,20 +69,13 @@ returns-2 c =
     pours-is (l .loop .inv .2) (ap (λ (k : ℕ). take k b) e ∙ take-length b)
 
 pub pour-spec : {M : Type 1} → statement M
-pour-spec =
-    tie.close
-    (tie.spec
+pour-spec = tie.close (tie.spec
     Inv-loop
     μ-loop
-    loop-holds
-    (λ c κs. search needs)
-    (λ c. search needs)
-    (λ c κs. search needs)
-    (λ c κs. search needs)
-    (λ c. search needs)
+    (λ c. let a = c .before .before .args in (omega arith, refl, pours-none (a .out .now) (a .at)))
+    (λ c κs. search needs) (λ c. search needs) (λ c κs. search needs) (λ c κs. search needs) (λ c. search needs)
     returns
-    (λ c κs. search needs)
-    (λ c κs. search needs)
+    (λ c κs. search needs) (λ c κs. search needs)
     add-next
     (λ c. search needs)
     loop-less

@@ -1,5 +1,5 @@
 -- A word and a number. Assumes nothing.
-use borrow.Author.Needs.{needs}
+use Rattle.wire.proofs.Basics.{needs}
 use Rattle.output.proofs.Sending.{pours-then}
 use Rattle.output.proofs.pour_counted.Statement.{statement}
 use Rattle.output.proofs.pour_counted.Tie as tie

@@ -1,5 +1,5 @@
 -- A word, a number and the end of the line. Assumes nothing.
-use borrow.Author.Needs.{needs}
+use Rattle.wire.proofs.Basics.{needs}
 use Rattle.output.proofs.Sending.{pours-then}
 use Rattle.output.proofs.pour_counted_line.Statement.{statement}
 use Rattle.output.proofs.pour_counted_line.Tie as tie

@@ -1,8 +1,7 @@
 -- A number in decimal: it is short. Assumes nothing.
-use native.Mathlib.Omega.{arith}
+use Rattle.wire.proofs.Basics.{arith, needs}
 use Rattle.text.proofs.Texts.{length-word}
 use Rattle.output.proofs.Sending.{pours-put}
-use borrow.Author.Needs.{needs}
 use Rattle.output.proofs.pour_decimal.Statement.{statement}
 use Rattle.output.proofs.pour_decimal.Tie as tie
 
@@ -14,17 +13,9 @@ returns c =
     let s = o .before .before in
     pours-put (omega (arith, f .if1 .taken, o .room .ensures, length-word (s .args .n) (s .fits .n .fits))) (p .put-decimal .ensures)
 
-returns-2 : tie.Need-returns-2
-returns-2 c = c .before .before .decimal-apart .ensures
-
 pub pour-decimal-spec : {M : Type 1} → statement M
-pour-decimal-spec =
-    tie.close
-    (tie.spec
-    (λ c κs. search needs)
-    (λ c κs. search needs)
-    (λ c. search needs)
+pour-decimal-spec = tie.close (tie.spec
+    (λ c κs. search needs) (λ c κs. search needs) (λ c. search needs)
     returns
-    (λ c κs. search needs)
-    (λ c. search needs)
-    returns-2)
+    (λ c κs. search needs) (λ c. search needs)
+    (λ c. c .before .before .decimal-apart .ensures))

@@ -1,13 +1,8 @@
 -- Bytes of any number in hexadecimal. The loop's invariant: the text of the i bytes passed went out. Assumes nothing.
-use mathlib.Core.Path.{_≡_, refl, sym, ap, _∙_}
-use Prim.Native.Nat.{ℕ, _≤_, _-_}
-use native.Mathlib.Omega.{arith}
-use lib.ListN.{length, take, drop, length-take}
-use lib.Seq.{take-length}
+use Rattle.wire.proofs.Basics.{_∙_, sym, _≡_, ap, refl, ℕ, _≤_, _-_, length, drop, take, length-take, take-length, arith, needs}
 use Rattle.text.specs.Text.{hex}
 use Rattle.output.specs.Output.{Pours}
 use Rattle.output.proofs.Sending.{pours-none, pours-then, pours-is, hex-more}
-use borrow.Author.Needs.{needs}
 use Rattle.output.proofs.pour_hex.Statement.{statement}
 use Rattle.output.proofs.pour_hex.Tie as tie
 
@@ -16,9 +11,6 @@ Inv-loop out₀ at bytes next₀ i₀ out next i = (i ≤ length bytes) × (leng
 
 abbrev μ-loop : tie.MeasureT-loop
 μ-loop out₀ at bytes next₀ i₀ out next i = length bytes - i
-
-loop-holds : tie.Need-loop-holds Inv-loop μ-loop
-loop-holds c = let a = c .before .before .args in (omega arith, refl, pours-none (a .out .now) (a .at))
 
 pour-piece-requires : tie.Need-pour-piece-requires Inv-loop μ-loop
 pour-piece-requires c κs =
@@ -50,18 +42,13 @@ returns c =
     pours-is (l .loop .inv .2) (ap (λ (k : ℕ). hex (take k s)) e ∙ ap hex (take-length s))
 
 pub pour-hex-spec : {M : Type 1} → statement M
-pour-hex-spec =
-    tie.close
-    (tie.spec
+pour-hex-spec = tie.close (tie.spec
     Inv-loop
     μ-loop
-    loop-holds
-    (λ c. search needs)
-    (λ c κs. search needs)
-    (λ c κs. search needs)
+    (λ c. let a = c .before .before .args in (omega arith, refl, pours-none (a .out .now) (a .at)))
+    (λ c. search needs) (λ c κs. search needs) (λ c κs. search needs)
     pour-piece-requires
-    (λ c. search needs)
-    (λ c. search needs)
+    (λ c. search needs) (λ c. search needs)
     loop-again
     (λ c. search needs)
     returns)

@@ -1,14 +1,10 @@
 -- The last line, by how the input ended. Assumes nothing.
-use mathlib.Core.Path.{sym, ap}
+use Rattle.wire.proofs.Basics.{sym, ap, needs}
 use Rattle.output.proofs.Sending.{pours-is}
 use Rattle.stream.specs.declared.Next.{Next}
 use Rattle.output.specs.Output.{lastLine}
-use borrow.Author.Needs.{needs}
 use Rattle.output.proofs.pour_last.Statement.{statement}
 use Rattle.output.proofs.pour_last.Tie as tie
-
-enum-told : tie.Need-enum-told
-enum-told c = search needs
 
 returns : tie.Need-returns
 returns c =
@@ -29,19 +25,10 @@ returns-3 c =
     pours-is (p .pour-counted-line3 .ensures) (ap (λ (e : Next). lastLine e (t .before .before .before .args .n)) (sym (t .enum-told3 .given .1)))
 
 pub pour-last-spec : {M : Type 1} → statement M
-pour-last-spec =
-    tie.close
-    (tie.spec
-    enum-told
+pour-last-spec = tie.close (tie.spec
     (λ c. search needs)
-    (λ c κs. search needs)
-    (λ c. search needs)
-    (λ c. search needs)
-    (λ c κs. search needs)
-    (λ c. search needs)
-    (λ c. search needs)
-    (λ c κs. search needs)
-    (λ c. search needs)
+    (λ c. search needs) (λ c κs. search needs) (λ c. search needs) (λ c. search needs) (λ c κs. search needs) (λ c. search needs) (λ c. search needs)
+    (λ c κs. search needs) (λ c. search needs)
     returns
     (λ c. search needs)
     returns-2

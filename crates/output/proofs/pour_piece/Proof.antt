@@ -1,7 +1,6 @@
 -- At most a piece of bytes in hexadecimal: they fill no more than a line. Assumes nothing.
-use native.Mathlib.Omega.{arith}
+use Rattle.wire.proofs.Basics.{arith, needs}
 use Rattle.output.proofs.Sending.{pours-put, length-hex}
-use borrow.Author.Needs.{needs}
 use Rattle.output.proofs.pour_piece.Statement.{statement}
 use Rattle.output.proofs.pour_piece.Tie as tie
 
@@ -13,17 +12,9 @@ returns c =
     let s = o .before .before .before in
     pours-put (omega (arith, f .if1 .taken, o .room .ensures, length-hex (s .args .bytes .now), s .pre)) (p .put-hex .ensures)
 
-returns-2 : tie.Need-returns-2
-returns-2 c = c .before .before .piece-apart .ensures
-
 pub pour-piece-spec : {M : Type 1} → statement M
-pour-piece-spec =
-    tie.close
-    (tie.spec
-    (λ c κs. search needs)
-    (λ c κs. search needs)
-    (λ c. search needs)
+pour-piece-spec = tie.close (tie.spec
+    (λ c κs. search needs) (λ c κs. search needs) (λ c. search needs)
     returns
-    (λ c κs. search needs)
-    (λ c. search needs)
-    returns-2)
+    (λ c κs. search needs) (λ c. search needs)
+    (λ c. c .before .before .piece-apart .ensures))

@@ -1,6 +1,5 @@
 -- A signed number in decimal: it is short. Assumes nothing.
-use mathlib.Core.Path.{ap}
-use native.Mathlib.Omega.{arith}
+use Rattle.wire.proofs.Basics.{ap, arith, needs}
 use mir.Syntax.{w64}
 use mir.ValLaws.{toZ-ofZ}
 use Rattle.wire.proofs.Signs.{sfits-within}
@@ -8,7 +7,6 @@ use Rattle.text.specs.Text.{signedDecimal}
 use Rattle.text.proofs.Puts.{put-is}
 use Rattle.text.proofs.Texts.{length-signed}
 use Rattle.output.proofs.Sending.{pours-put, pours-is}
-use borrow.Author.Needs.{needs}
 use Rattle.output.proofs.pour_signed.Statement.{statement}
 use Rattle.output.proofs.pour_signed.Tie as tie
 
@@ -27,13 +25,8 @@ returns-2 c =
     pours-is (p .signed-apart .ensures) (ap signedDecimal (toZ-ofZ w64 (s .args .z) (s .fits .z)))
 
 pub pour-signed-spec : {M : Type 1} → statement M
-pour-signed-spec =
-    tie.close
-    (tie.spec
-    (λ c κs. search needs)
-    (λ c κs. search needs)
-    (λ c. search needs)
+pour-signed-spec = tie.close (tie.spec
+    (λ c κs. search needs) (λ c κs. search needs) (λ c. search needs)
     returns
-    (λ c κs. search needs)
-    (λ c. search needs)
+    (λ c κs. search needs) (λ c. search needs)
     returns-2)

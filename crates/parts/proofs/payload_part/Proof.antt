@@ -1,8 +1,7 @@
 -- `parts::payload_part` meets its contract. Assumes nothing.
-use mathlib.Core.Path.{ap, _∙_}
+use Rattle.wire.proofs.Basics.{_∙_, ap, needs}
 use Rattle.datagram.specs.Read.{partOf}
 use Rattle.parts.specs.Parts.{payloadOf, payloadPlace}
-use borrow.Author.Needs.{needs}
 use Rattle.parts.proofs.payload_part.Statement.{statement}
 use Rattle.parts.proofs.payload_part.Tie as tie
 

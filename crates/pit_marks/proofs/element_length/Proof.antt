@@ -1,11 +1,6 @@
 -- By the mark's type and the type of its place. Assumes nothing.
-use mathlib.Core.Path.{sym, _∙_}
-use native.Mathlib.Omega.{arith}
-use lib.ListN.{drop}
+use Rattle.wire.proofs.Basics.{_∙_, sym, drop, arith, needs}
 use Rattle.pit_marks.proofs.ElementTurn.{length-null, length-nowhere, length-somewhere, depth-least}
-use borrow.Author.Needs.{needs}
-use mathlib.Core.Path.{sym, _∙_}
-use native.Mathlib.Omega.{arith}
 use Rattle.pit_marks.proofs.element_length.Statement.{statement}
 use Rattle.pit_marks.proofs.element_length.Tie as tie
 
@@ -35,13 +30,10 @@ returns-3 c =
     (λ e. c .if2 .left (c .before .number-at2 .ensures ∙ e))
 
 pub element-length-spec : {M : Type 1} → statement M
-element-length-spec =
-    tie.close
-    (tie.spec
+element-length-spec = tie.close (tie.spec
     (λ c κs. search needs)
     returns
-    (λ c κs. search needs)
-    (λ c κs. search needs)
+    (λ c κs. search needs) (λ c κs. search needs)
     add-result
     returns-2
     add-result-2

@@ -1,12 +1,7 @@
 -- An element, by whether it is null. Assumes nothing.
-use mathlib.Core.Path.{sym, ap, _∙_}
-use mathlib.Core.Bool.{not}
-use Prim.Native.Nat.{ℕ}
-use lib.Dec.{eqb}
-use lib.ListN.{drop}
+use Rattle.wire.proofs.Basics.{_∙_, sym, ap, ℕ, not, drop, eqb, needs}
 use Rattle.pit_marks.specs.Enters.{keyIn}
 use Rattle.pit_marks.proofs.EnteringCases.{element-null, element-mark}
-use borrow.Author.Needs.{needs}
 use Rattle.pit_marks.proofs.enter_element.Statement.{statement}
 use Rattle.pit_marks.proofs.enter_element.Tie as tie
 
@@ -26,15 +21,8 @@ returns-2 c =
     _ _ _ (p .enter-pit .ensures)
 
 pub enter-element-spec : {M : Type 1} → statement M
-enter-element-spec =
-    tie.close
-    (tie.spec
+enter-element-spec = tie.close (tie.spec
     (λ c κs. search needs)
     returns
-    (λ c κs. search needs)
-    (λ c κs. search needs)
-    (λ c κs. search needs)
-    (λ c κs. search needs)
-    (λ c. search needs)
-    (λ c. search needs)
+    (λ c κs. search needs) (λ c κs. search needs) (λ c κs. search needs) (λ c κs. search needs) (λ c. search needs) (λ c. search needs)
     returns-2)

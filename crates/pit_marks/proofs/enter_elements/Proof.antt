@@ -1,14 +1,9 @@
 -- Element by element. The loop's invariant: those from the place on, entered into what there is, are all of them entered. Assumes nothing.
-use mathlib.Core.Path.{_≡_, refl, sym, ap, _∙_}
-use mathlib.Core.List.{List, _++_}
-use Prim.Native.Nat.{ℕ, _-_}
-use native.Mathlib.Omega.{arith}
-use lib.ListN.{length, drop}
+use Rattle.wire.proofs.Basics.{_∙_, sym, _≡_, ap, refl, ℕ, _-_, List, _++_, length, drop, arith, needs}
 use Rattle.count_rules.specs.Marks.{Mark, markLength, markAt}
 use Rattle.pit_marks.specs.Enters.{enterMarks}
 use Rattle.pit_marks.proofs.EnteringCases.{as-said, then-on, then-refused, all-entered}
 use Rattle.pit_marks.proofs.ElementTurn.{takes-one, goes-on, marksFrom, marks-turn-any, marks-end}
-use borrow.Author.Needs.{needs}
 use Rattle.pit_marks.proofs.enter_elements.Statement.{statement}
 use Rattle.pit_marks.proofs.enter_elements.Tie as tie
 
@@ -18,12 +13,6 @@ Inv-loop list tile two pits₀ sure₀ now₀ place₀ pits sure now place =
 
 abbrev μ-loop : tie.MeasureT-loop
 μ-loop list tile two pits₀ sure₀ now₀ place₀ pits sure now place = length list - place
-
-loop-holds : tie.Need-loop-holds Inv-loop μ-loop
-loop-holds c = (refl, refl, refl)
-
-enum-told : tie.Need-enum-told Inv-loop μ-loop
-enum-told c = search needs
 
 returns : tie.Need-returns Inv-loop μ-loop
 returns c =
@@ -73,23 +62,16 @@ returns-2 c =
     as-said (sym (l .inv .2) ∙ ap (λ (ms : List Mark). enterMarks (a .tile) ms (l .pits) (l .sure) (l .now)) e) (all-entered (a .tile) (l .pits) (l .sure) (l .now))
 
 pub enter-elements-spec : {M : Type 1} → statement M
-enter-elements-spec =
-    tie.close
-    (tie.spec
+enter-elements-spec = tie.close (tie.spec
     Inv-loop
     μ-loop
-    loop-holds
-    (λ c κs. search needs)
-    (λ c κs. search needs)
+    (λ c. (refl, refl, refl))
+    (λ c κs. search needs) (λ c κs. search needs) (λ c. search needs)
     (λ c. search needs)
-    enum-told
-    (λ c. search needs)
-    (λ c. search needs)
+    (λ c. search needs) (λ c. search needs)
     returns
-    (λ c κs. search needs)
-    (λ c κs. search needs)
+    (λ c κs. search needs) (λ c κs. search needs)
     loop-less
     loop-again
-    (λ c. search needs)
-    (λ c. search needs)
+    (λ c. search needs) (λ c. search needs)
     returns-2)

@@ -1,12 +1,9 @@
 -- A list: its tile before its pits. Assumes nothing.
 use Rattle.pit_marks.specs.Sets.{setsOf}
 use Rattle.pit_marks.proofs.EnteringCases.{tile-full, tile-now}
-use borrow.Author.Needs.{needs}
+use Rattle.wire.proofs.Basics.{needs}
 use Rattle.pit_marks.proofs.enter_list.Statement.{statement}
 use Rattle.pit_marks.proofs.enter_list.Tie as tie
-
-enum-told : tie.Need-enum-told
-enum-told c = search needs
 
 returns : tie.Need-returns
 returns c =
@@ -27,18 +24,9 @@ returns-2 c =
     _ (m .before .before .entered .given .1) (m .number-at2 .result) (m .number-at2 .ensures) _ _ _ (k .enter-elements .ensures)
 
 pub enter-list-spec : {M : Type 1} → statement M
-enter-list-spec =
-    tie.close
-    (tie.spec
-    (λ c κs. search needs)
-    (λ c κs. search needs)
-    (λ c. search needs)
-    enum-told
-    (λ c. search needs)
+enter-list-spec = tie.close (tie.spec
+    (λ c κs. search needs) (λ c κs. search needs) (λ c. search needs)
+    (λ c. search needs) (λ c. search needs)
     returns
-    (λ c κs. search needs)
-    (λ c κs. search needs)
-    (λ c. search needs)
-    (λ c. search needs)
-    (λ c. search needs)
+    (λ c κs. search needs) (λ c κs. search needs) (λ c. search needs) (λ c. search needs) (λ c. search needs)
     returns-2)

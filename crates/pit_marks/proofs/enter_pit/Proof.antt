@@ -1,11 +1,8 @@
 -- A pit, by what entering it answers, and by whether it is sure. Assumes nothing.
 use Rattle.pit_marks.proofs.EnteringCases.{pit-full, pit-unsure, pit-sure}
-use borrow.Author.Needs.{needs}
+use Rattle.wire.proofs.Basics.{needs}
 use Rattle.pit_marks.proofs.enter_pit.Statement.{statement}
 use Rattle.pit_marks.proofs.enter_pit.Tie as tie
-
-enum-told : tie.Need-enum-told
-enum-told c = search needs
 
 returns : tie.Need-returns
 returns c =
@@ -27,17 +24,11 @@ returns-3 c =
     pit-unsure (a .is-sure) (a .x) (a .pits .now) (a .sure .now) (a .had) (p .enter .result) _ (p .enter .ensures) _ (c .before .before .entered .given .1) (c .if1 .left)
 
 pub enter-pit-spec : {M : Type 1} → statement M
-enter-pit-spec =
-    tie.close
-    (tie.spec
-    (λ c κs. search needs)
-    (λ c. search needs)
-    enum-told
-    (λ c. search needs)
+enter-pit-spec = tie.close (tie.spec
+    (λ c κs. search needs) (λ c. search needs)
+    (λ c. search needs) (λ c. search needs)
     returns
-    (λ c κs. search needs)
-    (λ c. search needs)
-    (λ c. search needs)
+    (λ c κs. search needs) (λ c. search needs) (λ c. search needs)
     returns-2
     (λ c. search needs)
     returns-3)

@@ -1,11 +1,8 @@
 -- A sure pit, by what entering it answers. Assumes nothing.
 use Rattle.pit_marks.proofs.EnteringCases.{sure-now, sure-full}
-use borrow.Author.Needs.{needs}
+use Rattle.wire.proofs.Basics.{needs}
 use Rattle.pit_marks.proofs.enter_sure.Statement.{statement}
 use Rattle.pit_marks.proofs.enter_sure.Tie as tie
-
-enum-told : tie.Need-enum-told
-enum-told c = search needs
 
 returns : tie.Need-returns
 returns c =
@@ -20,13 +17,9 @@ returns-2 c =
     sure-full (a .sure .now) (a .had) (a .x) (p .enter .result) _ (p .enter .ensures) (c .enum-told .given .1)
 
 pub enter-sure-spec : {M : Type 1} → statement M
-enter-sure-spec =
-    tie.close
-    (tie.spec
-    (λ c κs. search needs)
-    (λ c. search needs)
-    enum-told
-    (λ c. search needs)
+enter-sure-spec = tie.close (tie.spec
+    (λ c κs. search needs) (λ c. search needs)
+    (λ c. search needs) (λ c. search needs)
     returns
     (λ c. search needs)
     returns-2)

@@ -1,13 +1,7 @@
 -- A number of the list from a place on; past its end there are none. Assumes nothing.
-use mathlib.Core.Path.{sym, ap, _∙_}
-use Prim.Native.Nat.{_+_}
-use native.Mathlib.Omega.{arith}
-use lib.IntN.{pos}
+use Rattle.wire.proofs.Basics.{_∙_, sym, ap, _+_, drop, getD, length-drop, List·getD-eq-default, getD-drop, pos, arith, needs}
 use lib.Signed.{mag}
-use lib.ListN.{getD, drop, length-drop, List·getD-eq-default}
-use lib.Seq.{getD-drop}
 use Rattle.lmcp.proofs.Sizes.{through}
-use borrow.Author.Needs.{needs}
 use Rattle.pit_marks.proofs.number_at.Statement.{statement}
 use Rattle.pit_marks.proofs.number_at.Tie as tie
 
@@ -23,13 +17,7 @@ returns-2 c =
     sym (ap mag (List·getD-eq-default (drop (a .place) (a .list .now)) (pos 0) (rw (length-drop (a .place) (a .list .now)) (omega arith))))
 
 pub number-at-spec : {M : Type 1} → statement M
-number-at-spec =
-    tie.close
-    (tie.spec
-    (λ c κs. search needs)
-    (λ c. search needs)
-    (λ c. search needs)
-    (λ c. search needs)
-    (λ c κs. search needs)
+number-at-spec = tie.close (tie.spec
+    (λ c κs. search needs) (λ c. search needs) (λ c. search needs) (λ c. search needs) (λ c κs. search needs)
     returns
     returns-2)

@@ -1,11 +1,6 @@
 -- Null by null. Assumes nothing.
-use mathlib.Core.Path.{_≡_, refl, sym, _∙_}
-use mathlib.Core.Bool.{Bool}
-use Prim.Native.Nat.{_-_, _≤_}
-use native.Mathlib.Omega.{arith}
-use lib.ListN.{length}
+use Rattle.wire.proofs.Basics.{_∙_, sym, _≡_, refl, _≤_, _-_, Bool, length, arith, needs}
 use Rattle.pit_marks.proofs.ElementTurn.{marksFrom, marks-null}
-use borrow.Author.Needs.{needs}
 use Rattle.pit_marks.proofs.past_nulls.Statement.{statement}
 use Rattle.pit_marks.proofs.past_nulls.Tie as tie
 
@@ -15,12 +10,6 @@ Inv-loop list place p₀ p = (place ≤ p) × ((two : Bool) → marksFrom two li
 abbrev μ-loop : tie.MeasureT-loop
 μ-loop list place p₀ p = length list - p
 
-loop-holds : tie.Need-loop-holds Inv-loop μ-loop
-loop-holds c = (omega arith, λ two. refl)
-
-returns : tie.Need-returns Inv-loop μ-loop
-returns c = let x = c .before .before .before .loop in record { on = x .inv .0; same = x .inv .1 }
-
 loop-again : tie.Need-loop-again Inv-loop μ-loop
 loop-again c =
     let n = c .before in
@@ -29,19 +18,13 @@ loop-again c =
     let a = test .before .before .args in
     (omega (arith, x .inv .0), λ two. marks-null two (a .list .now) (x .p) (test .loop-test .taken) (sym (n .number-at .ensures) ∙ c .if1 .left) ∙ x .inv .1 two)
 
-returns-2 : tie.Need-returns-2 Inv-loop μ-loop
-returns-2 c = let x = c .before .loop in record { on = x .inv .0; same = x .inv .1 }
-
 pub past-nulls-spec : {M : Type 1} → statement M
-past-nulls-spec =
-    tie.close
-    (tie.spec
+past-nulls-spec = tie.close (tie.spec
     Inv-loop
     μ-loop
-    loop-holds
+    (λ c. (omega arith, λ two. refl))
     (λ c κs. search needs)
-    returns
-    (λ c. search needs)
-    (λ c. search needs)
+    (λ c. let x = c .before .before .before .loop in record { on = x .inv .0; same = x .inv .1 })
+    (λ c. search needs) (λ c. search needs)
     loop-again
-    returns-2)
+    (λ c. let x = c .before .loop in record { on = x .inv .0; same = x .inv .1 }))

@@ -1,11 +1,8 @@
 -- Between the place of a tile's first pit and that of the next tile's. Assumes nothing.
-use mathlib.Core.Path.{_≡_, ap, _∙_}
-use Prim.Native.Nat.{_-_, _*_, _%_}
-use native.Mathlib.Omega.{arith}
+use Rattle.wire.proofs.Basics.{_∙_, _≡_, ap, _-_, _*_, _%_, arith, needs}
 use Rattle.sorted_set.specs.Halving.{rankIn}
 use Rattle.count_rules.specs.Keys.{span, pitKey}
 use Rattle.pit_marks.specs.Lines.{pitsIn}
-use borrow.Author.Needs.{needs}
 use Rattle.pit_marks.proofs.pits_of.Statement.{statement}
 use Rattle.pit_marks.proofs.pits_of.Tie as tie
 

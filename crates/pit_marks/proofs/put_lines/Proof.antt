@@ -1,11 +1,7 @@
 -- Tile by tile. The loop's invariant: the lines of the first i tiles are laid. Assumes nothing.
-use mathlib.Core.Path.{_≡_, refl, ap, _∙_}
-use Prim.Native.Nat.{ℕ, _-_, _≤_, _<_}
-use native.Mathlib.Omega.{arith}
-use lib.ListN.{length, getD}
+use Rattle.wire.proofs.Basics.{_∙_, _≡_, ap, refl, ℕ, _≤_, _<_, _-_, length, getD, arith, needs}
 use Rattle.pit_marks.specs.Lines.{pitsIn}
 use Rattle.pit_marks.proofs.TileLines.{laid, laid-none, laid-more, laid-all}
-use borrow.Author.Needs.{needs}
 use Rattle.pit_marks.proofs.put_lines.Statement.{statement}
 use Rattle.pit_marks.proofs.put_lines.Tie as tie
 
@@ -64,22 +60,12 @@ returns c =
     }
 
 pub put-lines-spec : {M : Type 1} → statement M
-put-lines-spec =
-    tie.close
-    (tie.spec
+put-lines-spec = tie.close (tie.spec
     Inv-loop
     μ-loop
     loop-holds
-    (λ c κs. search needs)
-    (λ c κs. search needs)
-    (λ c κs. search needs)
-    (λ c κs. search needs)
-    (λ c κs. search needs)
-    (λ c κs. search needs)
-    (λ c. search needs)
-    (λ c. search needs)
+    (λ c κs. search needs) (λ c κs. search needs) (λ c κs. search needs) (λ c κs. search needs) (λ c κs. search needs) (λ c κs. search needs)
+    (λ c. search needs) (λ c. search needs)
     loop-again
-    (λ c. search needs)
-    (λ c. search needs)
-    (λ c. search needs)
+    (λ c. search needs) (λ c. search needs) (λ c. search needs)
     returns)

@@ -1,10 +1,8 @@
 -- By whether the numbers are a list's, and what entering it answers. Assumes nothing.
-use mathlib.Core.Path.{refl, sym, ap}
-use borrow.Author.Tests.{not-true, not-false}
+use Rattle.wire.proofs.Basics.{sym, ap, refl, not-false, not-true, needs}
 use Rattle.pit_marks.specs.Sets.{setsOf}
 use Rattle.pit_payloads.specs.Looks.{lookedBy}
 use Rattle.pit_payloads.proofs.PayloadCases.{no-list, is-list}
-use borrow.Author.Needs.{needs}
 use Rattle.pit_payloads.proofs.enter_numbers.Statement.{statement}
 use Rattle.pit_payloads.proofs.enter_numbers.Tie as tie
 
@@ -38,19 +36,10 @@ returns-3 c =
     _ (at-enter-list .enter-list .result) (at-enter-list .enter-list .ensures) (ap lookedBy (sym (at-taken2 .taken2 .given .1)))
 
 pub enter-numbers-spec : {M : Type 1} → statement M
-enter-numbers-spec =
-    tie.close
-    (tie.spec
+enter-numbers-spec = tie.close (tie.spec
     (λ c κs. search needs)
     returns
-    (λ c κs. search needs)
-    (λ c. search needs)
-    (λ c. search needs)
-    (λ c. search needs)
-    (λ c. search needs)
-    (λ c. search needs)
+    (λ c κs. search needs) (λ c. search needs) (λ c. search needs) (λ c. search needs) (λ c. search needs) (λ c. search needs)
     returns-2
-    (λ c. search needs)
-    (λ c. search needs)
-    (λ c. search needs)
+    (λ c. search needs) (λ c. search needs) (λ c. search needs)
     returns-3)

@@ -1,9 +1,7 @@
 -- By what the reader answers. Assumes nothing.
-use mathlib.Core.Path.{sym}
-use lib.Seq.{length-take-le}
+use Rattle.wire.proofs.Basics.{sym, length-take-le, needs}
 use Rattle.pit_marks.specs.Sets.{setsOf}
 use Rattle.pit_payloads.proofs.PayloadCases.{fewer, payload-read-to, payload-unread-to}
-use borrow.Author.Needs.{needs}
 use Rattle.pit_payloads.proofs.take_payload.Statement.{statement}
 use Rattle.pit_payloads.proofs.take_payload.Tie as tie
 
@@ -45,20 +43,11 @@ returns-2 c =
     (setsOf (a .tiles .now) (a .pits .now) (a .sure .now)) (a .had) _ _ (at-found .found2 .given .1) (c .unread .ensures)
 
 pub take-payload-spec : {M : Type 1} → statement M
-take-payload-spec =
-    tie.close
-    (tie.spec
-    (λ c κs. search needs)
-    (λ c. search needs)
+take-payload-spec = tie.close (tie.spec
+    (λ c κs. search needs) (λ c. search needs)
     slice-reshare-prefix-enter-numbers
     slice-aggregate-enter-numbers
-    (λ c κs. search needs)
-    (λ c. search needs)
-    (λ c κs. search needs)
-    (λ c. search needs)
-    (λ c. search needs)
-    (λ c. search needs)
-    (λ c. search needs)
+    (λ c κs. search needs) (λ c. search needs) (λ c κs. search needs) (λ c. search needs) (λ c. search needs) (λ c. search needs) (λ c. search needs)
     returns
     (λ c. search needs)
     returns-2)

@@ -1,13 +1,7 @@
 -- `ranks::lower_of` meets its contract. Assumes nothing.
-use borrow.Author.Tests.{lt-ltb, le-ltb}
+use Rattle.wire.proofs.Basics.{le-ltb, lt-ltb}
 use Rattle.ranks.proofs.lower_of.Statement.{statement}
 use Rattle.ranks.proofs.lower_of.Tie as tie
 
-returns : tie.Need-returns
-returns c = simp (lt-ltb _ _ (c .if1 .taken))
-
-returns-2 : tie.Need-returns-2
-returns-2 c = simp (le-ltb _ _ (c .if1 .left))
-
 pub lower-of-spec : {M : Type 1} → statement M
-lower-of-spec = tie.close (tie.spec returns returns-2)
+lower-of-spec = tie.close (tie.spec (λ c. simp (lt-ltb _ _ (c .if1 .taken))) (λ c. simp (le-ltb _ _ (c .if1 .left))))

@@ -1,6 +1,5 @@
 -- `ranks::lower_rank` meets its contract. Assumes nothing.
-use borrow.Author.Tests.{eq-eqb, ne-eqb, lt-ltb, le-ltb}
-use borrow.Author.Needs.{needs}
+use Rattle.wire.proofs.Basics.{eq-eqb, le-ltb, ne-eqb, lt-ltb, needs}
 use Rattle.ranks.proofs.lower_rank.Statement.{statement}
 use Rattle.ranks.proofs.lower_rank.Tie as tie
 

@@ -1,12 +1,8 @@
 -- `ranks::lower_ranks` meets its contract. The loop's invariant: the ranks of the i places passed are lowered, and `at` is where place i
 -- begins, or the end. Assumes nothing.
-use mathlib.Core.Path.{_≡_, sym, _∙_, ap}
-use Prim.Native.Nat.{_+_, _-_, _≤_, min}
-use native.Mathlib.Omega.{arith}
-use lib.ListN.{length}
+use Rattle.wire.proofs.Basics.{_∙_, sym, _≡_, ap, _≤_, _+_, _-_, min, length, arith, needs}
 use Rattle.ranks.specs.Ranks.{placeAt, ranksLowered}
 use Rattle.ranks.proofs.Ranks.{place-next, lowered-none, lowered-more, lowered-length}
-use borrow.Author.Needs.{needs}
 use Rattle.ranks.proofs.lower_ranks.Statement.{statement}
 use Rattle.ranks.proofs.lower_ranks.Tie as tie
 
@@ -52,4 +48,12 @@ returns c =
     rw e at (loop .inv .2)
 
 pub lower-ranks-spec : {M : Type 1} → statement M
-lower-ranks-spec = tie.close (tie.spec Inv-loop μ-loop (λ c κs. search needs) loop-holds (λ c κs. search needs) (λ c κs. search needs) (λ c κs. search needs) (λ c κs. search needs) (λ c κs. search needs) (λ c. search needs) (λ c. search needs) loop-again same-length returns)
+lower-ranks-spec = tie.close (tie.spec
+    Inv-loop
+    μ-loop
+    (λ c κs. search needs)
+    loop-holds
+    (λ c κs. search needs) (λ c κs. search needs) (λ c κs. search needs) (λ c κs. search needs) (λ c κs. search needs) (λ c. search needs) (λ c. search needs)
+    loop-again
+    same-length
+    returns)

@@ -1,12 +1,8 @@
 -- `ranks::lowest_ranked` meets its contract. The loop's invariant: `best` is the lowest of the i places passed, `low` its rank, and `at` where
 -- place i begins, or the end. Assumes nothing.
-use mathlib.Core.Path.{_≡_, refl, _∙_, ap}
-use Prim.Native.Nat.{_+_, _-_, _≤_, min}
-use native.Mathlib.Omega.{arith}
-use lib.ListN.{length, getD}
+use Rattle.wire.proofs.Basics.{_∙_, _≡_, ap, refl, _≤_, _+_, _-_, min, length, getD, arith, needs}
 use Rattle.ranks.specs.Ranks.{placeAt, rankOf, lowestRanked}
 use Rattle.ranks.proofs.Ranks.{past-get, place-next, lowest-none, lowest-more, low-more}
-use borrow.Author.Needs.{needs}
 use Rattle.ranks.proofs.lowest_ranked.Statement.{statement}
 use Rattle.ranks.proofs.lowest_ranked.Tie as tie
 
@@ -50,4 +46,11 @@ returns c =
     rw e at (loop .inv .2)
 
 pub lowest-ranked-spec : {M : Type 1} → statement M
-lowest-ranked-spec = tie.close (tie.spec Inv-loop μ-loop (λ c κs. search needs) (λ c κs. search needs) loop-holds (λ c κs. search needs) (λ c κs. search needs) (λ c κs. search needs) (λ c κs. search needs) (λ c. search needs) (λ c. search needs) loop-again returns)
+lowest-ranked-spec = tie.close (tie.spec
+    Inv-loop
+    μ-loop
+    (λ c κs. search needs) (λ c κs. search needs)
+    loop-holds
+    (λ c κs. search needs) (λ c κs. search needs) (λ c κs. search needs) (λ c κs. search needs) (λ c. search needs) (λ c. search needs)
+    loop-again
+    returns)

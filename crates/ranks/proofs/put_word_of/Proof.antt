@@ -1,8 +1,5 @@
 -- `ranks::put_word_of` meets its contract. Assumes nothing.
-use mathlib.Core.Path.{sym}
-use native.Mathlib.Omega.{arith}
-use lib.Seq.{set-out}
-use borrow.Author.Needs.{needs}
+use Rattle.wire.proofs.Basics.{sym, set-out, arith, needs}
 use Rattle.ranks.proofs.put_word_of.Statement.{statement}
 use Rattle.ranks.proofs.put_word_of.Tie as tie
 

@@ -1,8 +1,5 @@
 -- `ranks::word_of` meets its contract. Assumes nothing.
-use mathlib.Core.Path.{sym}
-use native.Mathlib.Omega.{arith}
-use lib.ListN.{List·getD-eq-default}
-use borrow.Author.Needs.{needs}
+use Rattle.wire.proofs.Basics.{sym, List·getD-eq-default, arith, needs}
 use Rattle.ranks.proofs.word_of.Statement.{statement}
 use Rattle.ranks.proofs.word_of.Tie as tie
 

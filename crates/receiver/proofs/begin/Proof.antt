@@ -1,6 +1,6 @@
 -- `receiver::begin` meets its contract. Assumes nothing.
 use Rattle.receiver.proofs.Ends.{begun}
-use borrow.Author.Needs.{needs}
+use Rattle.wire.proofs.Basics.{needs}
 use Rattle.receiver.proofs.begin.Statement.{statement}
 use Rattle.receiver.proofs.begin.Tie as tie
 

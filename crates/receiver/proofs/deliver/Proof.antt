@@ -1,12 +1,9 @@
 -- `receiver::deliver` meets its contract. Assumes nothing.
-use mathlib.Core.Path.{refl, _∙_, ap}
-use native.Mathlib.Omega.{arith}
-use lib.ListN.{replicate}
+use Rattle.wire.proofs.Basics.{_∙_, ap, refl, replicate, arith, needs}
 use Rattle.wire.specs.Overlay.{overlay}
 use Rattle.datagram.specs.Limits.{maxName}
 use Rattle.receiver_state.proofs.Moves.{place-small}
 use Rattle.receiver.proofs.Ends.{delivered}
-use borrow.Author.Needs.{needs}
 use Rattle.receiver.proofs.deliver.Statement.{statement}
 use Rattle.receiver.proofs.deliver.Tie as tie
 

@@ -1,9 +1,7 @@
 -- `receiver::forget` meets its contract. Assumes nothing.
-use mathlib.Core.Path.{refl, sym, _∙_}
-use borrow.Author.Tests.{not-true, not-false}
+use Rattle.wire.proofs.Basics.{_∙_, sym, refl, not-false, not-true, needs}
 use Rattle.receiver_state.proofs.Remembers.{in-order-is, drops}
 use Rattle.receiver.proofs.Forgetting.{words-forgets, names-forgets, memory-forgets, known-after, forgets}
-use borrow.Author.Needs.{needs}
 use Rattle.receiver.proofs.forget.Statement.{statement}
 use Rattle.receiver.proofs.forget.Tie as tie
 

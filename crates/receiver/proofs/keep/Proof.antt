@@ -1,7 +1,6 @@
 -- `receiver::keep` meets its contract. Assumes nothing.
-use mathlib.Core.Path.{refl}
+use Rattle.wire.proofs.Basics.{refl, needs}
 use Rattle.receiver_state.proofs.Moves.{kept}
-use borrow.Author.Needs.{needs}
 use Rattle.receiver.proofs.keep.Statement.{statement}
 use Rattle.receiver.proofs.keep.Tie as tie
 

@@ -1,7 +1,7 @@
 -- `receiver::occupy` meets its contract. Assumes nothing.
 use Rattle.datagram.specs.Said.{fragmentIn}
 use Rattle.receiver_state.proofs.Moves.{occupied}
-use borrow.Author.Needs.{needs}
+use Rattle.wire.proofs.Basics.{needs}
 use Rattle.receiver.proofs.occupy.Statement.{statement}
 use Rattle.receiver.proofs.occupy.Tie as tie
 

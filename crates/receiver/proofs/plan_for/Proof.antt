@@ -1,14 +1,10 @@
 -- `receiver::plan_for` meets its contract. Assumes nothing.
-use mathlib.Core.Path.{subst}
+use Rattle.wire.proofs.Basics.{subst, needs}
 use Rattle.verdict.specs.declared.Verdict.{Verdict}
 use Rattle.verdict.specs.Inside.{Possible}
 use Rattle.receiver.proofs.Settling.{planned-refuse, planned-again, planned-deliver, planned-join, planned-begin}
-use borrow.Author.Needs.{needs}
 use Rattle.receiver.proofs.plan_for.Statement.{statement}
 use Rattle.receiver.proofs.plan_for.Tie as tie
-
-enum-told : tie.Need-enum-told
-enum-told c = search needs
 
 begin-requires : tie.Need-begin-requires
 begin-requires c κs =
@@ -48,4 +44,13 @@ returns-5 c =
     planned-begin (args .state .now) (args .names .now) (args .sender) (args .verdict) _ (begun .begin .result) _ _ (arm .verdict4 .given .1) (begun .begin .ensures)
 
 pub plan-for-spec : {M : Type 1} → statement M
-plan-for-spec = tie.close (tie.spec (λ c. search needs) enum-told (λ c. search needs) (λ c. search needs) (λ c. search needs) begin-requires returns returns-2 returns-3 returns-4 (λ c. search needs) (λ c. search needs) returns-5)
+plan-for-spec = tie.close (tie.spec
+    (λ c. search needs) (λ c. search needs)
+    (λ c. search needs) (λ c. search needs) (λ c. search needs)
+    begin-requires
+    returns
+    returns-2
+    returns-3
+    returns-4
+    (λ c. search needs) (λ c. search needs)
+    returns-5)

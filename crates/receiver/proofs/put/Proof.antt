@@ -1,11 +1,9 @@
 -- `receiver::put` meets its contract. Assumes nothing.
-use mathlib.Core.Path.{refl, _∙_}
-use Prim.Native.Nat.{_+_}
+use Rattle.wire.proofs.Basics.{_∙_, refl, _+_, needs}
 use Rattle.datagram.specs.Said.{fragmentIn}
 use Rattle.slots.specs.Words.{blockAt, heldWord}
 use Rattle.receiver_state.proofs.StepListCases.{held-all, ready-after}
 use Rattle.receiver.proofs.Ends.{put-kept, put-delivered}
-use borrow.Author.Needs.{needs}
 use Rattle.receiver.proofs.put.Statement.{statement}
 use Rattle.receiver.proofs.put.Tie as tie
 

@@ -1,11 +1,8 @@
 -- `receiver::put_fragment` meets its contract. Assumes nothing.
-use mathlib.Core.Path.{sym, _∙_}
-use Prim.Native.Nat.{_+_, _*_}
-use native.Mathlib.Omega.{arith}
+use Rattle.wire.proofs.Basics.{_∙_, sym, _+_, _*_, arith, needs}
 use Rattle.wire.specs.Overlay.{overlay}
 use Rattle.receiver_state.proofs.Moves.{place-small}
 use Rattle.receiver.proofs.Ends.{ledger-written}
-use borrow.Author.Needs.{needs}
 use Rattle.receiver.proofs.put_fragment.Statement.{statement}
 use Rattle.receiver.proofs.put_fragment.Tie as tie
 

@@ -1,8 +1,6 @@
 -- `receiver::put_name` meets its contract. Assumes nothing.
-use mathlib.Core.Path.{_∙_}
-use borrow.Author.Tests.{eq-eqb, ne-eqb}
+use Rattle.wire.proofs.Basics.{_∙_, eq-eqb, ne-eqb, needs}
 use Rattle.receiver_state.proofs.Moves.{name-filled}
-use borrow.Author.Needs.{needs}
 use Rattle.receiver.proofs.put_name.Statement.{statement}
 use Rattle.receiver.proofs.put_name.Tie as tie
 

@@ -1,6 +1,6 @@
 -- `receiver::receive` meets its contract. Assumes nothing.
 use Rattle.receiver.proofs.Settling.{verdict-possible, plan-able, plan-storable, receives}
-use borrow.Author.Needs.{needs}
+use Rattle.wire.proofs.Basics.{needs}
 use Rattle.receiver.proofs.receive.Statement.{statement}
 use Rattle.receiver.proofs.receive.Tie as tie
 
@@ -45,4 +45,10 @@ returns c =
     (search needs) (search needs)
 
 pub receive-spec : {M : Type 1} → statement M
-receive-spec = tie.close (tie.spec (λ c κs. search needs) (λ c κs. search needs) plan-for-requires store-in-requires settle-requires (λ c. search needs) (λ c. search needs) (λ c. search needs) (λ c. search needs) returns)
+receive-spec = tie.close (tie.spec
+    (λ c κs. search needs) (λ c κs. search needs)
+    plan-for-requires
+    store-in-requires
+    settle-requires
+    (λ c. search needs) (λ c. search needs) (λ c. search needs) (λ c. search needs)
+    returns)

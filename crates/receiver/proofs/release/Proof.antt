@@ -1,7 +1,6 @@
 -- `receiver::release` meets its contract. Assumes nothing.
-use native.Mathlib.Omega.{arith}
+use Rattle.wire.proofs.Basics.{arith, needs}
 use Rattle.receiver_state.proofs.Moves.{released}
-use borrow.Author.Needs.{needs}
 use Rattle.receiver.proofs.release.Statement.{statement}
 use Rattle.receiver.proofs.release.Tie as tie
 
@@ -27,4 +26,10 @@ returns c =
     released (args .state .now) (args .names .now) (start .pre .1) (args .s) (start .pre .0) (at-word .word .result) _ _ _ (at-word .word .ensures) (at-block .clear-block .ensures) (at-lower .lower .ensures) (at-name .clear-name .ensures)
 
 pub release-spec : {M : Type 1} → statement M
-release-spec = tie.close (tie.spec (λ c. search needs) (λ c. search needs) (λ c. search needs) (λ c κs. search needs) clear-block-requires (λ c. search needs) clear-name-requires (λ c κs. search needs) (λ c. search needs) (λ c. search needs) returns)
+release-spec = tie.close (tie.spec
+    (λ c. search needs) (λ c. search needs) (λ c. search needs) (λ c κs. search needs)
+    clear-block-requires
+    (λ c. search needs)
+    clear-name-requires
+    (λ c κs. search needs) (λ c. search needs) (λ c. search needs)
+    returns)

@@ -1,11 +1,8 @@
 -- `receiver::release_all` meets its contract. The loop's invariant: the sender's slots among the i passed are freed. Assumes nothing.
-use mathlib.Core.Path.{_≡_, sym, _∙_}
-use Prim.Native.Nat.{_-_, _≤_}
-use native.Mathlib.Omega.{arith}
+use Rattle.wire.proofs.Basics.{_∙_, sym, _≡_, _≤_, _-_, arith, needs}
 use Rattle.steps.specs.Limits.{slotCount}
 use Rattle.receiver.specs.Inside.{ReleasesAll}
 use Rattle.receiver.proofs.Forgetting.{released-none, released-more}
-use borrow.Author.Needs.{needs}
 use Rattle.receiver.proofs.release_all.Statement.{statement}
 use Rattle.receiver.proofs.release_all.Tie as tie
 

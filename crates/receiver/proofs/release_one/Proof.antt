@@ -1,7 +1,6 @@
 -- `receiver::release_one` meets its contract. Assumes nothing.
-use mathlib.Core.Path.{sym, _∙_}
+use Rattle.wire.proofs.Basics.{_∙_, sym, needs}
 use Rattle.receiver.proofs.Forgetting.{free-stays, other-stays, its-goes}
-use borrow.Author.Needs.{needs}
 use Rattle.receiver.proofs.release_one.Statement.{statement}
 use Rattle.receiver.proofs.release_one.Tie as tie
 
@@ -33,4 +32,10 @@ returns-3 c =
     its-goes (args .state .now) (args .names .now) (args .i) (start .pre .0) (args .sender) _ _ (λ q. at-if1 .if1 .left (at-word .word .ensures ∙ q)) (sym (at-word2 .word2 .ensures) ∙ at-if2 .if2 .left) (at-release .release .ensures)
 
 pub release-one-spec : {M : Type 1} → statement M
-release-one-spec = tie.close (tie.spec (λ c. search needs) (λ c. search needs) (λ c. search needs) (λ c κs. search needs) (λ c. search needs) returns (λ c. search needs) (λ c κs. search needs) (λ c. search needs) returns-2 (λ c κs. search needs) (λ c. search needs) (λ c. search needs) returns-3)
+release-one-spec = tie.close (tie.spec
+    (λ c. search needs) (λ c. search needs) (λ c. search needs) (λ c κs. search needs) (λ c. search needs)
+    returns
+    (λ c. search needs) (λ c κs. search needs) (λ c. search needs)
+    returns-2
+    (λ c κs. search needs) (λ c. search needs) (λ c. search needs)
+    returns-3)

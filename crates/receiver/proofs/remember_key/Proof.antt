@@ -1,7 +1,6 @@
 -- `receiver::remember_key` meets its contract. Assumes nothing.
-use mathlib.Core.Path.{refl}
+use Rattle.wire.proofs.Basics.{refl, needs}
 use Rattle.receiver_state.proofs.Remembers.{remembers}
-use borrow.Author.Needs.{needs}
 use Rattle.receiver.proofs.remember_key.Statement.{statement}
 use Rattle.receiver.proofs.remember_key.Tie as tie
 

@@ -1,14 +1,10 @@
 -- `receiver::settle` meets its contract. Assumes nothing.
-use mathlib.Core.Path.{subst}
+use Rattle.wire.proofs.Basics.{subst, needs}
 use Rattle.receiver.specs.declared.Plan.{Plan}
 use Rattle.receiver.specs.Inside.{Able}
 use Rattle.receiver.proofs.Settling.{settled-refuse, settled-again, settled-deliver, settled-hold}
-use borrow.Author.Needs.{needs}
 use Rattle.receiver.proofs.settle.Statement.{statement}
 use Rattle.receiver.proofs.settle.Tie as tie
-
-enum-told : tie.Need-enum-told
-enum-told c = search needs
 
 small-requires : tie.Need-small-requires
 small-requires c κs =
@@ -53,4 +49,16 @@ returns-4 c =
     settled-hold (args .state .now) (args .names .now) (args .sender) (args .d .now) (args .plan) _ _ _ _ _ (arm .plan3 .given .1) (done .put .ensures)
 
 pub settle-spec : {M : Type 1} → statement M
-settle-spec = tie.close (tie.spec (λ c. search needs) (λ c κs. search needs) enum-told (λ c κs. search needs) (λ c. search needs) small-requires (λ c. search needs) put-requires returns returns-2 (λ c. search needs) returns-3 (λ c. search needs) (λ c. search needs) returns-4)
+settle-spec = tie.close (tie.spec
+    (λ c. search needs) (λ c κs. search needs)
+    (λ c. search needs)
+    (λ c κs. search needs) (λ c. search needs)
+    small-requires
+    (λ c. search needs)
+    put-requires
+    returns
+    returns-2
+    (λ c. search needs)
+    returns-3
+    (λ c. search needs) (λ c. search needs)
+    returns-4)

@@ -1,10 +1,9 @@
 -- `receiver::small` meets its contract. Assumes nothing.
-use mathlib.Core.Path.{sym}
+use Rattle.wire.proofs.Basics.{sym, needs}
 use Rattle.steps.specs.declared.Emptied.the-variants.{Nobody}
 use Rattle.steps.specs.declared.PayloadAt.the-variants.{InDatagram}
 use Rattle.steps.specs.declared.Answer.the-variants.{Delivered}
 use Rattle.receiver_state.proofs.Moves.{name-filled}
-use borrow.Author.Needs.{needs}
 use Rattle.receiver.proofs.small.Statement.{statement}
 use Rattle.receiver.proofs.small.Tie as tie
 

@@ -1,5 +1,5 @@
 -- `receiver::stay` meets its contract. Assumes nothing.
-use borrow.Author.Needs.{needs}
+use Rattle.wire.proofs.Basics.{needs}
 use Rattle.receiver.proofs.stay.Statement.{statement}
 use Rattle.receiver.proofs.stay.Tie as tie
 

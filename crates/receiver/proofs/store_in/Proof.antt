@@ -1,8 +1,7 @@
 -- `receiver::store_in` meets its contract. Assumes nothing.
-use mathlib.Core.Path.{sym, _∙_, ap, subst}
+use Rattle.wire.proofs.Basics.{_∙_, sym, ap, subst, needs}
 use Rattle.receiver.specs.declared.Plan.{Plan}
 use Rattle.receiver.specs.Inside.{Storable, storeAfter, ledgerAfter}
-use borrow.Author.Needs.{needs}
 use Rattle.receiver.proofs.store_in.Statement.{statement}
 use Rattle.receiver.proofs.store_in.Tie as tie
 
@@ -22,4 +21,8 @@ returns-4 c =
     (done .put-fragment .ensures .0 ∙ ap (storeAfter (args .room) (args .d .now) (args .store .now)) e, done .put-fragment .ensures .1 ∙ ap (ledgerAfter (args .d .now) (args .ledger .now)) e)
 
 pub store-in-spec : {M : Type 1} → statement M
-store-in-spec = tie.close (tie.spec (λ c. search needs) (λ c. search needs) (λ c. search needs) (λ c. search needs) put-fragment-requires (λ c. search needs) (λ c. search needs) (λ c. search needs) (λ c. search needs) (λ c. search needs) returns-4)
+store-in-spec = tie.close (tie.spec
+    (λ c. search needs) (λ c. search needs) (λ c. search needs) (λ c. search needs)
+    put-fragment-requires
+    (λ c. search needs) (λ c. search needs) (λ c. search needs) (λ c. search needs) (λ c. search needs)
+    returns-4)

@@ -1,13 +1,8 @@
 -- `receiver::take_seat` meets its contract. Assumes nothing.
-use mathlib.Core.Path.{sym, _∙_}
-use native.Mathlib.Omega.{arith}
+use Rattle.wire.proofs.Basics.{_∙_, sym, arith, needs}
 use Rattle.receiver.proofs.Ends.{oldest-within, seated-free, seated-full}
-use borrow.Author.Needs.{needs}
 use Rattle.receiver.proofs.take_seat.Statement.{statement}
 use Rattle.receiver.proofs.take_seat.Tie as tie
-
-enum-told : tie.Need-enum-told
-enum-told c = search needs
 
 mul-b : tie.Need-mul-b
 mul-b c =
@@ -64,4 +59,17 @@ returns-2 c =
     seated-free (args .state .now) (args .names .now) (start .pre) _ (sym (at-found .found .given .1) ∙ at-lowest-free .lowest-free .ensures)
 
 pub take-seat-spec : {M : Type 1} → statement M
-take-seat-spec = tie.close (tie.spec (λ c κs. search needs) (λ c. search needs) enum-told (λ c κs. search needs) mul-b add-b add-word (λ c κs. search needs) add-word-2 (λ c κs. search needs) release-requires (λ c. search needs) (λ c. search needs) returns (λ c. search needs) returns-2)
+take-seat-spec = tie.close (tie.spec
+    (λ c κs. search needs) (λ c. search needs)
+    (λ c. search needs) (λ c κs. search needs)
+    mul-b
+    add-b
+    add-word
+    (λ c κs. search needs)
+    add-word-2
+    (λ c κs. search needs)
+    release-requires
+    (λ c. search needs) (λ c. search needs)
+    returns
+    (λ c. search needs)
+    returns-2)

@@ -1,10 +1,7 @@
 -- `receiver_state::is_ready` meets its contract. Assumes nothing.
-use mathlib.Core.Path.{sym, _∙_}
-use mathlib.Core.Bool.{false}
-use borrow.Author.Tests.{eq-eqb, ne-eqb, not-true, not-false}
+use Rattle.wire.proofs.Basics.{_∙_, sym, false, eq-eqb, ne-eqb, not-false, not-true, needs}
 use Rattle.receiver_state.proofs.Bridge.{tests-are}
 use Rattle.receiver_state.proofs.Remembers.{in-order-is}
-use borrow.Author.Needs.{needs}
 use Rattle.receiver_state.proofs.is_ready.Statement.{statement}
 use Rattle.receiver_state.proofs.is_ready.Tie as tie
 
@@ -86,4 +83,15 @@ returns-7 c =
     tests-are (args .state .now) (args .names .now) (args .store) (args .ledger) _ (rw (eq-eqb _ _ (at-if1 .if1 .left), eq-eqb _ _ (at-if2 .if2 .left), eq-eqb _ _ (at-if3 .if3 .left), eq-eqb _ _ (at-if4 .if4 .left), eq-eqb _ _ (at-if5 .if5 .left ∙ at-slot-size .slot-size .ensures), t) (sym m))
 
 pub is-ready-spec : {M : Type 1} → statement M
-is-ready-spec = tie.close (tie.spec returns returns-2 (λ c. search needs) returns-3 returns-4 (λ c. search needs) (λ c κs. search needs) returns-5 (λ c κs. search needs) returns-6 (λ c. search needs) (λ c. search needs) (λ c. search needs) (λ c κs. search needs) returns-7)
+is-ready-spec = tie.close (tie.spec
+    returns
+    returns-2
+    (λ c. search needs)
+    returns-3
+    returns-4
+    (λ c. search needs) (λ c κs. search needs)
+    returns-5
+    (λ c κs. search needs)
+    returns-6
+    (λ c. search needs) (λ c. search needs) (λ c. search needs) (λ c κs. search needs)
+    returns-7)

@@ -1,12 +1,9 @@
 -- An entry's datagram, the part of the log that holds it, from the entry's sender, within the log's limits. Assumes nothing.
-use mathlib.Core.Path.{_≡_, subst}
-use mathlib.Core.List.{List}
-use Prim.Native.Nat.{ℕ}
+use Rattle.wire.proofs.Basics.{_≡_, subst, ℕ, List, needs}
 use Rattle.receiver.specs.Lent.{Lent}
 use Rattle.receiver.specs.declared.Outcome.{Outcome}
 use Rattle.log.specs.declared.reader.Limits.{Limits}
 use Rattle.within_limits.specs.Within.{ReceivesWithin}
-use borrow.Author.Needs.{needs}
 use Rattle.replay_log.proofs.one_more.Statement.{statement}
 use Rattle.replay_log.proofs.one_more.Tie as tie
 
@@ -24,15 +21,7 @@ returns c =
     record { outcome = _; heard = same-datagram _ p (r .receive-within .ensures); said = at-pour-line .pour-line .ensures }
 
 pub one-more-spec : {M : Type 1} → statement M
-one-more-spec =
-    tie.close
-    (tie.spec
-    (λ c κs. search needs)
-    (λ c κs. search needs)
-    (λ c κs. search needs)
-    (λ c. search needs)
-    (λ c. search needs)
-    (λ c. search needs)
-    (λ c. search needs)
+one-more-spec = tie.close (tie.spec
+    (λ c κs. search needs) (λ c κs. search needs) (λ c κs. search needs) (λ c. search needs) (λ c. search needs) (λ c. search needs) (λ c. search needs)
     (λ c. search needs)
     returns)

@@ -1,31 +1,15 @@
 -- Entry by entry. The loop's invariant: the entries passed have their lines. Assumes nothing.
-use mathlib.Core.Path.{_≡_, refl, sym, ap, _∙_, subst}
-use mathlib.Core.Logic.{inl, inr}
-use mathlib.Core.List.{[], _∷_}
-use Prim.Native.Nat.{_-_}
-use native.Mathlib.Omega.{arith}
-use lib.ListN.{length}
-use types.Run.{OneOf}
-use denote.Enum.Declared.{tagOf}
+use Rattle.wire.proofs.Basics.{_∙_, sym, _≡_, ap, refl, _-_, length, arith, needs}
 use Rattle.receiver.specs.Lent.{lent, worldIn}
-use Rattle.log.proofs.reader.Step.{the-type}
-use Rattle.log.specs.declared.reader.EntryAt.{EntryAt}
 use Rattle.log.specs.declared.reader.Limits.{Limits}
-use Rattle.log.specs.declared.reader.Step.{Step}
-use Rattle.log.specs.declared.reader.Step.the-variants as step
 use Rattle.log.specs.Listed.{entriesIn}
-use Rattle.log.proofs.EntriesPassed.{ahead}
+use Rattle.log.proofs.EntriesPassed.{no-entry, ahead}
 use Rattle.output.proofs.Sending.{finishes-shut, finishes-is}
 use Rattle.receiver_state.proofs.Unique.{shaped-still}
 use Rattle.replay_log.specs.Lines.{logLines, linesFrom}
 use Rattle.replay_log.proofs.Replaying.{replayed-said, replayed-left, Going, going-none, going-more, going-end, going-shut}
-use borrow.Author.Needs.{needs}
 use Rattle.replay_log.proofs.replayed.Statement.{statement}
 use Rattle.replay_log.proofs.replayed.Tie as tie
-
--- the reading ended
-no-entry : (x : Step) → OneOf (1 ∷ 2 ∷ []) (tagOf the-type x) → (e : EntryAt) → x ≡ step.Found e → ⊥
-no-entry x o e q = elim (subst (λ (y : Step). OneOf (1 ∷ 2 ∷ []) (tagOf the-type y)) q o) [ inl z ↦ (let y : ⊥ = omega arith in y) | inr z ↦ (let y : ⊥ = omega arith in y) ]
 
 abbrev Inv-loop : tie.InvT-loop
 Inv-loop log out₀ state₀ names₀ store₀ ledger₀ limits place₀ at₀ n₀ out state names store ledger place at n =
@@ -117,29 +101,17 @@ returns-2 c =
     (ap (λ (x : Limits). logLines x (worldIn (lent (a .state .now) (a .names .now) (a .store .now) (a .ledger .now))) (entriesIn (a .log .now))) (l .before .limits-in .ensures))
 
 pub replayed-spec : {M : Type 1} → statement M
-replayed-spec =
-    tie.close
-    (tie.spec
+replayed-spec = tie.close (tie.spec
     Inv-loop
     μ-loop
     (λ c κs. search needs)
     loop-holds
-    (λ c κs. search needs)
-    (λ c. search needs)
-    (λ c κs. search needs)
-    (λ c. search needs)
-    (λ c. search needs)
-    (λ c. search needs)
-    (λ c. search needs)
+    (λ c κs. search needs) (λ c. search needs) (λ c κs. search needs) (λ c. search needs) (λ c. search needs) (λ c. search needs) (λ c. search needs)
     (λ c. search needs)
     returns
     add-n
     (λ c κs. search needs)
     loop-less
     loop-again
-    (λ c. search needs)
-    (λ c. search needs)
-    (λ c. search needs)
-    (λ c. search needs)
-    (λ c. search needs)
+    (λ c. search needs) (λ c. search needs) (λ c. search needs) (λ c. search needs) (λ c. search needs)
     returns-2)

@@ -1,5 +1,5 @@
 -- A datagram is received, and its line says the outcome. Assumes nothing.
-use borrow.Author.Needs.{needs}
+use Rattle.wire.proofs.Basics.{needs}
 use Rattle.replay_run.proofs.one_more.Statement.{statement}
 use Rattle.replay_run.proofs.one_more.Tie as tie
 
@@ -11,14 +11,6 @@ returns c =
     record { outcome = _; heard = r .receive .ensures; said = p .pour-line .ensures }
 
 pub one-more-spec : {M : Type 1} → statement M
-one-more-spec =
-    tie.close
-    (tie.spec
-    (λ c κs. search needs)
-    (λ c κs. search needs)
-    (λ c. search needs)
-    (λ c. search needs)
-    (λ c. search needs)
-    (λ c. search needs)
-    (λ c. search needs)
+one-more-spec = tie.close (tie.spec
+    (λ c κs. search needs) (λ c κs. search needs) (λ c. search needs) (λ c. search needs) (λ c. search needs) (λ c. search needs) (λ c. search needs)
     returns)

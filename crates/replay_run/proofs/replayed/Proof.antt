@@ -1,7 +1,5 @@
 -- Datagram by datagram. The loop's invariant: the datagrams taken have their lines. Assumes nothing.
-use mathlib.Core.Path.{_≡_, refl, _∙_}
-use Prim.Native.Nat.{_-_}
-use lib.ListN.{length}
+use Rattle.wire.proofs.Basics.{_∙_, _≡_, refl, _-_, length, needs}
 use Rattle.receiver.specs.Lent.{lent, worldIn}
 use Rattle.stream.specs.declared.Kind.the-variants.{Bytes2}
 use Rattle.record_lines.specs.Streams.{many}
@@ -9,7 +7,6 @@ use Rattle.record_lines.proofs.RecordLoop.{Going, going-none, going-more, going
 use Rattle.receiver_state.proofs.Unique.{shaped-still}
 use Rattle.replay_run.specs.Lines.{says}
 use Rattle.replay_run.proofs.Heard.{replayed-said, replayed-left}
-use borrow.Author.Needs.{needs}
 use Rattle.replay_run.proofs.replayed.Statement.{statement}
 use Rattle.replay_run.proofs.replayed.Tie as tie
 
@@ -77,39 +74,17 @@ returns-3 : tie.Need-returns-3 Inv-loop μ-loop
 returns-3 c = let f = c .before .before in let t = f .before .before in going-over (t .before .loop .inv .5) (t .loop-test .left) (f .finish2 .ensures)
 
 pub replayed-spec : {M : Type 1} → statement M
-replayed-spec =
-    tie.close
-    (tie.spec
+replayed-spec = tie.close (tie.spec
     Inv-loop
     μ-loop
     loop-holds
-    (λ c κs. search needs)
-    (λ c. search needs)
-    (λ c κs. search needs)
-    (λ c. search needs)
-    (λ c. search needs)
-    (λ c. search needs)
-    (λ c. search needs)
-    (λ c. search needs)
-    (λ c. search needs)
+    (λ c κs. search needs) (λ c. search needs) (λ c κs. search needs) (λ c. search needs) (λ c. search needs) (λ c. search needs) (λ c. search needs)
+    (λ c. search needs) (λ c. search needs)
     returns
-    (λ c. search needs)
-    (λ c κs. search needs)
-    (λ c κs. search needs)
-    (λ c. search needs)
-    (λ c. search needs)
-    (λ c. search needs)
-    (λ c. search needs)
-    (λ c. search needs)
-    (λ c. search needs)
+    (λ c. search needs) (λ c κs. search needs) (λ c κs. search needs) (λ c. search needs) (λ c. search needs) (λ c. search needs) (λ c. search needs)
+    (λ c. search needs) (λ c. search needs)
     returns-2
     (λ c. search needs)
     loop-again
-    (λ c κs. search needs)
-    (λ c. search needs)
-    (λ c. search needs)
-    (λ c. search needs)
-    (λ c. search needs)
-    (λ c. search needs)
-    (λ c. search needs)
+    (λ c κs. search needs) (λ c. search needs) (λ c. search needs) (λ c. search needs) (λ c. search needs) (λ c. search needs) (λ c. search needs)
     returns-3)

@@ -1,10 +1,5 @@
 -- `slots::all_sound` meets its contract. The loop's invariant: the i slots passed are sound. Assumes nothing.
-use mathlib.Core.Path.{_≡_, refl, sym, _∙_}
-use mathlib.Core.Bool.{true}
-use Prim.Native.Nat.{_-_, _≤_}
-use native.Mathlib.Omega.{arith}
-use borrow.Author.Tests.{not-true, not-false}
-use borrow.Author.Needs.{needs}
+use Rattle.wire.proofs.Basics.{_∙_, sym, _≡_, refl, _≤_, _-_, true, not-false, not-true, arith, needs}
 use Rattle.steps.specs.Search.{allBelow}
 use Rattle.steps.proofs.Tables.{all-not}
 use Rattle.steps.specs.Limits.{slotCount}
@@ -18,9 +13,6 @@ Inv-loop state room i₀ i = (i ≤ slotCount) × (allBelow i (soundIn state roo
 
 abbrev μ-loop : tie.MeasureT-loop
 μ-loop state room i₀ i = slotCount - i
-
-loop-holds : tie.Need-loop-holds Inv-loop μ-loop
-loop-holds c = (omega arith, refl)
 
 returns : tie.Need-returns Inv-loop μ-loop
 returns c =
@@ -40,15 +32,12 @@ returns-2 c =
     sym (rw e at (c .before .loop .inv .1))
 
 pub all-sound-spec : {M : Type 1} → statement M
-all-sound-spec =
-    tie.close
-    (tie.spec
+all-sound-spec = tie.close (tie.spec
     Inv-loop
     μ-loop
-    loop-holds
+    (λ c. (omega arith, refl))
     (λ c κs. search needs)
     returns
-    (λ c. search needs)
-    (λ c. search needs)
+    (λ c. search needs) (λ c. search needs)
     loop-again
     returns-2)

@@ -1,8 +1,5 @@
 -- `slots::find_open` meets its contract. The loop's invariant: the key is open in none of the i slots passed. Assumes nothing.
-use mathlib.Core.Path.{_≡_, refl, sym, _∙_}
-use Prim.Native.Nat.{_-_, _≤_}
-use native.Mathlib.Omega.{arith}
-use borrow.Author.Needs.{needs}
+use Rattle.wire.proofs.Basics.{_∙_, sym, _≡_, refl, _≤_, _-_, arith, needs}
 use Rattle.steps.specs.Limits.{slotCount}
 use Rattle.slots.specs.declared.Found.the-variants.{Nothing}
 use Rattle.slots.specs.Words.{keyIn, firstBelow}
@@ -15,9 +12,6 @@ Inv-loop state sender sequence i₀ i = (i ≤ slotCount) × (firstBelow (keyIn 
 
 abbrev μ-loop : tie.MeasureT-loop
 μ-loop state sender sequence i₀ i = slotCount - i
-
-loop-holds : tie.Need-loop-holds Inv-loop μ-loop
-loop-holds c = (omega arith, refl)
 
 returns : tie.Need-returns Inv-loop μ-loop
 returns c =
@@ -37,15 +31,12 @@ returns-2 c =
     sym (rw e at (c .before .loop .inv .1))
 
 pub find-open-spec : {M : Type 1} → statement M
-find-open-spec =
-    tie.close
-    (tie.spec
+find-open-spec = tie.close (tie.spec
     Inv-loop
     μ-loop
-    loop-holds
+    (λ c. (omega arith, refl))
     (λ c κs. search needs)
     returns
-    (λ c. search needs)
-    (λ c. search needs)
+    (λ c. search needs) (λ c. search needs)
     loop-again
     returns-2)

@@ -1,11 +1,7 @@
 -- `slots::is_key` meets its contract. Assumes nothing.
-use borrow.Author.Tests.{eq-eqb, ne-eqb}
-use borrow.Author.Needs.{needs}
+use Rattle.wire.proofs.Basics.{eq-eqb, ne-eqb, needs}
 use Rattle.slots.proofs.is_key.Statement.{statement}
 use Rattle.slots.proofs.is_key.Tie as tie
-
-returns : tie.Need-returns
-returns c = simp (← c .before .at .ensures, eq-eqb _ _ (c .if1 .taken))
 
 returns-2 : tie.Need-returns-2
 returns-2 c =
@@ -19,4 +15,4 @@ returns-3 c =
 
 pub is-key-spec : {M : Type 1} → statement M
 is-key-spec =
-    tie.close (tie.spec (λ c κs. search needs) returns (λ c κs. search needs) returns-2 (λ c κs. search needs) returns-3)
+    tie.close (tie.spec (λ c κs. search needs) (λ c. simp (← c .before .at .ensures, eq-eqb _ _ (c .if1 .taken))) (λ c κs. search needs) returns-2 (λ c κs. search needs) returns-3)

@@ -1,15 +1,8 @@
 -- `slots::is_sound` meets its contract. Assumes nothing.
-use mathlib.Core.Path.{_≡_, _∙_}
-use Prim.Native.Nat.{_+_}
-use lib.ListN.{getD}
-use borrow.Author.Tests.{eq-eqb, ne-eqb, le-leb, lt-leb}
-use borrow.Author.Needs.{needs}
+use Rattle.wire.proofs.Basics.{_∙_, _≡_, _+_, getD, eq-eqb, ne-eqb, le-leb, lt-leb, needs}
 use Rattle.slots.specs.Words.{blockAt, countWord}
 use Rattle.slots.proofs.is_sound.Statement.{statement}
 use Rattle.slots.proofs.is_sound.Tie as tie
-
-returns : tie.Need-returns
-returns c = simp (← c .before .at .ensures, eq-eqb _ _ (c .if1 .taken))
 
 returns-2 : tie.Need-returns-2
 returns-2 c = simp (← c .before .before .before .at .ensures, ← c .before .at2 .ensures, ne-eqb _ _ (c .before .before .if1 .left), lt-leb _ _ (c .if2 .taken))
@@ -25,4 +18,4 @@ returns-3 c =
 pub is-sound-spec : {M : Type 1} → statement M
 is-sound-spec =
     tie.close
-    (tie.spec (λ c κs. search needs) returns (λ c κs. search needs) returns-2 (λ c κs. search needs) (λ c. search needs) returns-3)
+    (tie.spec (λ c κs. search needs) (λ c. simp (← c .before .at .ensures, eq-eqb _ _ (c .if1 .taken))) (λ c κs. search needs) returns-2 (λ c κs. search needs) (λ c. search needs) returns-3)

@@ -1,9 +1,5 @@
 -- `slots::lowest_free` meets its contract. The loop's invariant: none of the i slots passed is free. Assumes nothing.
-use mathlib.Core.Path.{_≡_, refl, sym, _∙_}
-use Prim.Native.Nat.{_-_, _≤_}
-use native.Mathlib.Omega.{arith}
-use borrow.Author.Tests.{eq-eqb, ne-eqb}
-use borrow.Author.Needs.{needs}
+use Rattle.wire.proofs.Basics.{_∙_, sym, _≡_, refl, _≤_, _-_, eq-eqb, ne-eqb, arith, needs}
 use Rattle.steps.specs.Limits.{slotCount}
 use Rattle.slots.specs.declared.Found.the-variants.{Nothing}
 use Rattle.slots.specs.Words.{freeIn, firstBelow}
@@ -16,9 +12,6 @@ Inv-loop state i₀ i = (i ≤ slotCount) × (firstBelow (freeIn state) i ≡ No
 
 abbrev μ-loop : tie.MeasureT-loop
 μ-loop state i₀ i = slotCount - i
-
-loop-holds : tie.Need-loop-holds Inv-loop μ-loop
-loop-holds c = (omega arith, refl)
 
 returns : tie.Need-returns Inv-loop μ-loop
 returns c =
@@ -38,4 +31,4 @@ returns-2 c =
 pub lowest-free-spec : {M : Type 1} → statement M
 lowest-free-spec =
     tie.close
-    (tie.spec Inv-loop μ-loop loop-holds (λ c κs. search needs) returns (λ c. search needs) (λ c. search needs) loop-again returns-2)
+    (tie.spec Inv-loop μ-loop (λ c. (omega arith, refl)) (λ c κs. search needs) returns (λ c. search needs) (λ c. search needs) loop-again returns-2)

@@ -1,11 +1,5 @@
 -- `slots::open_count` meets its contract. The loop's invariant: n of the i slots passed are open. Assumes nothing.
-use mathlib.Core.Path.{_≡_, refl, sym, _∙_, ap}
-use mathlib.Core.Bool.{not}
-use mathlib.Core.Logic.{⊎-elim}
-use Prim.Native.Nat.{_+_, _-_, _≤_}
-use native.Mathlib.Omega.{arith}
-use borrow.Author.Tests.{eq-eqb, ne-eqb}
-use borrow.Author.Needs.{needs}
+use Rattle.wire.proofs.Basics.{_∙_, sym, _≡_, ap, refl, _≤_, _+_, _-_, not, ⊎-elim, eq-eqb, ne-eqb, arith, needs}
 use Rattle.steps.specs.Search.{count}
 use Rattle.steps.specs.Limits.{slotCount}
 use Rattle.slots.specs.Words.{busyIn}
@@ -18,9 +12,6 @@ Inv-loop state n₀ i₀ n i = (i ≤ slotCount) × (n ≤ i) × (n ≡ count (b
 
 abbrev μ-loop : tie.MeasureT-loop
 μ-loop state n₀ i₀ n i = slotCount - i
-
-loop-holds : tie.Need-loop-holds Inv-loop μ-loop
-loop-holds c = (omega arith, omega arith, refl)
 
 loop-again : tie.Need-loop-again Inv-loop μ-loop
 loop-again c =
@@ -44,4 +35,4 @@ returns c =
 pub open-count-spec : {M : Type 1} → statement M
 open-count-spec =
     tie.close
-    (tie.spec Inv-loop μ-loop loop-holds (λ c κs. search needs) (λ c. search needs) (λ c. search needs) (λ c. search needs) loop-again returns)
+    (tie.spec Inv-loop μ-loop (λ c. (omega arith, omega arith, refl)) (λ c κs. search needs) (λ c. search needs) (λ c. search needs) (λ c. search needs) loop-again returns)

@@ -1,9 +1,7 @@
 -- Assumes nothing.
-use mathlib.Core.Path.{sym, _∙_}
-use native.Mathlib.Omega.{arith}
+use Rattle.wire.proofs.Basics.{_∙_, sym, arith, needs}
 use Rattle.sorted_set.proofs.Sets.{rank-most}
 use Rattle.sorted_set.proofs.Enterings.{there-at, full-at, new-at}
-use borrow.Author.Needs.{needs}
 use Rattle.sorted_set.proofs.enter.Statement.{statement}
 use Rattle.sorted_set.proofs.enter.Tie as tie
 
@@ -69,9 +67,7 @@ returns-3 c =
     (sym (q .before .before .stands-at .ensures) ∙ q .before .if1 .left) (q .if2 .left) _ (c .before .before .insert .ensures)
 
 pub enter-spec : {M : Type 1} → statement M
-enter-spec =
-    tie.close
-    (tie.spec
+enter-spec = tie.close (tie.spec
     least-requires
     rank-requires
     stands-at-requires

@@ -1,11 +1,6 @@
 -- `sorted_set::insert` meets its contract. The loop's invariant: the words from i up to the n-th are moved up by one. Assumes nothing.
-use mathlib.Core.Path.{_≡_, refl, sym, ap, _∙_}
-use mathlib.Core.List.{List}
-use Prim.Native.Nat.{ℕ, _+_, _-_, _≤_}
-use native.Mathlib.Omega.{arith}
-use lib.ListN.{length, take, drop}
+use Rattle.wire.proofs.Basics.{_∙_, sym, _≡_, ap, refl, ℕ, _≤_, _+_, _-_, List, length, drop, take, arith, needs}
 use Rattle.wire.specs.Overlay.{overlay}
-use borrow.Author.Needs.{needs}
 use Rattle.sorted_set.proofs.Moves.{moved, moved-none, moved-block, placed}
 use Rattle.sorted_set.proofs.insert.Statement.{statement}
 use Rattle.sorted_set.proofs.insert.Tie as tie
@@ -60,19 +55,14 @@ returns c =
     rw (l .inv .3, e) (placed (a .w .now) (a .at) (a .n) (a .x) (omega arith) (omega arith))
 
 pub insert-spec : {M : Type 1} → statement M
-insert-spec =
-    tie.close
-    (tie.spec
+insert-spec = tie.close (tie.spec
     Inv-loop
     μ-loop
     loop-holds
-    (λ c. search needs)
-    (λ c κs. search needs)
+    (λ c. search needs) (λ c κs. search needs)
     sub-i
     move-up-requires
     loop-less
     loop-again
-    (λ c. search needs)
-    (λ c. search needs)
-    (λ c. search needs)
+    (λ c. search needs) (λ c. search needs) (λ c. search needs)
     returns)

@@ -1,12 +1,7 @@
 -- `sorted_set::move_up` meets its contract: what goes to the array comes out of it. Assumes nothing.
-use mathlib.Core.Path.{ap, _∙_}
-use mathlib.Core.List.{List}
-use Prim.Native.Nat.{ℕ, _+_, _≤_}
-use native.Mathlib.Omega.{arith}
-use lib.ListN.{length, take, drop, replicate, length-replicate, length-drop}
+use Rattle.wire.proofs.Basics.{_∙_, ap, ℕ, _≤_, _+_, List, length, drop, take, length-drop, replicate, length-replicate, arith, needs}
 use Rattle.wire.specs.Overlay.{overlay}
 use Rattle.wire.proofs.Overlays.{overlay-front}
-use borrow.Author.Needs.{needs}
 use Rattle.sorted_set.proofs.move_up.Statement.{statement}
 use Rattle.sorted_set.proofs.move_up.Tie as tie
 
@@ -22,13 +17,6 @@ returns c =
     ∙ ap (overlay (a .w .now) (a .from + 1)) (overlay-front zeros (drop (a .from) (a .w .now)) (a .n) roomy long))
 
 pub move-up-spec : {M : Type 1} → statement M
-move-up-spec =
-    tie.close
-    (tie.spec
-    (λ c. search needs)
-    (λ c κs. search needs)
-    (λ c. search needs)
-    (λ c. search needs)
-    (λ c κs. search needs)
-    (λ c. search needs)
+move-up-spec = tie.close (tie.spec
+    (λ c. search needs) (λ c κs. search needs) (λ c. search needs) (λ c. search needs) (λ c κs. search needs) (λ c. search needs)
     returns)

@@ -1,12 +1,7 @@
 -- `sorted_set::put_part` meets its contract. The loop's invariant: the i words passed are written. Assumes nothing.
-use mathlib.Core.Path.{_≡_, refl, sym}
-use Prim.Native.Nat.{_≤_, _<_, _-_}
-use native.Mathlib.Omega.{arith}
-use lib.ListN.{length, take, drop, length-set, length-drop}
-use lib.Seq.{getD-drop}
+use Rattle.wire.proofs.Basics.{sym, _≡_, refl, _≤_, _<_, _-_, length, drop, take, length-drop, length-set, getD-drop, arith, needs}
 use Rattle.wire.specs.Overlay.{overlay}
 use Rattle.wire.proofs.Overlays.{overlay-nil, overlay-turn}
-use borrow.Author.Needs.{needs}
 use Rattle.sorted_set.proofs.put_part.Statement.{statement}
 use Rattle.sorted_set.proofs.put_part.Tie as tie
 
@@ -15,9 +10,6 @@ Inv-loop out₀ at src from n i₀ out i = (i ≤ n) × (length out ≡ length o
 
 abbrev μ-loop : tie.MeasureT-loop
 μ-loop out₀ at src from n i₀ out i = n - i
-
-loop-holds : tie.Need-loop-holds Inv-loop μ-loop
-loop-holds c = (omega arith, refl, sym (overlay-nil (c .args .out .now) (c .args .at)))
 
 loop-again : tie.Need-loop-again Inv-loop μ-loop
 loop-again c =
@@ -33,19 +25,11 @@ returns c =
     rw e at (c .before .loop .inv .2)
 
 pub put-part-spec : {M : Type 1} → statement M
-put-part-spec =
-    tie.close
-    (tie.spec
+put-part-spec = tie.close (tie.spec
     Inv-loop
     μ-loop
-    loop-holds
-    (λ c. search needs)
-    (λ c. search needs)
-    (λ c. search needs)
-    (λ c. search needs)
-    (λ c. search needs)
-    (λ c. search needs)
-    (λ c. search needs)
+    (λ c. (omega arith, refl, sym (overlay-nil (c .args .out .now) (c .args .at))))
+    (λ c. search needs) (λ c. search needs) (λ c. search needs) (λ c. search needs) (λ c. search needs) (λ c. search needs) (λ c. search needs)
     (λ c. search needs)
     loop-again
     (λ c. search needs)

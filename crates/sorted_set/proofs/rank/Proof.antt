@@ -1,11 +1,5 @@
 -- `sorted_set::rank` meets its contract. The loop's invariant: between low and high x has the place that it has among all. Assumes nothing.
-use mathlib.Core.Path.{_≡_, sym, _∙_}
-use mathlib.Core.List.{List}
-use Prim.Native.Nat.{ℕ, _-_, _≤_}
-use native.Mathlib.Omega.{arith}
-use lib.ListN.{length}
-use borrow.Author.Needs.{needs}
-use borrow.Author.Tests.{lt-ltb, le-ltb}
+use Rattle.wire.proofs.Basics.{_∙_, sym, _≡_, ℕ, _≤_, _-_, List, length, le-ltb, lt-ltb, arith, needs}
 use Rattle.wire.specs.Halving.{halve}
 use Rattle.wire.proofs.Halves.{goes-behind, goes-before, ends, starts}
 use Rattle.sorted_set.specs.Halving.{held, smaller, rankIn}
@@ -82,9 +76,7 @@ returns c =
     sym (ends (smaller (a .w .now) (a .x)) (l .low) (l .high) (omega arith)) ∙ l .inv .2
 
 pub rank-spec : {M : Type 1} → statement M
-rank-spec =
-    tie.close
-    (tie.spec
+rank-spec = tie.close (tie.spec
     Inv-loop
     μ-loop
     least-requires

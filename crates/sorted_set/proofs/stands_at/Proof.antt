@@ -1,6 +1,5 @@
 -- Assumes nothing.
-use borrow.Author.Tests.{lt-ltb, le-ltb}
-use borrow.Author.Needs.{needs}
+use Rattle.wire.proofs.Basics.{le-ltb, lt-ltb, needs}
 use Rattle.sorted_set.proofs.stands_at.Statement.{statement}
 use Rattle.sorted_set.proofs.stands_at.Tie as tie
 

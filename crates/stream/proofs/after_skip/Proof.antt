@@ -1,6 +1,5 @@
 -- The answer once the rest of a body was dropped. Assumes nothing.
-use mathlib.Core.Path.{sym, ap}
-use borrow.Author.Needs.{needs}
+use Rattle.wire.proofs.Basics.{sym, ap, needs}
 use Rattle.stream.specs.InsideWindows.{afterSkip}
 use Rattle.stream.proofs.after_skip.Statement.{statement}
 use Rattle.stream.proofs.after_skip.Tie as tie

@@ -1,13 +1,8 @@
 -- How many bytes follow a head. Assumes nothing.
-use mathlib.Core.Path.{_∙_}
-use native.Mathlib.Omega.{arith}
+use Rattle.wire.proofs.Basics.{_∙_, arith, needs}
 use Rattle.stream.specs.Records.{bodyLength}
-use borrow.Author.Needs.{needs}
 use Rattle.stream.proofs.body_length.Statement.{statement}
 use Rattle.stream.proofs.body_length.Tie as tie
-
-enum-told : tie.Need-enum-told
-enum-told c = search needs
 
 returns : tie.Need-returns
 unfolding bodyLength
@@ -26,17 +21,9 @@ unfolding bodyLength
 returns-4 c = rw (c .before .enum-told4 .given .1) (c .number-at4 .ensures .0 ∙ omega arith)
 
 pub body-length-spec : {M : Type 1} → statement M
-body-length-spec =
-    tie.close
-    (tie.spec
-    enum-told
-    (λ c κs. search needs)
+body-length-spec = tie.close (tie.spec
     (λ c. search needs)
-    (λ c κs. search needs)
-    (λ c. search needs)
-    (λ c κs. search needs)
-    (λ c. search needs)
-    (λ c. search needs)
+    (λ c κs. search needs) (λ c. search needs) (λ c κs. search needs) (λ c. search needs) (λ c κs. search needs) (λ c. search needs) (λ c. search needs)
     (λ c κs. search needs)
     returns
     returns-2

@@ -1,5 +1,5 @@
 -- Bytes dropped after a place. The loop's invariant: all that was held or came is dropped, and more is to be. Assumes nothing.
-use borrow.Author.Needs.{needs}
+use Rattle.wire.proofs.Basics.{needs}
 use Rattle.stream.proofs.Passing.{Passing, passing-held, passing-more, passing-done, passing-lacks, gone-held}
 use Rattle.stream.proofs.drop_after.Statement.{statement}
 use Rattle.stream.proofs.drop_after.Tie as tie
@@ -37,29 +37,19 @@ loop-again c =
     let r = place in
     passing-more (r .before .before .before .loop .inv) (r .read-from .ensures) (c .if3 .left)
 
-returns-4 : tie.Need-returns-4 Inv-loop μ-loop
-returns-4 c = passing-lacks (c .before .loop .inv)
-
 pub drop-after-spec : {M : Type 1} → statement M
-drop-after-spec =
-    tie.close
-    (tie.spec
+drop-after-spec = tie.close (tie.spec
     Inv-loop
     μ-loop
-    (λ c. search needs)
-    (λ c. search needs)
+    (λ c. search needs) (λ c. search needs)
     returns
     (λ c. search needs)
     loop-holds
-    (λ c κs. search needs)
-    (λ c. search needs)
+    (λ c κs. search needs) (λ c. search needs)
     returns-2
-    (λ c. search needs)
-    (λ c. search needs)
-    (λ c. search needs)
+    (λ c. search needs) (λ c. search needs) (λ c. search needs)
     returns-3
-    (λ c. search needs)
-    (λ c. search needs)
+    (λ c. search needs) (λ c. search needs)
     loop-again
     (λ c. search needs)
-    returns-4)
+    (λ c. passing-lacks (c .before .loop .inv)))

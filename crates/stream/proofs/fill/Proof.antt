@@ -1,6 +1,5 @@
 -- Reading on until enough is unread. The loop's invariant: bytes came after the end, up to e. Assumes nothing.
-use Prim.Native.Nat.{_-_, _≤_}
-use borrow.Author.Needs.{needs}
+use Rattle.wire.proofs.Basics.{_≤_, _-_, needs}
 use Rattle.stream.specs.InsideWindows.{Grown}
 use Rattle.stream.proofs.Passing.{grown-none, grown-more, grown-is}
 use Rattle.stream.proofs.fill.Statement.{statement}
@@ -11,9 +10,6 @@ Inv-loop buf₀ at end want e₀ buf e = (at ≤ end) × Grown buf₀ end buf e
 
 abbrev μ-loop : tie.MeasureT-loop
 μ-loop buf₀ at end want e₀ buf e = want - (e - at)
-
-loop-holds : tie.Need-loop-holds Inv-loop μ-loop
-loop-holds c = let s = c .before in (s .pre .0, grown-none (s .args .buf .now) (s .args .end) (s .pre .1))
 
 returns : tie.Need-returns Inv-loop μ-loop
 returns c =
@@ -27,21 +23,14 @@ loop-again c =
     let l = r .before .before .before in
     (l .loop .inv .0, grown-more (l .loop .inv .1) (r .read-from .ensures))
 
-returns-2 : tie.Need-returns-2 Inv-loop μ-loop
-returns-2 c = c .before .loop .inv .1
-
 pub fill-spec : {M : Type 1} → statement M
-fill-spec =
-    tie.close
-    (tie.spec
+fill-spec = tie.close (tie.spec
     Inv-loop
     μ-loop
-    loop-holds
-    (λ c. search needs)
-    (λ c κs. search needs)
-    (λ c. search needs)
+    (λ c. let s = c .before in (s .pre .0, grown-none (s .args .buf .now) (s .args .end) (s .pre .1)))
+    (λ c. search needs) (λ c κs. search needs) (λ c. search needs)
     returns
     (λ c. search needs)
     loop-again
     (λ c. search needs)
-    returns-2)
+    (λ c. c .before .loop .inv .1))

@@ -1,13 +1,7 @@
 -- The head of a record stands before its body. Assumes nothing.
-use mathlib.Core.Path.{_≡_, _∙_}
-use mathlib.Core.List.{List}
-use Prim.Native.Nat.{ℕ, _+_, _-_, min}
-use native.Mathlib.Omega.{arith}
-use lib.ListN.{take, drop}
-use lib.Seq.{slice}
+use Rattle.wire.proofs.Basics.{_∙_, _≡_, ℕ, _+_, _-_, min, List, drop, take, slice, arith, needs}
 use Rattle.stream.specs.Records.{headOf}
 use Rattle.stream.proofs.Slices.{take-drop}
-use borrow.Author.Needs.{needs}
 use Rattle.stream.proofs.head.Statement.{statement}
 use Rattle.stream.proofs.head.Tie as tie
 

@@ -1,14 +1,8 @@
 -- The next record of the input. Assumes nothing.
-use mathlib.Core.Path.{_≡_, ap, _∙_}
-use mathlib.Core.List.{List}
-use Prim.Native.Nat.{ℕ, _+_, _-_, _≤_}
-use native.Mathlib.Omega.{arith}
+use Rattle.wire.proofs.Basics.{_∙_, _≡_, ap, ℕ, _≤_, _+_, _-_, List, drop, take, slice, arith, needs}
 use Rattle.stream.specs.Records.{bodyLength}
-use lib.ListN.{take, drop}
-use lib.Seq.{slice}
 use Rattle.stream.proofs.Slices.{take-drop}
 use Rattle.stream.proofs.Taking.{some-head, lacks-room, lacks-a-head, ends, gives-before}
-use borrow.Author.Needs.{needs}
 use Rattle.stream.proofs.next_record.Statement.{statement}
 use Rattle.stream.proofs.next_record.Tie as tie
 
@@ -16,17 +10,11 @@ use Rattle.stream.proofs.next_record.Tie as tie
 taken : (b : List ℕ) (at end : ℕ) → at ≤ end → take (end - at) (drop at b) ≡ slice at end b
 taken b at end h = take-drop at (end - at) b ∙ ap (λ (k : ℕ). slice at k b) (let e : at + (end - at) ≡ end = omega arith in e)
 
-add-if1 : tie.Need-add-if1
-add-if1 c = record { fits = omega (arith, c .head-of .ensures, some-head (c .before .before .args .kind) .1) }
-
 returns : tie.Need-returns
 returns c =
     let h = c .before in
     let a = h .before .before .args in
     lacks-room (a .kind) (a .buf .now) (a .input) (rw (h .head-of .ensures) at (c .if1 .taken))
-
-same-length : tie.Need-same-length
-same-length c = search needs
 
 returns-2 : tie.Need-returns-2
 returns-2 c =
@@ -71,23 +59,16 @@ returns-4 c =
     gives-before (a .kind) (w .within .ensures) (r .ready .ensures) (t .take-body .last .0) (t .take-body .result) (t .take-body .ensures)
 
 pub next-record-spec : {M : Type 1} → statement M
-next-record-spec =
-    tie.close
-    (tie.spec
+next-record-spec = tie.close (tie.spec
     (λ c κs. search needs)
-    add-if1
+    (λ c. record { fits = omega (arith, c .head-of .ensures, some-head (c .before .before .args .kind) .1) })
     returns
-    (λ c κs. search needs)
-    (λ c κs. search needs)
-    same-length
+    (λ c κs. search needs) (λ c κs. search needs)
+    (λ c. search needs)
     returns-2
-    (λ c. search needs)
-    (λ c. search needs)
+    (λ c. search needs) (λ c. search needs)
     returns-3
-    (λ c. search needs)
-    (λ c. search needs)
-    (λ c. search needs)
-    (λ c κs. search needs)
+    (λ c. search needs) (λ c. search needs) (λ c. search needs) (λ c κs. search needs)
     take-body-requires
     (λ c. search needs)
     returns-4)

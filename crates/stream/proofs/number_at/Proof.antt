@@ -1,11 +1,7 @@
 -- A number of at most 4 bytes. Assumes nothing.
-use mathlib.Core.Path.{_≡_, ap, _∙_, subst}
-use Prim.Native.Nat.{ℕ, _^_, _<_, _≤_, min}
-use native.Mathlib.Omega.{arith}
-use native.Mathlib.Nat.{lt-of-lt-of-le, pow-le-pow-right}
-use lib.ListN.{drop}
+use Rattle.wire.proofs.Basics.{_∙_, _≡_, ap, subst, ℕ, _≤_, _<_, _^_, min, drop, pow-le-pow-right, arith, needs}
+use native.Mathlib.Nat.{lt-of-lt-of-le}
 use Rattle.wire.specs.Bytes.{be}
-use borrow.Author.Needs.{needs}
 use Rattle.stream.proofs.number_at.Statement.{statement}
 use Rattle.stream.proofs.number_at.Tie as tie
 

@@ -1,19 +1,9 @@
 -- The whole input: the buffer is filled, and where it is full one read more tells whether the input is longer. Assumes nothing.
-use mathlib.Core.Path.{_≡_, subst}
-use Prim.Native.Nat.{ℕ}
-use native.Mathlib.Omega.{arith}
-use lib.ListN.{length}
+use Rattle.wire.proofs.Basics.{_≡_, subst, ℕ, length, arith, needs}
 use Rattle.stream.specs.InsideWindows.{Grown}
 use Rattle.stream.proofs.Held.{held-all, exceeds}
-use borrow.Author.Needs.{needs}
 use Rattle.stream.proofs.read_all.Statement.{statement}
 use Rattle.stream.proofs.read_all.Tie as tie
-
-same-length : tie.Need-same-length
-same-length c = search needs
-
-returns : tie.Need-returns
-returns c = held-all (c .before .before .before .fill .ensures)
 
 returns-2 : tie.Need-returns-2
 returns-2 c =
@@ -30,15 +20,10 @@ returns-3 c =
     exceeds (subst (λ (k : ℕ). Grown b 0 (f .fill .last .0) k) e (f .fill .ensures)) (r .read-from .ensures) (c .if2 .left)
 
 pub read-all-spec : {M : Type 1} → statement M
-read-all-spec =
-    tie.close
-    (tie.spec
-    (λ c κs. search needs)
-    same-length
-    returns
-    (λ c. search needs)
-    (λ c κs. search needs)
-    (λ c. search needs)
+read-all-spec = tie.close (tie.spec
+    (λ c κs. search needs) (λ c. search needs)
+    (λ c. held-all (c .before .before .before .fill .ensures))
+    (λ c. search needs) (λ c κs. search needs) (λ c. search needs)
     returns-2
     (λ c. search needs)
     returns-3)

@@ -1,9 +1,6 @@
 -- One read into the buffer from a place on. Assumes nothing.
-use Prim.Native.Nat.{_-_}
-use native.Mathlib.Omega.{arith}
-use lib.ListN.{length, length-take, length-drop}
+use Rattle.wire.proofs.Basics.{_-_, length, length-drop, length-take, arith, needs}
 use borrow.Rule.Slice.PartMut.{take-put}
-use borrow.Author.Needs.{needs}
 use Rattle.stream.proofs.read_from.Statement.{statement}
 use Rattle.stream.proofs.read_from.Tie as tie
 
@@ -26,17 +23,8 @@ returns c =
     }
 
 pub read-from-spec : {M : Type 1} → statement M
-read-from-spec =
-    tie.close
-    (tie.spec
-    (λ c. search needs)
-    (λ c. search needs)
-    (λ c. search needs)
-    (λ c κs. search needs)
-    (λ c. search needs)
-    (λ c. search needs)
-    (λ c. search needs)
-    (λ c κs. search needs)
-    (λ c. search needs)
+read-from-spec = tie.close (tie.spec
+    (λ c. search needs) (λ c. search needs) (λ c. search needs) (λ c κs. search needs) (λ c. search needs) (λ c. search needs) (λ c. search needs)
+    (λ c κs. search needs) (λ c. search needs)
     same-length
     returns)

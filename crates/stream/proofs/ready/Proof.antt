@@ -1,6 +1,6 @@
 -- Bytes made ready, where they stand or at the front. Assumes nothing.
 use Rattle.stream.proofs.Taking.{ready-fill, ready-front}
-use borrow.Author.Needs.{needs}
+use Rattle.wire.proofs.Basics.{needs}
 use Rattle.stream.proofs.ready.Statement.{statement}
 use Rattle.stream.proofs.ready.Tie as tie
 
@@ -18,14 +18,8 @@ returns-2 c =
     ready-front (s .args .buf .now) (s .args .input) (s .args .want) (f .to-front .last .0) (f .to-front .result) (g .fill2 .last .0) (g .fill2 .result) (s .pre .2) (f .to-front .ensures) (g .fill2 .ensures)
 
 pub ready-spec : {M : Type 1} → statement M
-ready-spec =
-    tie.close
-    (tie.spec
-    (λ c. search needs)
-    (λ c κs. search needs)
-    (λ c. search needs)
+ready-spec = tie.close (tie.spec
+    (λ c. search needs) (λ c κs. search needs) (λ c. search needs)
     returns
-    (λ c κs. search needs)
-    (λ c κs. search needs)
-    (λ c. search needs)
+    (λ c κs. search needs) (λ c κs. search needs) (λ c. search needs)
     returns-2)

@@ -1,9 +1,8 @@
 -- A record's body. Assumes nothing.
-use mathlib.Core.Path.{sym, subst}
+use Rattle.wire.proofs.Basics.{sym, subst, needs}
 use Rattle.stream.specs.declared.Next.{Next}
 use Rattle.stream.specs.Records.{Gives}
 use Rattle.stream.proofs.Taking.{body-lacks, body-dropped}
-use borrow.Author.Needs.{needs}
 use Rattle.stream.proofs.take_body.Statement.{statement}
 use Rattle.stream.proofs.take_body.Tie as tie
 
@@ -27,23 +26,9 @@ returns-2 c =
     (body-dropped (s .pre) (m .head-of .result) (k .least .result) (sym (m .head-of .ensures)) (r .ready .last .0) (r .ready .result) (d .drop-after .result) (d .drop-after .last .0) (k .least .ensures) (r .ready .ensures) (t .if1 .left) (d .drop-after .ensures))
 
 pub take-body-spec : {M : Type 1} → statement M
-take-body-spec =
-    tie.close
-    (tie.spec
-    (λ c κs. search needs)
-    (λ c. search needs)
-    (λ c. search needs)
-    (λ c κs. search needs)
-    (λ c. search needs)
-    (λ c κs. search needs)
-    (λ c. search needs)
-    (λ c. search needs)
-    (λ c. search needs)
+take-body-spec = tie.close (tie.spec
+    (λ c κs. search needs) (λ c. search needs) (λ c. search needs) (λ c κs. search needs) (λ c. search needs) (λ c κs. search needs) (λ c. search needs)
+    (λ c. search needs) (λ c. search needs)
     returns
-    (λ c. search needs)
-    (λ c. search needs)
-    (λ c. search needs)
-    (λ c κs. search needs)
-    (λ c κs. search needs)
-    (λ c. search needs)
+    (λ c. search needs) (λ c. search needs) (λ c. search needs) (λ c κs. search needs) (λ c κs. search needs) (λ c. search needs)
     returns-2)

@@ -1,9 +1,5 @@
 -- The unread bytes at the front. The loop's invariant: the first i are moved, and those to come are as they were. Assumes nothing.
-use mathlib.Core.Path.{_≡_, refl, subst}
-use Prim.Native.Nat.{ℕ, _-_, _≤_}
-use native.Mathlib.Omega.{arith}
-use borrow.Author.Needs.{needs}
-use lib.ListN.{length}
+use Rattle.wire.proofs.Basics.{_≡_, refl, subst, ℕ, _≤_, _-_, length, arith, needs}
 use Rattle.stream.proofs.Slices.{Moving, moving-none, moving-one, moving-all}
 use Rattle.stream.proofs.to_front.Statement.{statement}
 use Rattle.stream.proofs.to_front.Tie as tie
@@ -13,9 +9,6 @@ Inv-loop buf₀ at end n i₀ buf i = (i ≤ n) × (length buf ≡ length buf₀
 
 abbrev μ-loop : tie.MeasureT-loop
 μ-loop buf₀ at end n i₀ buf i = n - i
-
-loop-holds : tie.Need-loop-holds Inv-loop μ-loop
-loop-holds c = (omega arith, refl, moving-none (c .args .buf .now) (c .args .at))
 
 loop-again : tie.Need-loop-again Inv-loop μ-loop
 loop-again c =
@@ -40,18 +33,12 @@ returns c =
     }
 
 pub to-front-spec : {M : Type 1} → statement M
-to-front-spec =
-    tie.close
-    (tie.spec
+to-front-spec = tie.close (tie.spec
     Inv-loop
     μ-loop
     (λ c. search needs)
-    loop-holds
-    (λ c. search needs)
-    (λ c. search needs)
-    (λ c. search needs)
-    (λ c. search needs)
-    (λ c. search needs)
+    (λ c. (omega arith, refl, moving-none (c .args .buf .now) (c .args .at)))
+    (λ c. search needs) (λ c. search needs) (λ c. search needs) (λ c. search needs) (λ c. search needs)
     loop-again
     same-length
     returns)

@@ -1,16 +1,6 @@
 -- The loop's invariant: the whole stretch is what was taken so far, and then the rest of it. Assumes nothing.
-use mathlib.Core.Path.{_≡_, refl, sym, ap, _∙_, subst}
-use mathlib.Core.Logic.{inl, inr}
-use mathlib.Core.List.{List, [], _∷_}
-use Prim.Native.Nat.{ℕ, _-_}
-use native.Mathlib.Omega.{arith}
-use lib.IntN.{ℤ}
-use lib.ListN.{length}
-use types.Run.{OneOf}
-use denote.Enum.Declared.{tagOf}
-use Rattle.log.proofs.reader.Step.{the-type}
-use Rattle.log.specs.declared.reader.EntryAt.{EntryAt}
-use Rattle.log.specs.declared.reader.Step.{Step}
+use Rattle.wire.proofs.Basics.{_∙_, sym, _≡_, ap, refl, ℕ, _-_, List, length, ℤ, arith, needs}
+use Rattle.log.proofs.EntriesPassed.{no-entry}
 use Rattle.log.specs.declared.reader.Step.the-variants as step
 use Rattle.receiver.specs.Lent.{lent}
 use Rattle.pit_marks.specs.declared.Sizes.{Sizes}
@@ -21,16 +11,11 @@ use Rattle.stretch.specs.declared.Ran.{Ran}
 use Rattle.stretch.specs.Inside.{ran, noTotals, stoppedAt}
 use Rattle.stretch.specs.Stretch.{Desk, desk}
 use Rattle.stretch.proofs.MidStretch.{Going, going-first, going-few, all-taken, log-stops, going-more, going-ends, as-told}
-use borrow.Author.Needs.{needs}
 use Rattle.stretch.proofs.count_on.Statement.{statement}
 use Rattle.stretch.proofs.count_on.Tie as tie
 
 abbrev lentOf : List ℕ → List ℕ → List ℕ → List ℕ → List ℤ → List ℕ → List ℕ → List ℕ → Desk
 lentOf state names store ledger numbers tiles pits sure = desk (lent state names store ledger) (book numbers (setsOf tiles pits sure))
-
--- what is none of the first kind is no entry
-no-entry : (x : Step) → OneOf (1 ∷ 2 ∷ []) (tagOf the-type x) → (e : EntryAt) → x ≡ step.Found e → ⊥
-no-entry x o e q = elim (subst (λ (y : Step). OneOf (1 ∷ 2 ∷ []) (tagOf the-type y)) q o) [ inl z ↦ (let y : ⊥ = omega arith in y) | inr z ↦ (let y : ⊥ = omega arith in y) ]
 
 abbrev Inv-loop : tie.InvT-loop
 Inv-loop log place most state₀ names₀ store₀ ledger₀ numbers₀ tiles₀ pits₀ sure₀ limits at₀ taken₀ done₀ state names store ledger numbers tiles pits sure at taken done =
@@ -225,27 +210,13 @@ returns-3 c =
     (l .loop .at) (l .loop .taken) (l .loop .done) (l .loop .inv .0) (own .limits-in .ensures) (a .sizes) (ap (λ (x : Ran). x .sizes) (first .nothing .ensures) ∙ first .before .held .ensures) (λ o. search needs))
 
 pub count-on-spec : {M : Type 1} → statement M
-count-on-spec =
-    tie.close
-    (tie.spec
+count-on-spec = tie.close (tie.spec
     Inv-loop
     μ-loop
-    (λ c κs. search needs)
-    (λ c κs. search needs)
-    (λ c κs. search needs)
+    (λ c κs. search needs) (λ c κs. search needs) (λ c κs. search needs)
     loop-holds
-    (λ c κs. search needs)
-    (λ c. search needs)
-    (λ c κs. search needs)
-    (λ c κs. search needs)
-    (λ c. search needs)
-    (λ c. search needs)
-    (λ c. search needs)
-    (λ c. search needs)
-    (λ c. search needs)
-    (λ c. search needs)
-    (λ c. search needs)
-    (λ c. search needs)
+    (λ c κs. search needs) (λ c. search needs) (λ c κs. search needs) (λ c κs. search needs) (λ c. search needs) (λ c. search needs) (λ c. search needs)
+    (λ c. search needs) (λ c. search needs) (λ c. search needs) (λ c. search needs) (λ c. search needs)
     returns
     add-taken
     one-entry-requires
@@ -261,13 +232,6 @@ count-on-spec =
     returns-2
     loop-less
     loop-again
-    (λ c κs. search needs)
-    (λ c. search needs)
-    (λ c. search needs)
-    (λ c. search needs)
-    (λ c. search needs)
-    (λ c. search needs)
-    (λ c. search needs)
-    (λ c. search needs)
-    (λ c. search needs)
+    (λ c κs. search needs) (λ c. search needs) (λ c. search needs) (λ c. search needs) (λ c. search needs) (λ c. search needs) (λ c. search needs)
+    (λ c. search needs) (λ c. search needs)
     returns-3)

@@ -1,5 +1,5 @@
 -- Each by what is lent. Assumes nothing.
-use borrow.Author.Needs.{needs}
+use Rattle.wire.proofs.Basics.{needs}
 use Rattle.stretch.proofs.held.Statement.{statement}
 use Rattle.stretch.proofs.held.Tie as tie
 

@@ -1,5 +1,5 @@
 -- Of no answers all totals are 0. Assumes nothing.
-use mathlib.Core.Path.{refl}
+use Rattle.wire.proofs.Basics.{refl}
 use Rattle.count_rules.specs.Run.{howMany}
 use Rattle.stretch.proofs.nothing.Statement.{statement}
 use Rattle.stretch.proofs.nothing.Tie as tie

@@ -1,6 +1,5 @@
 -- The datagram is received, the answer told, and what is delivered taken. Assumes nothing.
-use mathlib.Core.Path.{ap}
-use native.Mathlib.Omega.{arith}
+use Rattle.wire.proofs.Basics.{ap, arith, needs}
 use Rattle.log.specs.Said.{entrySaid}
 use Rattle.receiver.specs.Lent.{lent}
 use Rattle.pit_marks.specs.Sets.{setsOf}
@@ -9,7 +8,6 @@ use Rattle.stretch.specs.Stretch.{desk}
 use Rattle.stretch.specs.declared.Totals.{Totals}
 use Rattle.stretch.proofs.Adds.{lists-stay}
 use Rattle.stretch.proofs.Enters.{entry-takes}
-use borrow.Author.Needs.{needs}
 use Rattle.stretch.proofs.one_entry.Statement.{statement}
 use Rattle.stretch.proofs.one_entry.Tie as tie
 
@@ -52,20 +50,10 @@ returns c =
     _ (at-payload .payload .ensures) (at-taken .one-payload .result) _ (at-taken .one-payload .ensures)
 
 pub one-entry-spec : {M : Type 1} → statement M
-one-entry-spec =
-    tie.close
-    (tie.spec
-    (λ c κs. search needs)
-    (λ c κs. search needs)
-    (λ c κs. search needs)
-    (λ c κs. search needs)
+one-entry-spec = tie.close (tie.spec
+    (λ c κs. search needs) (λ c κs. search needs) (λ c κs. search needs) (λ c κs. search needs)
     one-payload-requires
     same-length
     same-length-2
-    (λ c. search needs)
-    (λ c. search needs)
-    (λ c. search needs)
-    (λ c. search needs)
-    (λ c. search needs)
-    (λ c. search needs)
+    (λ c. search needs) (λ c. search needs) (λ c. search needs) (λ c. search needs) (λ c. search needs) (λ c. search needs)
     returns)

@@ -1,15 +1,10 @@
 -- By what the payload is. Assumes nothing.
-use mathlib.Core.Path.{sym, ap, _∙_}
-use native.Mathlib.Omega.{arith}
+use Rattle.wire.proofs.Basics.{_∙_, sym, ap, arith, needs}
 use Rattle.stretch.specs.declared.Totals.{Totals}
 use Rattle.stretch.specs.Inside.{ran, ranBy}
 use Rattle.stretch.proofs.Adds.{no-more}
-use borrow.Author.Needs.{needs}
 use Rattle.stretch.proofs.ran_by.Statement.{statement}
 use Rattle.stretch.proofs.ran_by.Tie as tie
-
-enum-told : tie.Need-enum-told
-enum-told c = search needs
 
 add-after : tie.Need-add-after
 add-after c =
@@ -37,12 +32,9 @@ returns-3 c =
     ap (ranBy (a .totals) (a .sizes)) (sym (at-looked .looked2 .given .1))
 
 pub ran-by-spec : {M : Type 1} → statement M
-ran-by-spec =
-    tie.close
-    (tie.spec
-    enum-told
+ran-by-spec = tie.close (tie.spec
     (λ c. search needs)
-    (λ c. search needs)
+    (λ c. search needs) (λ c. search needs)
     add-after
     returns
     returns-2

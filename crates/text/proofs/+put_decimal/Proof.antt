@@ -1,11 +1,8 @@
 -- A number in decimal: the text of n / 10, then the last digit. The measure is n. Assumes nothing.
-use mathlib.Core.Path.{sym, ap, _∙_}
-use mathlib.Core.List.{[], _∷_, _++_}
-use borrow.Author.Needs.{needs}
+use Rattle.wire.proofs.Basics.{_∙_, sym, ap, ℕ, _<_, _/_, [], _∷_, _++_, needs}
 use Rattle.text.specs.Text.{decimal}
 use Rattle.text.proofs.Puts.{put-then, put-is}
 use Rattle.text.proofs.Texts.{decimal-low, decimal-high}
-use Prim.Native.Nat.{ℕ, _/_, _<_}
 use borrow.Fn.Kinds.{In}
 use borrow.Fn.PlainCycle.{Measures, is, falls, and}
 use Rattle.text.proofs.put_decimal.Reads as put-decimal

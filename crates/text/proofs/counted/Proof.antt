@@ -1,6 +1,5 @@
 -- A number not below 0, as it is. Assumes nothing.
-use mathlib.Core.Path.{ap}
-use lib.IntN.{natAbs}
+use Rattle.wire.proofs.Basics.{ap, natAbs}
 use mir.Syntax.{w64}
 use mir.ValLaws.{toZ-ofZ}
 use Rattle.wire.proofs.Signs.{counts}

@@ -1,5 +1,5 @@
 -- A word and a number. Assumes nothing.
-use borrow.Author.Needs.{needs}
+use Rattle.wire.proofs.Basics.{needs}
 use Rattle.text.proofs.Puts.{put-then}
 use Rattle.text.proofs.put_counted.Statement.{statement}
 use Rattle.text.proofs.put_counted.Tie as tie

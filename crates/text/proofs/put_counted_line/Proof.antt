@@ -1,5 +1,5 @@
 -- A word, a number and the end of the line. Assumes nothing.
-use borrow.Author.Needs.{needs}
+use Rattle.wire.proofs.Basics.{needs}
 use Rattle.text.proofs.Puts.{put-then}
 use Rattle.text.proofs.put_counted_line.Statement.{statement}
 use Rattle.text.proofs.put_counted_line.Tie as tie

@@ -1,10 +1,5 @@
 -- Bytes in hexadecimal. The loop's invariant: the text of the i bytes passed is written. Assumes nothing.
-use mathlib.Core.Path.{_≡_, refl, sym, ap, _∙_}
-use Prim.Native.Nat.{ℕ, _≤_, _-_}
-use native.Mathlib.Omega.{arith}
-use lib.ListN.{length, take}
-use lib.Seq.{take-length}
-use borrow.Author.Needs.{needs}
+use Rattle.wire.proofs.Basics.{_∙_, sym, _≡_, ap, refl, ℕ, _≤_, _-_, length, take, take-length, arith, needs}
 use Rattle.text.specs.Text.{hex}
 use Rattle.text.specs.Put.{Put}
 use Rattle.text.proofs.Puts.{put-nothing, put-then, put-length, put-is}
@@ -39,17 +34,12 @@ returns c =
     put-is (l .loop .inv .2) (ap (λ (k : ℕ). hex (take k s)) e ∙ ap hex (take-length s))
 
 pub put-hex-spec : {M : Type 1} → statement M
-put-hex-spec =
-    tie.close
-    (tie.spec
+put-hex-spec = tie.close (tie.spec
     Inv-loop
     μ-loop
     (λ c κs. search needs)
     loop-holds
-    (λ c. search needs)
-    (λ c κs. search needs)
-    (λ c. search needs)
-    (λ c. search needs)
+    (λ c. search needs) (λ c κs. search needs) (λ c. search needs) (λ c. search needs)
     loop-again
     (λ c. search needs)
     returns)

@@ -1,6 +1,5 @@
 -- A byte as two digits. Assumes nothing.
-use mathlib.Core.List.{[], _∷_}
-use borrow.Author.Needs.{needs}
+use Rattle.wire.proofs.Basics.{[], _∷_, needs}
 use Rattle.text.proofs.Puts.{put-then, put-is}
 use Rattle.text.proofs.put_pair.Statement.{statement}
 use Rattle.text.proofs.put_pair.Tie as tie
@@ -13,12 +12,6 @@ returns c =
     (λ i. one .before .letter .ensures i ∷ two .before .letter2 .ensures i ∷ [])
 
 pub put-pair-spec : {M : Type 1} → statement M
-put-pair-spec =
-    tie.close
-    (tie.spec
-    (λ c κs. search needs)
-    (λ c κs. search needs)
-    (λ c κs. search needs)
-    (λ c κs. search needs)
-    (λ c. search needs)
+put-pair-spec = tie.close (tie.spec
+    (λ c κs. search needs) (λ c κs. search needs) (λ c κs. search needs) (λ c κs. search needs) (λ c. search needs)
     returns)

@@ -1,14 +1,9 @@
 -- A signed number in decimal. Assumes nothing.
-use mathlib.Core.Path.{_≡_, sym, ap, _∙_, subst}
-use mathlib.Core.Bool.{Bool}
-use mathlib.Core.List.{_∷_}
-use Prim.Native.Nat.{ℕ}
-use lib.IntN.{ℤ, pos, natAbs}
+use Rattle.wire.proofs.Basics.{_∙_, sym, _≡_, ap, subst, ℕ, _∷_, Bool, ℤ, pos, natAbs, needs}
 use lib.Signed.{ltZ}
 use mir.Syntax.{w64}
 use mir.Val.{toZ, ofZ}
 use mir.ValLaws.{toZ-ofZ}
-use borrow.Author.Needs.{needs}
 use Rattle.text.specs.Text.{decimal}
 use Rattle.text.proofs.Puts.{put-then, put-is}
 use Rattle.text.proofs.Texts.{signed-below, signed-above}
@@ -41,15 +36,8 @@ returns-2 c =
     (ap decimal (d .before .counted .ensures ∙ ap natAbs (same s)) ∙ sym (signed-above (s .args .z) (tested s (t .if1 .left))))
 
 pub put-signed-spec : {M : Type 1} → statement M
-put-signed-spec =
-    tie.close
-    (tie.spec
-    (λ c κs. search needs)
-    (λ c κs. search needs)
-    (λ c κs. search needs)
-    (λ c. search needs)
+put-signed-spec = tie.close (tie.spec
+    (λ c κs. search needs) (λ c κs. search needs) (λ c κs. search needs) (λ c. search needs)
     returns
-    (λ c κs. search needs)
-    (λ c κs. search needs)
-    (λ c. search needs)
+    (λ c κs. search needs) (λ c κs. search needs) (λ c. search needs)
     returns-2)

@@ -1,10 +1,7 @@
 -- The place of the tile's first pit. Assumes nothing.
-use mathlib.Core.Path.{_≡_, ap, _∙_}
-use Prim.Native.Nat.{_*_, _%_}
-use native.Mathlib.Omega.{arith}
+use Rattle.wire.proofs.Basics.{_∙_, _≡_, ap, _*_, _%_, arith, needs}
 use Rattle.sorted_set.specs.Halving.{rankIn}
 use Rattle.count_rules.specs.Keys.{span, pitKey}
-use borrow.Author.Needs.{needs}
 use Rattle.tile_pits.proofs.first_of.Statement.{statement}
 use Rattle.tile_pits.proofs.first_of.Tie as tie
 

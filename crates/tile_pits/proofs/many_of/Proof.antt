@@ -1,8 +1,6 @@
 -- Between the two places. Assumes nothing.
-use mathlib.Core.Path.{_∙_}
-use Prim.Native.Nat.{_-_}
+use Rattle.wire.proofs.Basics.{_∙_, _-_, needs}
 use Rattle.pit_marks.specs.Lines.{pitsIn}
-use borrow.Author.Needs.{needs}
 use Rattle.tile_pits.proofs.many_of.Statement.{statement}
 use Rattle.tile_pits.proofs.many_of.Tie as tie
 

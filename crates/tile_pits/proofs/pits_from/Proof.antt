@@ -1,8 +1,7 @@
 -- By whether there is room for the pits. Assumes nothing.
-use native.Mathlib.Omega.{arith}
+use Rattle.wire.proofs.Basics.{arith, needs}
 use Rattle.tile_pits.specs.Pits.{mapOf}
 use Rattle.tile_pits.proofs.TileGiven.{part-inside, short-numbers, short-certain, given}
-use borrow.Author.Needs.{needs}
 use Rattle.tile_pits.proofs.pits_from.Statement.{statement}
 use Rattle.tile_pits.proofs.pits_from.Tie as tie
 
@@ -35,14 +34,11 @@ returns-3 c =
     (f .before .before .if1 .left) (f .before .if2 .left) (f .first-of .result) (f .first-of .ensures) _ _ (p .put-pits .ensures)
 
 pub pits-from-spec : {M : Type 1} → statement M
-pits-from-spec =
-    tie.close
-    (tie.spec
+pits-from-spec = tie.close (tie.spec
     (λ c κs. search needs)
     returns
     returns-2
     (λ c κs. search needs)
     put-pits-requires
-    (λ c. search needs)
-    (λ c. search needs)
+    (λ c. search needs) (λ c. search needs)
     returns-3)

@@ -1,13 +1,9 @@
 -- Pit by pit. The loop's invariant: the first i are laid. Assumes nothing.
-use mathlib.Core.Path.{_≡_, refl, ap, _∙_}
-use Prim.Native.Nat.{ℕ, _+_, _-_, _%_, _≤_, _<_}
-use native.Mathlib.Omega.{arith}
-use lib.ListN.{length, getD}
+use Rattle.wire.proofs.Basics.{_∙_, _≡_, ap, refl, ℕ, _≤_, _+_, _<_, _-_, _%_, length, getD, arith, needs}
 use Rattle.wire.specs.Choice.{pick}
 use Rattle.sorted_set.specs.Halving.{isThere}
 use Rattle.count_rules.specs.Keys.{span}
 use Rattle.pit_marks.proofs.TileLines.{laid, laid-none, laid-more, laid-all}
-use borrow.Author.Needs.{needs}
 use Rattle.tile_pits.proofs.put_pits.Statement.{statement}
 use Rattle.tile_pits.proofs.put_pits.Tie as tie
 
@@ -58,20 +54,12 @@ returns c =
     }
 
 pub put-pits-spec : {M : Type 1} → statement M
-put-pits-spec =
-    tie.close
-    (tie.spec
+put-pits-spec = tie.close (tie.spec
     Inv-loop
     μ-loop
     loop-holds
     (λ c. let s = c .before .before .before .before .before .before in omega (arith, s .pre))
-    (λ c κs. search needs)
-    (λ c κs. search needs)
-    (λ c κs. search needs)
-    (λ c κs. search needs)
-    (λ c. search needs)
-    (λ c. search needs)
+    (λ c κs. search needs) (λ c κs. search needs) (λ c κs. search needs) (λ c κs. search needs) (λ c. search needs) (λ c. search needs)
     loop-again
-    (λ c. search needs)
-    (λ c. search needs)
+    (λ c. search needs) (λ c. search needs)
     returns)

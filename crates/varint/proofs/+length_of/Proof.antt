@@ -1,12 +1,7 @@
 -- `varint::length_of` meets its contract: one byte, or one more than the rest takes. The measure is k. Assumes nothing.
-use mathlib.Core.Path.{sym, ap}
-use native.Mathlib.Omega.{arith}
-use lib.ListN.{length}
-use Prim.Native.Nat.{_-_, _/_}
+use Rattle.wire.proofs.Basics.{sym, ap, ℕ, _<_, _-_, _/_, length, arith, needs}
 use Rattle.varint.specs.Seven.{groups}
 use Rattle.varint.proofs.Sevens.{groups-last, groups-more, groups-length}
-use borrow.Author.Needs.{needs}
-use Prim.Native.Nat.{ℕ, _<_}
 use borrow.Fn.Kinds.{In}
 use borrow.Fn.PlainCycle.{Measures, is, falls, and}
 use Rattle.varint.proofs.length_of.Reads as length-of

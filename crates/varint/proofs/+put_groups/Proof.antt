@@ -1,13 +1,9 @@
 -- `varint::put_groups` meets its contract: the lowest group, then the rest. The measure is k. Assumes nothing.
-use mathlib.Core.Path.{sym, ap, _∙_}
-use native.Mathlib.Omega.{arith}
-use lib.ListN.{length, length-set}
+use Rattle.wire.proofs.Basics.{_∙_, sym, ap, ℕ, _<_, length, length-set, arith, needs}
 use Rattle.wire.specs.Overlay.{overlay}
 use Rattle.varint.specs.Seven.{groups}
 use Rattle.wire.proofs.Overlays.{overlay-out, overlay-one, length-overlay}
 use Rattle.varint.proofs.Sevens.{groups-last, group-left, fits-next, overlay-groups}
-use borrow.Author.Needs.{needs}
-use Prim.Native.Nat.{ℕ, _<_}
 use borrow.Fn.Kinds.{In}
 use borrow.Fn.PlainCycle.{Measures, is, falls, and}
 use Rattle.varint.proofs.put_groups.Reads as put-groups

@@ -1,9 +1,6 @@
 -- `varint::read_groups` meets its contract: a byte, and the groups after it. The measure is k. Assumes nothing.
-use mathlib.Core.Path.{sym}
-use native.Mathlib.Omega.{arith}
+use Rattle.wire.proofs.Basics.{sym, ℕ, _<_, arith, needs}
 use Rattle.varint.proofs.Sevens.{at-end, at-tenth-high, at-tenth, at-last, at-more-refused, at-more-zero, at-more, lowest-fits}
-use borrow.Author.Needs.{needs}
-use Prim.Native.Nat.{ℕ, _<_}
 use borrow.Fn.Kinds.{In}
 use borrow.Fn.PlainCycle.{Measures, is, falls, and}
 use Rattle.varint.proofs.read_groups.Reads as read-groups

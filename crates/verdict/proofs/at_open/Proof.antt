@@ -1,12 +1,10 @@
 -- `verdict::at_open` meets its contract. Assumes nothing.
-use mathlib.Core.Path.{refl, sym, _∙_, ap}
-use Prim.Native.Nat.{_+_, _*_}
+use Rattle.wire.proofs.Basics.{_∙_, sym, ap, refl, _+_, _*_, needs}
 use Rattle.datagram.specs.Limits.{maxFragments}
 use Rattle.slots.specs.Words.{blockAt, heldWord}
 use Rattle.steps.proofs.Branches.{step3-other, step3-again, step3-differs, step3-join, step3-clash}
 use Rattle.receiver_state.proofs.StepListCases.{held-lent, held-asked, other-size, other-count, same-both, agree-all}
 use Rattle.verdict.specs.Decided.{withHeader}
-use borrow.Author.Needs.{needs}
 use Rattle.verdict.proofs.at_open.Statement.{statement}
 use Rattle.verdict.proofs.at_open.Tie as tie
 

@@ -1,7 +1,6 @@
 -- `verdict::at_small` meets its contract. Assumes nothing.
-use mathlib.Core.Path.{sym, ap}
+use Rattle.wire.proofs.Basics.{sym, ap, needs}
 use Rattle.verdict.specs.Inside.{smallVerdict}
-use borrow.Author.Needs.{needs}
 use Rattle.verdict.proofs.at_small.Statement.{statement}
 use Rattle.verdict.proofs.at_small.Tie as tie
 

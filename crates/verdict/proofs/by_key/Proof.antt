@@ -1,5 +1,5 @@
 -- `verdict::by_key` meets its contract. Assumes nothing.
-use mathlib.Core.Path.{sym, _∙_, ap}
+use Rattle.wire.proofs.Basics.{_∙_, sym, ap, needs}
 use Rattle.steps.specs.Limits.{slotCount}
 use Rattle.slots.specs.Words.{keyIn}
 use Rattle.receiver_state.specs.View.{view}
@@ -8,7 +8,6 @@ use Rattle.receiver_state.proofs.Remembers.{remembered-is}
 use Rattle.receiver_state.proofs.StepListCases.{decide-again, decide-small, decide-begin, decide-open}
 use Rattle.verdict.specs.Decided.{withHeader}
 use Rattle.verdict.proofs.Decides.{open-is, small-verdict}
-use borrow.Author.Needs.{needs}
 use Rattle.verdict.proofs.by_key.Statement.{statement}
 use Rattle.verdict.proofs.by_key.Tie as tie
 
@@ -81,4 +80,13 @@ returns-4 c =
     at-open .ensures ∙ ap (withHeader (args .h)) (sym (decide-open (view (args .state .now) (args .names .now)) (args .store .now) (args .ledger .now) (args .sender) (args .d .now) (args .h) _ (known ∙ at-if1 .if1 .left) (at-if2 .if2 .left) (at ∙ ap optionOf (at-found .found .given .1))))
 
 pub by-key-spec : {M : Type 1} → statement M
-by-key-spec = tie.close (tie.spec (λ c κs. search needs) (λ c. search needs) (λ c. search needs) (λ c. search needs) (λ c κs. search needs) returns (λ c κs. search needs) (λ c κs. search needs) returns-2 (λ c. search needs) enum-told returns-3 at-open-requires returns-4)
+by-key-spec = tie.close (tie.spec
+    (λ c κs. search needs) (λ c. search needs) (λ c. search needs) (λ c. search needs) (λ c κs. search needs)
+    returns
+    (λ c κs. search needs) (λ c κs. search needs)
+    returns-2
+    (λ c. search needs)
+    enum-told
+    returns-3
+    at-open-requires
+    returns-4)

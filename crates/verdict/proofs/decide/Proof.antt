@@ -1,13 +1,11 @@
 -- `verdict::decide` meets its contract. Assumes nothing.
-use mathlib.Core.Path.{sym, _∙_, ap}
-use borrow.Author.Tests.{not-true, not-false}
+use Rattle.wire.proofs.Basics.{_∙_, sym, ap, not-false, not-true, needs}
 use Rattle.datagram.specs.Limits.{maxFragments}
 use Rattle.datagram.specs.Read.{readDatagram}
 use Rattle.verdict.specs.declared.Verdict.the-variants.{Refuse}
 use Rattle.verdict.specs.Inside.{passedOn}
 use Rattle.verdict.proofs.Gates.{ready-is, ready-ledger, told}
 use Rattle.verdict.proofs.Decides.{unready, decided-refused, decided-good}
-use borrow.Author.Needs.{needs}
 use Rattle.verdict.proofs.decide.Statement.{statement}
 use Rattle.verdict.proofs.decide.Tie as tie
 
@@ -18,9 +16,6 @@ returns c =
     let if1 = c .if1 in
     let args = start .args in
     sym (unready (args .state .now) (args .names .now) (args .store .now) (args .ledger .now) (args .sender) (args .d .now) (sym (at-is-ready .is-ready .ensures) ∙ not-true _ (if1 .taken)))
-
-enum-told : tie.Need-enum-told
-enum-told c = search needs
 
 returns-2 : tie.Need-returns-2
 returns-2 c =
@@ -66,4 +61,4 @@ returns-3 c =
     by-key .ensures ∙ sym (decided-good (args .state .now) (args .names .now) (args .store .now) (args .ledger .now) (args .sender) (args .d .now) ok _ reads)
 
 pub decide-spec : {M : Type 1} → statement M
-decide-spec = tie.close (tie.spec (λ c κs. search needs) returns (λ c κs. search needs) (λ c κs. search needs) (λ c. search needs) enum-told (λ c κs. search needs) returns-2 by-key-requires returns-3)
+decide-spec = tie.close (tie.spec (λ c κs. search needs) returns (λ c κs. search needs) (λ c κs. search needs) (λ c. search needs) (λ c. search needs) (λ c κs. search needs) returns-2 by-key-requires returns-3)

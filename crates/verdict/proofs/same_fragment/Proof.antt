@@ -1,11 +1,5 @@
 -- `verdict::same_fragment` meets its contract. Assumes nothing.
-use mathlib.Core.Path.{_≡_, sym, _∙_, ap}
-use mathlib.Core.Bool.{true}
-use Prim.Native.Nat.{_+_, _*_}
-use native.Mathlib.Omega.{arith}
-use lib.Dec.{eqb}
-use lib.ListN.{length, getD, take, drop}
-use borrow.Author.Tests.{eq-eqb, ne-eqb, not-true, not-false}
+use Rattle.wire.proofs.Basics.{_∙_, sym, _≡_, ap, _+_, _*_, true, length, drop, getD, take, eqb, eq-eqb, ne-eqb, not-false, not-true, arith, needs}
 use Rattle.wire.specs.Choice.{pick}
 use Rattle.wire.specs.Same.{same}
 use Rattle.datagram.specs.Limits.{maxName}
@@ -15,7 +9,6 @@ use Rattle.steps.specs.Slots.{padded}
 use Rattle.receiver_state.specs.View.{roomWord, nameIn}
 use Rattle.receiver_state.proofs.Moves.{name-filled, name-long, place-small}
 use Rattle.receiver_state.proofs.StepListCases.{offset-is, length-is, same-offset, same-long, same-bytes, same-name}
-use borrow.Author.Needs.{needs}
 use Rattle.verdict.proofs.same_fragment.Statement.{statement}
 use Rattle.verdict.proofs.same_fragment.Tie as tie
 

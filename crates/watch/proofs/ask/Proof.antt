@@ -1,9 +1,8 @@
 -- What a sender's number says. Assumes nothing.
-use mathlib.Core.Path.{sym, ap, _∙_}
-use borrow.Author.Needs.{needs}
+use Rattle.wire.proofs.Basics.{_∙_, sym, ap, needs}
 use mir.Syntax.{w32}
 use mir.ValLaws.{toZ-ofZ}
-use Rattle.watch.specs.Difference.{told}
+use Rattle.differences.specs.Difference.{told}
 use Rattle.watch.proofs.WatchCases.{asked-claims, asked-known, asked-new, asked-full}
 use Rattle.watch.proofs.ask.Statement.{statement}
 use Rattle.watch.proofs.ask.Tie as tie
@@ -36,15 +35,9 @@ returns-4 c =
     sym (asked-full (a .t1) (a .sender) (a .number) (f .find .result) (s .if1 .left) (f .find .ensures) (c .before .if2 .left) (c .if3 .left))
 
 pub ask-spec : {M : Type 1} → statement M
-ask-spec =
-    tie.close
-    (tie.spec
+ask-spec = tie.close (tie.spec
     (λ c. let a = c .before .args in sym (asked-claims (a .t1) (a .sender) (a .number) (c .if1 .taken)))
-    (λ c κs. search needs)
-    (λ c. search needs)
-    (λ c. search needs)
-    (λ c κs. search needs)
-    (λ c κs. search needs)
+    (λ c κs. search needs) (λ c. search needs) (λ c. search needs) (λ c κs. search needs) (λ c κs. search needs)
     returns-2
     returns-3
     returns-4)

@@ -1,10 +1,5 @@
 -- Where a sender stands. The loop has passed i senders, none of them this one. Assumes nothing.
-use Prim.Native.Nat.{_-_}
-use mathlib.Core.Path.{_≡_, sym, _∙_}
-use native.Mathlib.Omega.{arith}
-use borrow.Author.Needs.{needs}
-use lib.ListN.{length, take}
-use lib.Seq.{getD-take, length-take-le}
+use Rattle.wire.proofs.Basics.{_∙_, sym, _≡_, _-_, length, take, length-take-le, getD-take, arith, needs}
 use Rattle.watch.proofs.Places.{Passed, passed-none, passed-here, passed-more, passed-all}
 use Rattle.watch.proofs.find.Statement.{statement}
 use Rattle.watch.proofs.find.Tie as tie
@@ -36,15 +31,12 @@ loop-again c =
     )
 
 pub find-spec : {M : Type 1} → statement M
-find-spec =
-    tie.close (tie.spec
+find-spec = tie.close (tie.spec
     Inv-loop
     μ-loop
     (λ c. (length-take-le (c .args .count) (c .args .senders .now) (c .pre), passed-none (c .args .sender) _))
-    (λ c. search needs)
-    (λ c. omega arith)
+    (λ c. search needs) (λ c. omega arith)
     returns
-    (λ c. omega arith)
-    (λ c. omega arith)
+    (λ c. omega arith) (λ c. omega arith)
     loop-again
     (λ c. passed-all (c .before .loop .inv .1) (omega arith)))

@@ -1,6 +1,5 @@
 -- A sender's watch moves to a number. Assumes nothing.
-use mathlib.Core.Path.{sym}
-use borrow.Author.Needs.{needs}
+use Rattle.wire.proofs.Basics.{sym, needs}
 use Rattle.watch.proofs.WatchCases.{moved-claims, moved-full, moved-known, moved-new}
 use Rattle.watch.proofs.move_to.Statement.{statement}
 use Rattle.watch.proofs.move_to.Tie as tie
@@ -27,16 +26,10 @@ returns-4 c =
     sym (moved-known (a .t1) (a .sender) (a .number) (f .find .result) (s .if1 .left) (f .find .ensures) (c .before .if2 .left) (c .if3 .left))
 
 pub move-to-spec : {M : Type 1} → statement M
-move-to-spec =
-    tie.close
-    (tie.spec
+move-to-spec = tie.close (tie.spec
     (λ c. let a = c .before .args in sym (moved-claims (a .t1) (a .sender) (a .number) (c .if1 .taken)))
     (λ c κs. search needs)
     returns-2
-    (λ c. search needs)
-    (λ c. search needs)
-    (λ c. search needs)
-    (λ c. search needs)
-    (λ c. search needs)
+    (λ c. search needs) (λ c. search needs) (λ c. search needs) (λ c. search needs) (λ c. search needs)
     returns-3
     returns-4)

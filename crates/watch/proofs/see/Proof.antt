@@ -1,7 +1,6 @@
 -- The answer and the watch afterwards. Assumes nothing.
-use mathlib.Core.Path.{sym, _∙_}
-use borrow.Author.Needs.{needs}
-use Rattle.watch.specs.Noted.{notes}
+use Rattle.wire.proofs.Basics.{_∙_, sym, needs}
+use Rattle.differences.specs.Noted.{notes}
 use Rattle.watch.proofs.WatchCases.{after-moves, after-stays}
 use Rattle.watch.proofs.see.Statement.{statement}
 use Rattle.watch.proofs.see.Tie as tie

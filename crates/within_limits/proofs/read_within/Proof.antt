@@ -1,6 +1,5 @@
 -- `within_limits::read_within` meets its contract. Assumes nothing.
-use mathlib.Core.Path.{refl, _∙_}
-use borrow.Author.Needs.{needs}
+use Rattle.wire.proofs.Basics.{_∙_, refl, needs}
 use Rattle.within_limits.proofs.read_within.Statement.{statement}
 use Rattle.within_limits.proofs.read_within.Tie as tie
 

@@ -1,9 +1,5 @@
 -- `within_limits::receive_within` meets its contract: the limits' refusal, or the receiver's own. Assumes nothing.
-use mathlib.Core.Path.{_≡_, sym, ap, subst, _∙_}
-use mathlib.Core.Bool.{true}
-use mathlib.Core.List.{List}
-use Prim.Native.Nat.{ℕ}
-use lib.ListN.{length, getD}
+use Rattle.wire.proofs.Basics.{_∙_, sym, _≡_, ap, subst, ℕ, List, true, length, getD, needs}
 use Rattle.datagram.specs.declared.Read.{Read}
 use Rattle.datagram.specs.declared.Read.the-variants.{Refused}
 use Rattle.steps.specs.declared.Answer.the-variants as answer
@@ -15,7 +11,6 @@ use Rattle.receiver.specs.declared.Outcome.{Outcome}
 use Rattle.log.specs.declared.reader.Limits.{Limits}
 use Rattle.within_limits.specs.Within.{readWithin, ReceivesWithin}
 use Rattle.within_limits.proofs.Withins.{received-good, received-nine, by-receive, by-limits}
-use borrow.Author.Needs.{needs}
 use Rattle.within_limits.proofs.receive_within.Statement.{statement}
 use Rattle.within_limits.proofs.receive_within.Tie as tie
 
@@ -28,9 +23,6 @@ refused-so : (l : Limits) (w n store ledger : List ℕ) (sender : ℕ) (d : List
     → ReceivesWithin l (lent w n store ledger) sender d r (lent w n store ledger)
 refused-so l w n store ledger sender d k r s e o =
     subst (λ (x : Outcome). ReceivesWithin l (lent w n store ledger) sender d x (lent w n store ledger)) (sym o) (by-limits l w n store ledger sender d k s e)
-
-enum-told : tie.Need-enum-told
-enum-told c = search needs
 
 returns : tie.Need-returns
 returns c =
@@ -60,27 +52,12 @@ returns-3 c =
     by-receive (a .limits) _ _ _ _ (a .sender) (a .d .now) (received-nine (a .limits) _ _ _ _ (a .sender) (a .d .now) (sym (i .is-ready .ensures) ∙ f .if1 .left)) (c .before .before .before .before .before .before .before .before .receive2 .ensures)
 
 pub receive-within-spec : {M : Type 1} → statement M
-receive-within-spec =
-    tie.close
-    (tie.spec
-    (λ c κs. search needs)
-    (λ c κs. search needs)
+receive-within-spec = tie.close (tie.spec
+    (λ c κs. search needs) (λ c κs. search needs) (λ c. search needs)
     (λ c. search needs)
-    enum-told
-    (λ c κs. search needs)
-    (λ c. search needs)
-    (λ c. search needs)
-    (λ c. search needs)
-    (λ c. search needs)
+    (λ c κs. search needs) (λ c. search needs) (λ c. search needs) (λ c. search needs) (λ c. search needs)
     returns
-    (λ c κs. search needs)
-    (λ c κs. search needs)
-    (λ c. search needs)
-    (λ c. search needs)
+    (λ c κs. search needs) (λ c κs. search needs) (λ c. search needs) (λ c. search needs)
     returns-2
-    (λ c κs. search needs)
-    (λ c. search needs)
-    (λ c. search needs)
-    (λ c. search needs)
-    (λ c. search needs)
+    (λ c κs. search needs) (λ c. search needs) (λ c. search needs) (λ c. search needs) (λ c. search needs)
     returns-3)

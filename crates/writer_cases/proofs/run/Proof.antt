@@ -1,8 +1,5 @@
 -- The loop ends: it counts the cases, up to a number that no input reaches. Assumes nothing.
-use mathlib.Core.Path.{_≡_, _∙_}
-use Prim.Native.Nat.{_-_}
-use lib.ListN.{length}
-use borrow.Author.Needs.{needs}
+use Rattle.wire.proofs.Basics.{_∙_, _≡_, _-_, length, needs}
 use Rattle.writer_cases.proofs.run.Statement.{statement}
 use Rattle.writer_cases.proofs.run.Tie as tie
 
@@ -24,35 +21,11 @@ loop-again c =
     (r .next-record .kept .0 ∙ i .0, (k .0 ∙ i .1 .0, (k .1 .1 .1 .1 .1 .1 .0 ∙ i .1 .1 .0, k .1 .1 .1 .1 .1 .1 .1 .0 ∙ i .1 .1 .1)))
 
 pub run-spec : {M : Type 1} → statement M
-run-spec =
-    tie.close
-    (tie.spec
+run-spec = tie.close (tie.spec
     Inv-loop
     μ-loop
-    (λ c. search needs)
-    (λ c. search needs)
-    (λ c. search needs)
-    (λ c. search needs)
-    (λ c. search needs)
-    (λ c. search needs)
-    (λ c κs. search needs)
-    (λ c. search needs)
-    (λ c κs. search needs)
-    (λ c. search needs)
-    (λ c. search needs)
-    (λ c. search needs)
-    (λ c. search needs)
-    (λ c. search needs)
-    (λ c. search needs)
-    (λ c κs. search needs)
-    (λ c κs. search needs)
-    (λ c κs. search needs)
-    (λ c κs. search needs)
-    (λ c. search needs)
+    (λ c. search needs) (λ c. search needs) (λ c. search needs) (λ c. search needs) (λ c. search needs) (λ c. search needs) (λ c κs. search needs)
+    (λ c. search needs) (λ c κs. search needs) (λ c. search needs) (λ c. search needs) (λ c. search needs) (λ c. search needs) (λ c. search needs)
+    (λ c. search needs) (λ c κs. search needs) (λ c κs. search needs) (λ c κs. search needs) (λ c κs. search needs) (λ c. search needs)
     loop-again
-    (λ c κs. search needs)
-    (λ c. search needs)
-    (λ c. search needs)
-    (λ c. search needs)
-    (λ c. search needs)
-    (λ c. search needs))
+    (λ c κs. search needs) (λ c. search needs) (λ c. search needs) (λ c. search needs) (λ c. search needs) (λ c. search needs))

@@ -1,9 +1,7 @@
 -- `host_flight::watching::qm_watch_see` meets its contract. Assumes nothing.
-use mathlib.Core.Path.{_∙_}
-use lib.ListN.{take, drop}
+use Rattle.wire.proofs.Basics.{_∙_, drop, take, needs}
 use Rattle.watch.specs.Limits.{maxSenders}
 use Rattle.host_flight.proofs.Watched.{lacks-senders, lacks-lasts, has-room, see-short, see-told}
-use borrow.Author.Needs.{needs}
 use Rattle.host_flight.proofs.watching.qm_watch_see.Statement.{statement}
 use Rattle.host_flight.proofs.watching.qm_watch_see.Tie as tie
 
@@ -29,24 +27,10 @@ returns-3 c =
     (seeing .see .ensures) (c .noted-code .ensures) (counting .put-word .ensures) (putting .put-words .ensures) (lasting .put-entries .ensures)
 
 pub qm-watch-see-spec : {M : Type 1} → statement M
-qm-watch-see-spec =
-    tie.close
-    (tie.spec
+qm-watch-see-spec = tie.close (tie.spec
     returns
     returns-2
-    (λ c κs. search needs)
-    (λ c. search needs)
-    (λ c. search needs)
-    (λ c. search needs)
-    (λ c. search needs)
-    (λ c. search needs)
-    (λ c. search needs)
-    (λ c κs. search needs)
-    (λ c κs. search needs)
-    (λ c κs. search needs)
-    (λ c κs. search needs)
-    (λ c κs. search needs)
-    (λ c κs. search needs)
-    (λ c. search needs)
-    (λ c. search needs)
+    (λ c κs. search needs) (λ c. search needs) (λ c. search needs) (λ c. search needs) (λ c. search needs) (λ c. search needs) (λ c. search needs)
+    (λ c κs. search needs) (λ c κs. search needs) (λ c κs. search needs) (λ c κs. search needs) (λ c κs. search needs) (λ c κs. search needs)
+    (λ c. search needs) (λ c. search needs)
     returns-3)

@@ -1,6 +1,5 @@
 -- `host_flight::watching::shown` meets its contract. Assumes nothing.
-use mathlib.Core.Path.{_∙_}
-use borrow.Author.Needs.{needs}
+use Rattle.wire.proofs.Basics.{_∙_, needs}
 use Rattle.wire.proofs.Overlays.{overlay-whole}
 use Rattle.host_flight.proofs.watching.shown.Statement.{statement}
 use Rattle.host_flight.proofs.watching.shown.Tie as tie
@@ -13,11 +12,6 @@ returns c =
     λ i. record { senders = x i; lasts = y i; count = s .args .count }
 
 pub shown-spec : {M : Type 1} → statement M
-shown-spec =
-    tie.close
-    (tie.spec
-    (λ c. search needs)
-    (λ c κs. search needs)
-    (λ c. search needs)
-    (λ c κs. search needs)
+shown-spec = tie.close (tie.spec
+    (λ c. search needs) (λ c κs. search needs) (λ c. search needs) (λ c κs. search needs)
     returns)

@@ -1,11 +1,7 @@
 -- Ten bytes out of two words, and the two other words. Assumes nothing.
-use mathlib.Core.Path.{_∙_}
-use mathlib.Core.List.{_++_}
-use Prim.Native.Nat.{_%_, _^_}
-use lib.Dec.{eqb}
+use Rattle.wire.proofs.Basics.{_∙_, _^_, _%_, _++_, eqb, needs}
 use Rattle.wire.specs.Bytes.{bytes}
 use Rattle.host_gauge.proofs.Watched.{ten-bytes}
-use borrow.Author.Needs.{needs}
 use Rattle.host_gauge.proofs.watching.shown.Statement.{statement}
 use Rattle.host_gauge.proofs.watching.shown.Tie as tie
 
@@ -20,16 +16,7 @@ returns c =
     λ i. record { session = session i; last = third .word3 .ensures i % 2 ^ 32; started = eqb (c .word4 .ensures i) 1 }
 
 pub shown-spec : {M : Type 1} → statement M
-shown-spec =
-    tie.close
-    (tie.spec
-    (λ c. search needs)
-    (λ c κs. search needs)
-    (λ c κs. search needs)
-    (λ c. search needs)
-    (λ c κs. search needs)
-    (λ c κs. search needs)
-    (λ c κs. search needs)
-    (λ c. search needs)
-    (λ c κs. search needs)
+shown-spec = tie.close (tie.spec
+    (λ c. search needs) (λ c κs. search needs) (λ c κs. search needs) (λ c. search needs) (λ c κs. search needs) (λ c κs. search needs) (λ c κs. search needs)
+    (λ c. search needs) (λ c κs. search needs)
     returns)

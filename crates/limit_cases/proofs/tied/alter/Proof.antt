@@ -1,8 +1,5 @@
 -- The loop ends at the fourth word. Assumes nothing.
-use mathlib.Core.Path.{_≡_}
-use Prim.Native.Nat.{_-_}
-use lib.ListN.{length}
-use borrow.Author.Needs.{needs}
+use Rattle.wire.proofs.Basics.{_≡_, _-_, length, needs}
 use Rattle.limit_cases.proofs.tied.alter.Statement.{statement}
 use Rattle.limit_cases.proofs.tied.alter.Tie as tie
 
@@ -13,19 +10,8 @@ abbrev μ-loop : tie.MeasureT-loop
 μ-loop case state₀ i₀ state i = 4 - i
 
 pub alter-spec : {M : Type 1} → statement M
-alter-spec =
-    tie.close
-    (tie.spec
+alter-spec = tie.close (tie.spec
     Inv-loop
     μ-loop
-    (λ c. search needs)
-    (λ c. search needs)
-    (λ c κs. search needs)
-    (λ c. search needs)
-    (λ c κs. search needs)
-    (λ c κs. search needs)
-    (λ c. search needs)
-    (λ c. search needs)
-    (λ c. search needs)
-    (λ c. search needs)
-    (λ c. search needs))
+    (λ c. search needs) (λ c. search needs) (λ c κs. search needs) (λ c. search needs) (λ c κs. search needs) (λ c κs. search needs) (λ c. search needs)
+    (λ c. search needs) (λ c. search needs) (λ c. search needs) (λ c. search needs))

@@ -1,8 +1,5 @@
 -- The loop ends at the last sender. Assumes nothing.
-use mathlib.Core.Path.{_≡_}
-use Prim.Native.Nat.{_-_}
-use lib.ListN.{length}
-use borrow.Author.Needs.{needs}
+use Rattle.wire.proofs.Basics.{_≡_, _-_, length, needs}
 use Rattle.limit_cases.proofs.watching.lasts_from.Statement.{statement}
 use Rattle.limit_cases.proofs.watching.lasts_from.Tie as tie
 
@@ -13,16 +10,8 @@ abbrev μ-loop : tie.MeasureT-loop
 μ-loop first step lasts₀ last₀ i₀ lasts last i = 16 - i
 
 pub lasts-from-spec : {M : Type 1} → statement M
-lasts-from-spec =
-    tie.close
-    (tie.spec
+lasts-from-spec = tie.close (tie.spec
     Inv-loop
     μ-loop
-    (λ c. search needs)
-    (λ c. search needs)
-    (λ c. search needs)
-    (λ c κs. search needs)
-    (λ c. search needs)
-    (λ c. search needs)
-    (λ c. search needs)
+    (λ c. search needs) (λ c. search needs) (λ c. search needs) (λ c κs. search needs) (λ c. search needs) (λ c. search needs) (λ c. search needs)
     (λ c. search needs))

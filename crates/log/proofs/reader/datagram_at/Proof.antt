@@ -1,8 +1,6 @@
 -- `log::reader::datagram_at` meets its contract. Assumes nothing.
-use mathlib.Core.Path.{sym}
-use native.Mathlib.Omega.{arith}
+use Rattle.wire.proofs.Basics.{sym, arith, needs}
 use Rattle.log.proofs.Reading.{datagram-long, datagram-cut, datagram-found}
-use borrow.Author.Needs.{needs}
 use Rattle.log.proofs.reader.datagram_at.Statement.{statement}
 use Rattle.log.proofs.reader.datagram_at.Tie as tie
 

@@ -1,7 +1,6 @@
 -- `log::first_entry` meets its contract. Assumes nothing.
-use mathlib.Core.Path.{sym, _∙_}
+use Rattle.wire.proofs.Basics.{_∙_, sym, needs}
 use Rattle.log.proofs.Reading.{first-empty, first-one, first-two, first-other}
-use borrow.Author.Needs.{needs}
 use Rattle.log.proofs.reader.first_entry.Statement.{statement}
 use Rattle.log.proofs.reader.first_entry.Tie as tie
 
@@ -27,13 +26,10 @@ returns-4 c =
     sym (first-other (i .before .before .args .log .now) (i .if1 .left) (j .if2 .left) (c .if3 .left))
 
 pub first-entry-spec : {M : Type 1} → statement M
-first-entry-spec =
-    tie.close
-    (tie.spec
+first-entry-spec = tie.close (tie.spec
     returns
     (λ c. search needs)
     returns-2
-    (λ c. search needs)
-    (λ c κs. search needs)
+    (λ c. search needs) (λ c κs. search needs)
     returns-3
     returns-4)

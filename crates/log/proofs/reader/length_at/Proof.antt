@@ -1,9 +1,8 @@
 -- `log::reader::length_at` meets its contract. Assumes nothing.
-use mathlib.Core.Path.{sym, ap, _∙_}
+use Rattle.wire.proofs.Basics.{_∙_, sym, ap, needs}
 use Rattle.varint.proofs.Sevens.{number-taken, number-refused}
 use Rattle.log.specs.Said.{stepOf}
 use Rattle.log.proofs.Reading.{length-follows, length-refused}
-use borrow.Author.Needs.{needs}
 use Rattle.log.proofs.reader.length_at.Statement.{statement}
 use Rattle.log.proofs.reader.length_at.Tie as tie
 
@@ -27,11 +26,8 @@ returns-2 c =
     sym (ap (stepOf (a .log .now)) (length-refused _ (a .sender) (a .tick) _ (number-refused (a .log .now) (a .at) _ _ (r .read-seven .ensures) (c .before .read2 .given .1))))
 
 pub length-at-spec : {M : Type 1} → statement M
-length-at-spec =
-    tie.close
-    (tie.spec
-    (λ c κs. search needs)
-    (λ c. search needs)
+length-at-spec = tie.close (tie.spec
+    (λ c κs. search needs) (λ c. search needs)
     datagram-at-requires
     (λ c. search needs)
     returns

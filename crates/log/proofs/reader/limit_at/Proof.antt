@@ -1,9 +1,8 @@
 -- `log::reader::limit_at` meets its contract. Assumes nothing.
-use mathlib.Core.Path.{sym, ap, _∙_}
+use Rattle.wire.proofs.Basics.{_∙_, sym, ap, needs}
 use Rattle.varint.proofs.Sevens.{number-taken, number-refused}
 use Rattle.log.specs.Said.{firstOf}
 use Rattle.log.proofs.Reading.{limit-follows, limit-refused}
-use borrow.Author.Needs.{needs}
 use Rattle.log.proofs.reader.limit_at.Statement.{statement}
 use Rattle.log.proofs.reader.limit_at.Tie as tie
 
@@ -27,11 +26,8 @@ returns-2 c =
     sym (ap (firstOf (a .log .now)) (limit-refused _ _ (number-refused (a .log .now) (a .at) _ _ (r .read-seven .ensures) (c .before .read2 .given .1))))
 
 pub limit-at-spec : {M : Type 1} → statement M
-limit-at-spec =
-    tie.close
-    (tie.spec
-    (λ c κs. search needs)
-    (λ c. search needs)
+limit-at-spec = tie.close (tie.spec
+    (λ c κs. search needs) (λ c. search needs)
     within-requires
     (λ c. search needs)
     returns

@@ -1,12 +1,8 @@
 -- `log::limits_in` meets its contract. Assumes nothing.
-use mathlib.Core.Path.{sym, _∙_}
+use Rattle.wire.proofs.Basics.{_∙_, sym, needs}
 use Rattle.log.proofs.Reading.{limits-told, limits-none}
-use borrow.Author.Needs.{needs}
 use Rattle.log.proofs.reader.limits_in.Statement.{statement}
 use Rattle.log.proofs.reader.limits_in.Tie as tie
-
-enum-told : tie.Need-enum-told
-enum-told c = search needs
 
 returns : tie.Need-returns
 returns c =
@@ -20,4 +16,4 @@ returns-2 c =
 
 pub limits-in-spec : {M : Type 1} → statement M
 limits-in-spec =
-    tie.close (tie.spec (λ c κs. search needs) (λ c. search needs) enum-told returns returns-2)
+    tie.close (tie.spec (λ c κs. search needs) (λ c. search needs) (λ c. search needs) returns returns-2)

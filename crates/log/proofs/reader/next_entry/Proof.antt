@@ -1,9 +1,8 @@
 -- `log::next_entry` meets its contract. Assumes nothing.
-use mathlib.Core.Path.{sym, ap, _∙_}
+use Rattle.wire.proofs.Basics.{_∙_, sym, ap, needs}
 use Rattle.varint.proofs.Sevens.{number-taken, number-refused}
 use Rattle.log.specs.Said.{stepOf}
 use Rattle.log.proofs.Reading.{next-end, next-here, entry-follows, entry-refused}
-use borrow.Author.Needs.{needs}
 use Rattle.log.proofs.reader.next_entry.Statement.{statement}
 use Rattle.log.proofs.reader.next_entry.Tie as tie
 
@@ -26,13 +25,8 @@ returns-3 c =
     sym (next-here (a .log .now) (a .at) (r .before .if1 .left) ∙ ap (stepOf (a .log .now)) (entry-refused _ _ (number-refused (a .log .now) (a .at) _ _ (r .read-seven .ensures) (c .before .read2 .given .1))))
 
 pub next-entry-spec : {M : Type 1} → statement M
-next-entry-spec =
-    tie.close
-    (tie.spec
+next-entry-spec = tie.close (tie.spec
     returns
-    (λ c κs. search needs)
-    (λ c. search needs)
-    (λ c κs. search needs)
-    (λ c. search needs)
+    (λ c κs. search needs) (λ c. search needs) (λ c κs. search needs) (λ c. search needs)
     returns-2
     returns-3)

@@ -1,7 +1,6 @@
 -- `log::read_on` meets its contract. Assumes nothing.
-use mathlib.Core.Path.{sym, _∙_}
+use Rattle.wire.proofs.Basics.{_∙_, sym, needs}
 use Rattle.log.proofs.Reading.{read-on, read-first, read-refused}
-use borrow.Author.Needs.{needs}
 use Rattle.log.proofs.reader.read_on.Statement.{statement}
 use Rattle.log.proofs.reader.read_on.Tie as tie
 
@@ -23,14 +22,9 @@ returns-3 c =
     sym (read-refused (a .log .now) (a .at) _ (f .before .if1 .left) (sym (f .first-entry .ensures) ∙ c .before .first2 .given .1))
 
 pub read-on-spec : {M : Type 1} → statement M
-read-on-spec =
-    tie.close
-    (tie.spec
+read-on-spec = tie.close (tie.spec
     (λ c κs. search needs)
     returns
-    (λ c κs. search needs)
-    (λ c. search needs)
-    (λ c κs. search needs)
-    (λ c. search needs)
+    (λ c κs. search needs) (λ c. search needs) (λ c κs. search needs) (λ c. search needs)
     returns-2
     returns-3)

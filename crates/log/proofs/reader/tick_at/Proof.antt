@@ -1,9 +1,8 @@
 -- `log::reader::tick_at` meets its contract. Assumes nothing.
-use mathlib.Core.Path.{sym, ap, _∙_}
+use Rattle.wire.proofs.Basics.{_∙_, sym, ap, needs}
 use Rattle.varint.proofs.Sevens.{number-taken, number-refused}
 use Rattle.log.specs.Said.{stepOf}
 use Rattle.log.proofs.Reading.{tick-follows, tick-refused}
-use borrow.Author.Needs.{needs}
 use Rattle.log.proofs.reader.tick_at.Statement.{statement}
 use Rattle.log.proofs.reader.tick_at.Tie as tie
 
@@ -21,12 +20,7 @@ returns-2 c =
     sym (ap (stepOf (a .log .now)) (tick-refused _ (a .sender) _ (number-refused (a .log .now) (a .at) _ _ (r .read-seven .ensures) (c .before .read2 .given .1))))
 
 pub tick-at-spec : {M : Type 1} → statement M
-tick-at-spec =
-    tie.close
-    (tie.spec
-    (λ c κs. search needs)
-    (λ c. search needs)
-    (λ c κs. search needs)
-    (λ c. search needs)
+tick-at-spec = tie.close (tie.spec
+    (λ c κs. search needs) (λ c. search needs) (λ c κs. search needs) (λ c. search needs)
     returns
     returns-2)

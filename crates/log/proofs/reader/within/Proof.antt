@@ -1,5 +1,5 @@
 -- `log::reader::within` meets its contract. Assumes nothing.
-use mathlib.Core.Path.{sym}
+use Rattle.wire.proofs.Basics.{sym}
 use Rattle.log.proofs.Reading.{limited-over, limited-good}
 use Rattle.log.proofs.reader.within.Statement.{statement}
 use Rattle.log.proofs.reader.within.Tie as tie

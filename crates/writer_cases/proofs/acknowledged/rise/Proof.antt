@@ -1,9 +1,5 @@
 -- The loop ends at the last number of the list. Assumes nothing.
-use mathlib.Core.Path.{_≡_}
-use Prim.Native.Nat.{_-_}
-use native.Mathlib.Omega.{arith}
-use lib.ListN.{length}
-use borrow.Author.Needs.{needs}
+use Rattle.wire.proofs.Basics.{_≡_, _-_, length, arith, needs}
 use Rattle.writer_cases.proofs.acknowledged.rise.Statement.{statement}
 use Rattle.writer_cases.proofs.acknowledged.rise.Tie as tie
 
@@ -14,17 +10,9 @@ abbrev μ-loop : tie.MeasureT-loop
 μ-loop list₀ first step x₀ i₀ list x i = length list₀ - i
 
 pub rise-spec : {M : Type 1} → statement M
-rise-spec =
-    tie.close
-    (tie.spec
+rise-spec = tie.close (tie.spec
     Inv-loop
     μ-loop
-    (λ c. search needs)
-    (λ c. search needs)
-    (λ c. search needs)
-    (λ c κs. search needs)
-    (λ c. search needs)
+    (λ c. search needs) (λ c. search needs) (λ c. search needs) (λ c κs. search needs) (λ c. search needs)
     (λ c. omega (arith, c .before .loop-test .taken))
-    (λ c. search needs)
-    (λ c. search needs)
-    (λ c. search needs))
+    (λ c. search needs) (λ c. search needs) (λ c. search needs))

@@ -1,10 +1,6 @@
 -- The blocks laid so far lie within the output, so that their number does not run over. Assumes nothing.
-use mathlib.Core.Path.{_≡_, refl, _∙_}
-use Prim.Native.Nat.{_-_, _≤_}
-use native.Mathlib.Omega.{arith}
-use lib.ListN.{length}
+use Rattle.wire.proofs.Basics.{_∙_, _≡_, refl, _≤_, _-_, length, arith, needs}
 use Rattle.writer_cases.proofs.Laying.{laid-within}
-use borrow.Author.Needs.{needs}
 use Rattle.writer_cases.proofs.packets.lay_blocks.Statement.{statement}
 use Rattle.writer_cases.proofs.packets.lay_blocks.Tie as tie
 
@@ -31,20 +27,12 @@ loop-again c =
     (omega (arith, b .lay-block .kept .0), b .lay-block .kept .0 ∙ l .loop .inv .1)
 
 pub lay-blocks-spec : {M : Type 1} → statement M
-lay-blocks-spec =
-    tie.close
-    (tie.spec
+lay-blocks-spec = tie.close (tie.spec
     Inv-loop
     μ-loop
     (λ c. (omega arith, refl))
-    (λ c κs. search needs)
-    (λ c. search needs)
-    (λ c. search needs)
-    (λ c. search needs)
-    (λ c. search needs)
+    (λ c κs. search needs) (λ c. search needs) (λ c. search needs) (λ c. search needs) (λ c. search needs)
     add-at
-    (λ c. search needs)
-    (λ c. search needs)
+    (λ c. search needs) (λ c. search needs)
     loop-again
-    (λ c. search needs)
-    (λ c. search needs))
+    (λ c. search needs) (λ c. search needs))

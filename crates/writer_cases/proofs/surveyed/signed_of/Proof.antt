@@ -1,7 +1,7 @@
 -- A negative number is less one, less what is left up to the highest. Assumes nothing.
 use mir.Syntax.{w64}
 use Rattle.wire.proofs.Signs.{from-end-fits}
-use borrow.Author.Needs.{needs}
+use Rattle.wire.proofs.Basics.{needs}
 use Rattle.writer_cases.proofs.surveyed.signed_of.Statement.{statement}
 use Rattle.writer_cases.proofs.surveyed.signed_of.Tie as tie
 

@@ -1,9 +1,5 @@
 -- The loop ends at the last number of the list. Assumes nothing.
-use mathlib.Core.Path.{_≡_, refl}
-use Prim.Native.Nat.{_-_, _≤_}
-use native.Mathlib.Omega.{arith}
-use lib.ListN.{length}
-use borrow.Author.Needs.{needs}
+use Rattle.wire.proofs.Basics.{_≡_, refl, _≤_, _-_, length, arith, needs}
 use Rattle.writer_cases.proofs.surveyed.take.Statement.{statement}
 use Rattle.writer_cases.proofs.surveyed.take.Tie as tie
 
@@ -14,21 +10,10 @@ abbrev μ-loop : tie.MeasureT-loop
 μ-loop list₀ case n i₀ list i = n - i
 
 pub take-spec : {M : Type 1} → statement M
-take-spec =
-    tie.close
-    (tie.spec
+take-spec = tie.close (tie.spec
     Inv-loop
     μ-loop
     (λ c κs. search needs)
     (λ c. let e = c .least .ensures in (omega arith, omega arith, refl))
-    (λ c κs. search needs)
-    (λ c. search needs)
-    (λ c κs. search needs)
-    (λ c κs. search needs)
-    (λ c. search needs)
-    (λ c. search needs)
-    (λ c. search needs)
-    (λ c. search needs)
-    (λ c. search needs)
-    (λ c. search needs)
-    (λ c. search needs))
+    (λ c κs. search needs) (λ c. search needs) (λ c κs. search needs) (λ c κs. search needs) (λ c. search needs) (λ c. search needs) (λ c. search needs)
+    (λ c. search needs) (λ c. search needs) (λ c. search needs) (λ c. search needs))
