@@ -1,4 +1,6 @@
 // Acknowledge blocks: a single number, first to last, or a bitmap. Reading asks whether a list of blocks acknowledges a number.
+#![tactic(auto)]
+
 ghost use Rattle.std.specs.Prelude.{◌≡◌, ◌||◌, ◌^◌, ◌<◌, ◌≤◌, length, drop};
 ghost use Rattle.wire.specs.Bytes.{be};
 ghost use Rattle.ack_blocks.specs.Limits.{max_blocks};

@@ -1,5 +1,7 @@
 // Acknowledge blocks of lists of numbers. Standard input holds records, each after a 4-byte big-endian length: 8-byte big-endian numbers; a line
 // gives the bytes of the blocks of each list, or its refusal, or says that the list is longer than the program holds.
+#![tactic(auto)]
+
 ghost use Rattle.std.specs.Prelude.{◌≡◌, ◌/◌, ◌≤◌, length, take};
 ghost use Rattle.std.proofs.lemmas.List.Edits.{sets};
 ghost use Rattle.wire.specs.Slices.{buffer};

@@ -1,4 +1,6 @@
 // The writer of acknowledge blocks: the blocks of a sorted list of distinct numbers.
+#![tactic(auto)]
+
 ghost use Rattle.std.specs.Prelude.{◌≡◌, ◌+◌, ◌<◌, ◌≤◌, eqb, length};
 ghost use Rattle.wire.specs.Overlay.{overlay};
 ghost use Rattle.ack_blocks.specs.Limits.{max_blocks};

@@ -1,5 +1,7 @@
 // Is a packet acknowledged? Standard input holds records, each after a 4-byte big-endian length: an 8-byte number and then acknowledge blocks;
 // a line says whether the blocks acknowledge the number, or why they are refused.
+#![tactic(auto)]
+
 ghost use Rattle.std.specs.Prelude.{◌≤◌, length};
 ghost use Rattle.wire.specs.Slices.{buffer};
 ghost use Rattle.ack_blocks.specs.Read.{answers};

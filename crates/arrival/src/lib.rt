@@ -1,1 +1,2 @@
 // The promise of order: theorems only, in `specs/` (the statement) and `proofs/`.
+#![tactic(auto)]

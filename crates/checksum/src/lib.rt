@@ -1,4 +1,6 @@
 // The checksum of some bytes: the sum of all, modulo 2^32.
+#![tactic(auto)]
+
 ghost use Rattle.std.specs.Prelude.{◌≡◌, ◌+◌, ◌%◌, ◌^◌, ◌<◌, ◌≤◌, length, take, drop};
 ghost use Rattle.wire.specs.Sum.{sum};
 ghost use Rattle.checksum.specs.InsideStrides.{Summed};

@@ -1,4 +1,6 @@
 // The count of a flight: one log through a fresh receiver, and for each tile its distinct pits and how many of them were marked sure.
+#![tactic(auto)]
+
 ghost use Rattle.std.specs.Prelude.{◌≡◌, List, ◌≤◌};
 ghost use Rattle.log.specs.Listed.{entries_in};
 ghost use Rattle.count_rules.specs.Count.{max_tiles, no_report, reported};

@@ -1,4 +1,6 @@
 // The lines of a count.
+#![tactic(auto)]
+
 ghost use Rattle.std.specs.Prelude.{length};
 ghost use Rattle.output.specs.Output.{Pours};
 ghost use Rattle.count_lines.specs.Lines.{total_lines, refused_line, refused_lines, lists_line, tile_line, tile_lines, refusal_line};

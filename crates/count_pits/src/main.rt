@@ -1,5 +1,7 @@
 // What the map gets. Standard input is a log; it is counted over a fresh receiver, and the lines tell its entries by their answers, and of each
 // tile its pits and how many of them are sure.
+#![tactic(auto)]
+
 ghost use Rattle.std.specs.Prelude.{◌≤◌, length};
 ghost use Rattle.output.specs.Output.{Pours, Finishes, line_limit};
 ghost use Rattle.log_lines.specs.Lines.{Tells};

@@ -1,4 +1,6 @@
 // What a datagram says: its header as numbers, with the places of its name and its data.
+#![tactic(auto)]
+
 ghost use Rattle.std.specs.Prelude.{◌≡◌, ◌+◌, ◌≤◌, ◌<◌, min, length, drop};
 ghost use Rattle.wire.specs.Bytes.{be};
 ghost use Rattle.datagram.specs.Name.{until_zero_lem, name_length_lem};

@@ -1,4 +1,6 @@
 // Two sequence numbers modulo 2^32: their difference, what it says of the newer one, and whether that moves a watch.
+#![tactic(auto)]
+
 ghost use Rattle.std.specs.Prelude.{◌≡◌, true, pos, int_lt, unsigned_abs};
 ghost use Rattle.differences.specs.Noted.{notes, noted_code_lem, moves};
 ghost use Rattle.differences.specs.Difference.{difference, told};

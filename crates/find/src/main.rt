@@ -1,5 +1,7 @@
 // Where a message begins in a log. The arguments are its sender and its sequence in decimal, and standard input is the log; the one line says the
 // place of its first entry, that there is none, or the refusal.
+#![tactic(auto)]
+
 ghost use Rattle.std.specs.Prelude.{◌≡◌, ◌≤◌, length};
 ghost use Rattle.output.specs.Output.{Pours, Finishes, line_limit};
 ghost use Rattle.log_lines.specs.Lines.{Tells};

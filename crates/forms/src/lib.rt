@@ -1,4 +1,6 @@
 // The form of a fragment: where its data may stand in the payload.
+#![tactic(auto)]
+
 ghost use Rattle.std.specs.Prelude.{◌≡◌};
 ghost use Rattle.forms.specs.Form.{good_start_lem, good_fragment_lem};
 

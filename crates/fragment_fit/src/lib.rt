@@ -1,5 +1,7 @@
 // Whether a fragment fits among those held of its message, whose offsets and lengths are in a lent ledger. The public function is total over any
 // slices.
+#![tactic(auto)]
+
 ghost use Rattle.std.specs.Prelude.{◌≡◌, ◌+◌, ◌-◌, ◌*◌, ◌%◌, ◌≤◌, ◌<◌, ◌^◌, ltb, length};
 ghost use Rattle.steps.specs.Search.{all_below};
 ghost use Rattle.fragment_fit.specs.Fits.{agrees_at, fits_in_lem};

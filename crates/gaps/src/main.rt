@@ -1,5 +1,7 @@
 // Which numbers of a flight were missed. Standard input holds datagrams, each after a 2-byte big-endian length, from one sender; of each that
 // has good form the sequence watch is asked, and a line says what it notes.
+#![tactic(auto)]
+
 ghost use Rattle.std.specs.Prelude.{◌≤◌, length};
 ghost use Rattle.wire.specs.Slices.{buffer};
 ghost use Rattle.stream.specs.declared.Kind.TheVariants.{Bytes2};

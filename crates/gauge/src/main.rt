@@ -1,5 +1,7 @@
 // What the tide gauge's packets say, and which messages were missed. Standard input holds MossUDP packets, each after a 2-byte big-endian
 // length; one gauge hears them all, and a line says what it notes of each.
+#![tactic(auto)]
+
 ghost use Rattle.std.specs.Prelude.{◌≤◌, length, drop, ◌≡◌};
 ghost use Rattle.differences.specs.Noted.{notes};
 ghost use Rattle.moss.specs.Blocks.{messages_in};

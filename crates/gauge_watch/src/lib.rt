@@ -1,5 +1,7 @@
 // The tide gauge's packets over the sequence watch: one session and one number. The watch is asked about each packet's sequence; where it
 // moves, the last number becomes that of the packet's last message, so that what is missing counts messages.
+#![tactic(auto)]
+
 ghost use Rattle.std.specs.Prelude.{◌≡◌, ◌≤◌};
 ghost use Rattle.differences.specs.Noted.{notes};
 ghost use Rattle.moss.specs.Limits.{max_packet};

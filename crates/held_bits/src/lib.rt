@@ -1,4 +1,6 @@
 // Which fragments of an open message are held: a bit for each, in lent words. Every public function is total over any slice.
+#![tactic(auto)]
+
 ghost use Rattle.std.specs.Prelude.{◌≡◌, ◌<◌};
 ghost use Rattle.steps.specs.Search.{all_below};
 ghost use Rattle.steps.specs.Held.{is_held, hold};

@@ -1,4 +1,6 @@
 // What the van's C host calls: plain numbers and byte slices. A `&[u8]` passes as a pointer and a length.
+#![tactic(auto)]
+
 ghost use Rattle.std.specs.Prelude.{◌≡◌, ◌%◌, ◌^◌};
 ghost use Rattle.wire.specs.Sum.{sum};
 ghost use Rattle.datagram.specs.Limits.{max_payload, max_fragments};

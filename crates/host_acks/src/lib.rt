@@ -1,4 +1,6 @@
 // Acknowledge blocks for a C host: whether they acknowledge a number, and the blocks of a list of numbers.
+#![tactic(auto)]
+
 ghost use Rattle.wire.specs.Slices.{buffer};
 ghost use Rattle.host_acks.specs.Told.{AskTold, WriteTold};
 

@@ -1,4 +1,6 @@
 // Keeping a flight: a log in lent memory, entry by entry.
+#![tactic(auto)]
+
 ghost use Rattle.std.specs.Prelude.{◌≡◌};
 ghost use Rattle.log.specs.Entries.{entry_of};
 ghost use Rattle.log_append.specs.Writes.{says};

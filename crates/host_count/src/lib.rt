@@ -1,4 +1,6 @@
 // The count for a C host: its report as a run of numbers in a lent list.
+#![tactic(auto)]
+
 ghost use Rattle.std.specs.Prelude.{◌≡◌};
 ghost use Rattle.wire.specs.Overlay.{overlay};
 ghost use Rattle.count.specs.Counts.{loan_before, loan_after};

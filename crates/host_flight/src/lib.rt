@@ -1,4 +1,6 @@
 // What the van's C host calls for a flight that was kept, and for what was missed: the log's reader at a place, and the sequence watch.
+#![tactic(auto)]
+
 ghost use Rattle.std.specs.Prelude.{◌≡◌};
 ghost use Rattle.host_flight.specs.Reading.{FirstTold, NextTold, step_code, step_left};
 

@@ -1,4 +1,6 @@
 // The tide gauge's packets for a C host: read, written, and what the watch says of them.
+#![tactic(auto)]
+
 ghost use Rattle.wire.specs.Slices.{buffer};
 ghost use Rattle.host_gauge.specs.Packets.{PacketTold, PlaceTold, WriteTold};
 

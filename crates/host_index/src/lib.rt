@@ -1,4 +1,6 @@
 // The index of a log for the van's C host, and where the first entry of a key begins.
+#![tactic(auto)]
+
 ghost use Rattle.std.specs.Prelude.{◌≡◌};
 ghost use Rattle.index_builder.specs.Adds as indexing;
 ghost use Rattle.log_index.specs.Words.{says};

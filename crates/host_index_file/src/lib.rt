@@ -1,4 +1,6 @@
 // The file in which an index is kept, for the van's C host: written, read, and asked where the first entry of a key begins.
+#![tactic(auto)]
+
 ghost use Rattle.std.specs.Prelude.{◌≡◌};
 ghost use Rattle.wire.specs.Overlay.{overlay};
 ghost use Rattle.index_file.specs.Files.{ReadsRows};

@@ -1,4 +1,6 @@
 // Survey messages as numbers, and the marks of a list, for a C host.
+#![tactic(auto)]
+
 ghost use Rattle.wire.specs.Slices.{buffer};
 ghost use Rattle.host_marks.specs.Told.{MessageTold, MarksTold};
 

@@ -1,4 +1,6 @@
 // Survey messages written out of numbers, for a C host.
+#![tactic(auto)]
+
 ghost use Rattle.wire.specs.Slices.{buffer};
 ghost use Rattle.host_messages.specs.Told.{MessageTold};
 

@@ -1,4 +1,6 @@
 // What a C host asks of the sets of a count: the tile lines, and the pits of a tile.
+#![tactic(auto)]
+
 ghost use Rattle.std.specs.Prelude.{◌≡◌, ◌||◌, ltb, length};
 ghost use Rattle.wire.specs.Slices.{buffer};
 ghost use Rattle.pit_marks.specs.Sets.{sets_before};

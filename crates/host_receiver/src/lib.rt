@@ -1,4 +1,6 @@
 // Receiving, as the van's C host calls it: state, names, store and ledger are lent, and an outcome goes to a lent list of numbers and lent bytes.
+#![tactic(auto)]
+
 ghost use Rattle.std.specs.Prelude.{◌≡◌};
 ghost use Rattle.receiver.specs.Lent.{lent_before, lent_after};
 ghost use Rattle.wire.specs.Slices.{buffer};

@@ -1,4 +1,6 @@
 // The count that goes on, for a C host: a stretch as a run of numbers in a lent list.
+#![tactic(auto)]
+
 ghost use Rattle.std.specs.Prelude.{◌≡◌};
 ghost use Rattle.wire.specs.Overlay.{overlay};
 ghost use Rattle.wire.specs.Slices.{buffer};

@@ -1,4 +1,6 @@
 // What a receiver needs lent, its opening and its forgetting, as the van's C host calls them.
+#![tactic(auto)]
+
 ghost use Rattle.std.specs.Prelude.{◌≡◌};
 ghost use Rattle.receiver.specs.Calls.{refusal_of};
 ghost use Rattle.host_state.specs.Calls.{call_code_lem, OpenTold, ForgetTold};

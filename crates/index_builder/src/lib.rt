@@ -1,5 +1,7 @@
 // The index of a log: worked out afresh, or extended by the entries that were added. The log is gone over first to count and judge, and then to
 // enter, so that a refusal leaves the index.
+#![tactic(auto)]
+
 ghost use Rattle.std.specs.Prelude.{◌≡◌, ◌+◌, ◌/◌, ◌^◌, ◌≤◌, ◌<◌, max, length};
 ghost use Rattle.datagram.specs.Read.{read_datagram_lem};
 ghost use Rattle.log_index.specs.Index.{row_for, rows_from, no_room_in};

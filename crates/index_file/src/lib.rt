@@ -1,4 +1,6 @@
 // An index file: how many bytes of a log an index covers, and its rows, in bytes that are kept beside the log. Rows are looked at where they stand.
+#![tactic(auto)]
+
 ghost use Rattle.std.specs.Prelude.{◌≡◌, [], ◌∷◌, ◌+◌, ◌*◌, ◌≤◌, length};
 ghost use Rattle.wire.specs.Overlay.{overlay};
 ghost use Rattle.log_index.specs.Rows.{earlier};

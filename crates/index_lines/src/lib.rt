@@ -1,4 +1,6 @@
 // What the programs over an index share: their lines.
+#![tactic(auto)]
+
 ghost use Rattle.output.specs.Output.{Pours};
 ghost use Rattle.log_index.specs.Rows.{row_of};
 ghost use Rattle.log_index.specs.Words.{says};

@@ -1,4 +1,6 @@
 // The index of a log. Standard input is a log; a line tells each row in order, and the last line how many there are, or the refusal alone.
+#![tactic(auto)]
+
 ghost use Rattle.std.specs.Prelude.{◌*◌, ◌+◌, ◌≤◌, ◌++◌, length};
 ghost use Rattle.output.specs.Output.{Pours, Finishes, line_limit};
 ghost use Rattle.log_index.specs.Words.{row_at};

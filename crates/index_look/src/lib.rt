@@ -1,4 +1,6 @@
 // Looking a key up in an index file: by halving over the rows where they stand, and then at the entry of the log, before it is believed.
+#![tactic(auto)]
+
 ghost use Rattle.std.specs.Prelude.{◌≡◌, ◌&&◌, ◌≤◌, ltb};
 ghost use Rattle.datagram.specs.Read.{read_datagram_lem};
 ghost use Rattle.log_index.specs.Rows.{is_of};

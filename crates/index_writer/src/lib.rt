@@ -1,4 +1,6 @@
 // An index file is written: the rows of an index, and how many bytes of the log they cover.
+#![tactic(auto)]
+
 ghost use Rattle.std.specs.Prelude.{◌≡◌, ◌+◌, ◌*◌, ◌≤◌, length};
 ghost use Rattle.wire.specs.Overlay.{overlay};
 ghost use Rattle.log_index.specs.Words.{row_at};

@@ -1,6 +1,8 @@
 // Cases of the limits that no other program reaches, over the proved crates. Standard input holds cases, each as one byte that names the call,
 // a 4-byte big-endian count and that many 8-byte numbers; a line says what the call answers. `tests/vectors` makes the cases, and what must be
 // said of them, from the paper.
+#![tactic(auto)]
+
 ghost use Rattle.std.specs.Prelude.{◌≤◌, length};
 ghost use Rattle.output.specs.Output.{line_limit};
 

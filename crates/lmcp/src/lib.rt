@@ -1,4 +1,6 @@
 // Survey messages: the message table of series PITSURV, and what the reader and the writer answer.
+#![tactic(auto)]
+
 ghost use Rattle.std.specs.Prelude.{◌≡◌, ◌-◌, ◌*◌, ◌^◌, ◌<◌, min, get_or};
 ghost use Rattle.std.specs.Int.Signed.{mag};
 ghost use Rattle.lmcp.specs.Table.{pitsurv, rows_of, starts_of, nothing};

@@ -1,6 +1,8 @@
 // Survey messages from lists of numbers. Standard input holds lists, each as one byte (0: leave the checksum zero, else calculate it), a
 // 4-byte big-endian count and that many 8-byte big-endian two's-complement numbers; a line gives the bytes of each, or its refusal, or says
 // that the list is longer than the program holds.
+#![tactic(auto)]
+
 ghost use Rattle.std.specs.Prelude.{◌≡◌, ◌/◌, ◌≤◌, length, take};
 ghost use Rattle.std.proofs.lemmas.List.Edits.{sets};
 ghost use Rattle.wire.specs.Slices.{buffer};

@@ -1,4 +1,6 @@
 // Whether a survey message is in order: the walk that only checks. It writes nothing and makes no numbers.
+#![tactic(auto)]
+
 ghost use Rattle.std.specs.Prelude.{◌≡◌, ◌+◌, ◌≤◌, ◌<◌, ◌&&◌, ltb, eqb, length, drop, get_or};
 ghost use Rattle.wire.specs.Bytes.{be};
 ghost use Rattle.lmcp.specs.Run.{repeat, whole};

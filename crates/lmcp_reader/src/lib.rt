@@ -1,5 +1,7 @@
 // The reader of survey messages: a message's bytes to a list of numbers, by the message table. One walk checks (`lmcp_check`), and this one
 // writes what is in order, so that it need not look again.
+#![tactic(auto)]
+
 ghost use Rattle.std.specs.Prelude.{◌≡◌, [], ◌∷◌, ◌+◌, ◌-◌, ◌*◌, ◌^◌, ◌≤◌, ◌<◌, min, pos, length, drop, set};
 ghost use Rattle.std.proofs.lemmas.List.Edits.{sets};
 ghost use Rattle.wire.specs.Signed.{signed};

@@ -1,4 +1,6 @@
 // How long the message of a list of numbers is, or what is wrong with the list: the writer's walk that only checks. It writes nothing.
+#![tactic(auto)]
+
 ghost use Rattle.std.specs.Prelude.{◌≡◌, ◌+◌, ◌-◌, ◌*◌, ◌^◌, ◌≤◌, ◌<◌, length, drop};
 ghost use Rattle.lmcp.specs.Run.{repeat};
 ghost use Rattle.lmcp.specs.Table.{fields_of, rows_of, pitsurv};

@@ -1,5 +1,7 @@
 // The writer of survey messages: a list of numbers to a message's bytes, by the message table. One walk checks (`lmcp_size`), and this one
 // writes what is in order, so that it need not look again.
+#![tactic(auto)]
+
 ghost use Rattle.std.specs.Prelude.{◌≡◌, ◌+◌, ◌*◌, ◌≤◌, ◌<◌, length, take, drop};
 ghost use Rattle.std.proofs.lemmas.List.Edits.{sets};
 ghost use Rattle.wire.specs.Choice.{pick};

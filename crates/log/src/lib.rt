@@ -1,5 +1,7 @@
 // The flight on disk: a log of every datagram with its sender and arrival tick, and its reader. A log determines its edition, in
 // edition 2 its payload limit, and its entries, and they determine it.
+#![tactic(auto)]
+
 mod reader;
 
 pub use reader::{

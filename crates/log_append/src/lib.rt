@@ -1,4 +1,6 @@
 // Writes a log into a lent output, entry by entry. A refusal writes nothing.
+#![tactic(auto)]
+
 ghost use Rattle.std.specs.Prelude.{◌≡◌, ◌+◌, ◌≤◌, length};
 ghost use Rattle.wire.specs.Overlay.{overlay};
 ghost use Rattle.datagram.specs.Limits.{max_datagram};

@@ -1,5 +1,7 @@
 // An index of a log in lent words: three a row, its sender, its sequence and its place in the log, sorted in that order. A row's place among the
 // others, and a key, are found by halving.
+#![tactic(auto)]
+
 ghost use Rattle.std.specs.Prelude.{◌≡◌, ◌&&◌, ◌+◌, ◌*◌, ◌≤◌, ltb, length};
 ghost use Rattle.log_index.specs.Rows.{row_of, earlier, is_of};
 ghost use Rattle.log_index.specs.Words.{row_at, rank_in, inserted, entered, merged_by, merged, found_in, says};

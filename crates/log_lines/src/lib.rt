@@ -1,4 +1,6 @@
 // What the programs over a log share: their lines.
+#![tactic(auto)]
+
 ghost use Rattle.output.specs.Output.{Pours, Finishes};
 ghost use Rattle.log_lines.specs.Lines.{entry_line, last_line, longer_line};
 

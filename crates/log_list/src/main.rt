@@ -1,4 +1,6 @@
 // What is in a log. Standard input is a log; a line tells each entry, and the last line how many there are, or the refusal that ended them.
+#![tactic(auto)]
+
 ghost use Rattle.std.specs.Prelude.{◌≤◌, length};
 ghost use Rattle.output.specs.Output.{Finishes, line_limit};
 ghost use Rattle.log_lines.specs.Lines.{Tells};

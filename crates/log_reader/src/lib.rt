@@ -1,5 +1,7 @@
 // An open reader: it holds the lent log bytes and its place. Each call is thin: it takes the reader apart and calls the function of
 // crate log on the slice and the place.
+#![tactic(auto)]
+
 ghost use Rattle.std.specs.Prelude.{◌≡◌, take, drop};
 ghost use Rattle.log.specs.Editions.{limits_in_lem};
 ghost use Rattle.log_reader.specs.Reader.{reader_at, step_now, onward};

@@ -1,5 +1,7 @@
 // Makes a log. Standard input holds records: an 8-byte sender, an 8-byte tick, a 2-byte length and so many bytes, all big-endian; standard
 // output is their log. Of an input that is cut the whole records are kept.
+#![tactic(auto)]
+
 ghost use Rattle.std.specs.Prelude.{◌≤◌, length, drop};
 ghost use Rattle.wire.specs.Bytes.{be};
 ghost use Rattle.wire.specs.Slices.{buffer};

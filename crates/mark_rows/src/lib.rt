@@ -1,4 +1,6 @@
 // The marks of a PitList, one by one, from the numbers of its message: a row of eight numbers each, with place and depth. Null marks are skipped.
+#![tactic(auto)]
+
 ghost use Rattle.std.specs.Prelude.{◌≡◌, ◌+◌, ◌*◌, ◌%◌, ◌≤◌, min, pos, length, drop};
 ghost use Rattle.std.proofs.lemmas.List.Edits.{sets};
 ghost use Rattle.wire.specs.Choice.{pick};

@@ -1,6 +1,8 @@
 // The memory of delivered keys: the last words of a receiver's state. 16 places for senders, each with its last 32 sequences. A key is
 // looked for, and remembered; `memory_places` has what is done to the places themselves.
 // Every public function is total over any slice.
+#![tactic(auto)]
+
 ghost use Rattle.std.specs.Prelude.{◌≡◌, false, ◌+◌, ◌≤◌, ◌<◌, ◌-◌, ◌%◌, length};
 ghost use Rattle.steps.specs.Limits.{senders_most, keys_each};
 ghost use Rattle.steps.specs.Search.{first};

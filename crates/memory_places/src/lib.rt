@@ -1,4 +1,6 @@
 // Over the places of a memory of keys: a sender's are freed, and whether all are in order, which is refusal 9. Every public function is total over any slice.
+#![tactic(auto)]
+
 ghost use Rattle.std.specs.Prelude.{◌≡◌, ℕ, ◌≤◌, ◌<◌, length, get_or};
 ghost use Rattle.steps.specs.Limits.{senders_most};
 ghost use Rattle.steps.specs.Memory.{forget_keys, memory_ok};

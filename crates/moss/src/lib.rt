@@ -1,5 +1,7 @@
 // MossUDP packets: 4 bytes of length, 10 of session, 4 of sequence, a type U, H or E, and for U message blocks, each a 2-byte length and
 // its bytes. One walk over the blocks serves the reader, the n-th message and, by what is wrong with blocks, the writer.
+#![tactic(auto)]
+
 ghost use Rattle.std.specs.Prelude.{◌≡◌, ◌+◌, ◌<◌, ◌≤◌, drop, replicate};
 ghost use Rattle.wire.specs.Bytes.{be};
 ghost use Rattle.wire.specs.Overlay.{overlay};

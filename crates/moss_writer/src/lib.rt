@@ -1,4 +1,6 @@
 // The writer of MossUDP packets: message blocks laid one after another, and a packet of such blocks.
+#![tactic(auto)]
+
 ghost use Rattle.std.specs.Prelude.{◌≡◌, ◌≤◌, length};
 ghost use Rattle.wire.specs.Overlay.{overlay};
 ghost use Rattle.moss.specs.Limits.{max_packet};

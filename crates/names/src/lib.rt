@@ -1,4 +1,6 @@
 // The name rule: which bytes are a channel's name.
+#![tactic(auto)]
+
 ghost use Rattle.std.specs.Prelude.{◌≡◌, true, eqb};
 ghost use Rattle.names.specs.Scan.{within, start, low_after_lem, high_after_lem, after, first, next, scan};
 ghost use Rattle.names.specs.Name.{good_name_lem};

@@ -1,4 +1,6 @@
 // The two ends of a receiver's work: `open` makes lent memory a fresh receiver, `payload` hands over the bytes that it delivered.
+#![tactic(auto)]
+
 ghost use Rattle.std.specs.Prelude.{◌≡◌};
 ghost use Rattle.steps.specs.Answers.{reply};
 ghost use Rattle.open_and_payload.specs.Ends.{Opens, payload_of};

@@ -1,6 +1,8 @@
 // An output buffer that is written out whenever it is full. What stands before a place is not written out yet. No contract can say what the
 // system took: they say that every byte of a text goes out once and in order, in whole buffers, if all that is written out arrives. Once the
 // system does not take what is written out, the output is closed: its place is past every buffer, and nothing more goes out.
+#![tactic(auto)]
+
 ghost use Rattle.std.specs.Prelude.{◌++◌, ◌≤◌, length};
 ghost use Rattle.wire.specs.Text.{ascii};
 ghost use Rattle.text.specs.Text.{decimal, signed_decimal, hex};

@@ -1,4 +1,6 @@
 // The name and the payload of a datagram, as the parts of it that hold them.
+#![tactic(auto)]
+
 ghost use Rattle.std.specs.Prelude.{◌≡◌};
 ghost use Rattle.parts.specs.Parts.{name_place_lem, payload_place_lem, name_of, payload_of};
 

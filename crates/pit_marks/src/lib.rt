@@ -1,5 +1,7 @@
 // A PitList's tile and marks, from the numbers of its message, into three sets of rising numbers: the tiles, the pits of all tiles, and those
 // of them that were marked sure. A pit under a tile is one number, the tile's number before its own.
+#![tactic(auto)]
+
 ghost use Rattle.std.specs.Prelude.{◌≡◌, ◌+◌, ◌<◌, min, eqb, length, drop};
 ghost use Rattle.wire.specs.Choice.{pick};
 ghost use Rattle.count_rules.specs.Marks.{at, mark_length, mark_at, marks_in};

@@ -1,4 +1,6 @@
 // One payload for the count: its survey message is read into the lent number list, and the tile and marks of a PitList are entered in the sets.
+#![tactic(auto)]
+
 ghost use Rattle.std.specs.Prelude.{◌≡◌};
 ghost use Rattle.pit_marks.specs.Sets.{sets_before, sets_after};
 ghost use Rattle.pit_payloads.specs.Looks.{book_before, book_after, in_numbers, Leaves, Looks};

@@ -1,5 +1,7 @@
 // Ranks: of the places of a run of words that are in use, which came first. Every function is total: past the end a word is read as zero and
 // nothing is written.
+#![tactic(auto)]
+
 ghost use Rattle.std.specs.Prelude.{◌≡◌, ◌+◌, min, get_or, set, ltb};
 ghost use Rattle.wire.specs.Choice.{pick};
 ghost use Rattle.ranks.specs.Ranks.{lower_rank_lem, ranks_lowered, lowest_ranked_lem};

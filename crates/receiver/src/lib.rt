@@ -1,5 +1,7 @@
 // The receiver: fragments of messages joined in a lent store, by the step list of the crate `steps`. The crate `verdict` says what is to be done
 // with a datagram; here it is done. The state is lent too: words for the slots and the memory of keys, and bytes for each slot's name.
+#![tactic(auto)]
+
 ghost use Rattle.std.specs.Prelude.{◌≡◌, true, List, ℕ, ◌+◌, ◌<◌, ◌≤◌, length, replicate};
 ghost use Rattle.wire.specs.Overlay.{overlay};
 ghost use Rattle.wire.specs.Slices.{buffer};

@@ -1,4 +1,6 @@
 // The words of a receiver's state, and whether they are in order. `specs/View` has the machine of the step list that they show.
+#![tactic(auto)]
+
 ghost use Rattle.std.specs.Prelude.{◌≡◌};
 ghost use Rattle.steps.specs.Limits.{slot_size_of};
 ghost use Rattle.receiver_state.specs.View.{ready};

@@ -1,4 +1,6 @@
 // Replays standard input: a line a datagram, then `end` or `cut` and the count.
+#![tactic(auto)]
+
 fn main() {
     let mut buf = [0u8; replay_run::HOLDS];
     replay_run::run(&mut buf);

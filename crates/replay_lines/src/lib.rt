@@ -1,4 +1,6 @@
 // The line that says what a receiver answers to a datagram: `replay` and `replay_log` share it.
+#![tactic(auto)]
+
 ghost use Rattle.output.specs.Output.{Pours};
 ghost use Rattle.replay_lines.specs.Lines.{answer_text, emptied_text, line};
 

@@ -1,6 +1,8 @@
 // Replays a flight that was kept. Standard input is a log; each datagram is given, from its entry's sender, to a fresh receiver, and a line
 // says what it answers, as in `replay`; the last line says how many entries there are, or the refusal that ended them. The log's limits bind
 // beside the slot size.
+#![tactic(auto)]
+
 ghost use Rattle.std.specs.Prelude.{◌≡◌, true, ◌≤◌, length};
 ghost use Rattle.wire.specs.Slices.{buffer};
 ghost use Rattle.output.specs.Output.{line_limit, Finishes};

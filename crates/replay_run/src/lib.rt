@@ -1,5 +1,7 @@
 // What the program `replay` does. Standard input holds datagrams, each after a 2-byte big-endian length, from one sender; each is given
 // to a fresh receiver, and a line says what it answers.
+#![tactic(auto)]
+
 ghost use Rattle.std.specs.Prelude.{◌≤◌, ◌≡◌, true, length};
 ghost use Rattle.wire.specs.Slices.{buffer};
 ghost use Rattle.receiver_state.specs.View.{shaped};

@@ -1,4 +1,6 @@
 // The turns of a receiver's slots: which was opened longest ago, and what becomes of the others' turns when one is freed. Every public function is total over any slice.
+#![tactic(auto)]
+
 ghost use Rattle.std.specs.Prelude.{◌≡◌, true, ℕ, ◌<◌, ◌≤◌};
 ghost use Rattle.steps.specs.Limits.{slot_count};
 ghost use Rattle.ranks.specs.Ranks.{ranks_lowered, lowest_ranked_lem};

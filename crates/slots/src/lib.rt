@@ -1,4 +1,6 @@
 // The slots of a receiver's state: a block of words for each, after the words of its head. Every public function is total over any slice.
+#![tactic(auto)]
+
 ghost use Rattle.std.specs.Prelude.{◌≡◌, ◌+◌, ◌<◌, get_or, replicate};
 ghost use Rattle.wire.specs.Overlay.{overlay};
 ghost use Rattle.steps.specs.Search.{all_below, count};

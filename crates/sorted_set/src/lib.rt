@@ -1,4 +1,6 @@
 // Distinct numbers kept in rising order in lent words: found by halving, and entered once.
+#![tactic(auto)]
+
 ghost use Rattle.std.specs.Prelude.{◌≡◌, ◌+◌, ◌-◌, ◌≤◌, ◌<◌, ◌&&◌, ltb, eqb, length, get_or, take, drop};
 ghost use Rattle.wire.specs.Overlay.{overlay};
 ghost use Rattle.sorted_set.specs.Halving.{rank_in, inserted, Enters};

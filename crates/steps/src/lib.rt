@@ -1,4 +1,5 @@
 // What the receiver answers. `specs/` has the step list over these types.
+#![tactic(auto)]
 
 // A message's key. The sequence has 64 bits, since a lent state holds it in such a word.
 #[derive(Drop)]

@@ -1,5 +1,7 @@
 // Input of any size in a stream. A lent buffer holds what was read and not yet taken, and one record at a time stands whole in it. No
 // contract can say what the system gives: they say that every byte that came is taken once and in order.
+#![tactic(auto)]
+
 ghost use Rattle.std.specs.Prelude.{◌≡◌, ◌-◌, ◌≤◌, ◌<◌, length, drop};
 ghost use Rattle.std.proofs.Math.Seq.{slice};
 ghost use Rattle.wire.specs.Bytes.{be};

@@ -1,4 +1,6 @@
 // A stretch of a log, counted on from a place: its datagrams through the lent receiver, and the PitLists that are delivered into the lent sets.
+#![tactic(auto)]
+
 ghost use Rattle.std.specs.Prelude.{◌≡◌, ℕ, ◌+◌, ◌<◌, ◌^◌, get_or};
 ghost use Rattle.log.specs.Said.{entry_said};
 ghost use Rattle.receiver.specs.Lent.{lent_before, lent_after};

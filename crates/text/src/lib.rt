@@ -1,5 +1,7 @@
 // Text in a lent buffer. Each function writes at a place and answers the place after it. What has no room is not written, and the place
 // is then the buffer's end.
+#![tactic(auto)]
+
 ghost use Rattle.std.specs.Prelude.{true, false, [], ◌∷◌, ◌++◌, ◌≡◌, ◌+◌, ◌<◌, min, pos, nat_abs};
 ghost use Rattle.std.specs.Int.Signed.{lt_z};
 ghost use Rattle.wire.specs.Text.{ascii};

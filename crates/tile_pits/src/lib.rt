@@ -1,4 +1,6 @@
 // Which pits a tile has, out of the sets that the count keeps: their numbers, rising, and whether each is sure.
+#![tactic(auto)]
+
 ghost use Rattle.std.specs.Prelude.{◌≡◌, ◌+◌, ◌≤◌, ◌%◌, length};
 ghost use Rattle.wire.specs.Choice.{pick};
 ghost use Rattle.wire.specs.Slices.{buffer};

@@ -1,4 +1,6 @@
 // Numbers in groups of seven bits, the lowest group first, the top bit set on all but the last, in the shortest form.
+#![tactic(auto)]
+
 ghost use Rattle.std.specs.Prelude.{◌≡◌, ◌*◌, ◌^◌, ◌<◌, ◌≤◌, length, drop};
 ghost use Rattle.wire.specs.Overlay.{overlay};
 ghost use Rattle.varint.specs.Seven.{groups_after, groups, seven, groups_in, placed, seven_at};

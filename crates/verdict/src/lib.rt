@@ -1,5 +1,7 @@
 // What is decided about a datagram before anything is written: refusal 9, the reader's refusals, and steps 1 to 4 of the step list. All that is
 // lent is shared.
+#![tactic(auto)]
+
 ghost use Rattle.std.specs.Prelude.{◌≡◌, false, ◌<◌, length, get_or};
 ghost use Rattle.datagram.specs.Said.{says, fragment_in};
 ghost use Rattle.datagram.specs.declared.Read.TheVariants.{Good};

@@ -1,5 +1,7 @@
 // The sequence watch: for each of at most 16 senders the last number that moved it, in order of first number. It answers what a new
 // number says about those between. The state goes in by value and comes back.
+#![tactic(auto)]
+
 ghost use Rattle.std.specs.Prelude.{◌≡◌, ◌≤◌, length, take};
 ghost use Rattle.differences.specs.Noted.{notes};
 ghost use Rattle.watch.specs.Senders.{empty, place, moved};

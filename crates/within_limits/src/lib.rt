@@ -1,4 +1,6 @@
 // The receiver over a log's datagrams: the log's limits bind beside the slot size. They never concern small messages.
+#![tactic(auto)]
+
 ghost use Rattle.std.specs.Prelude.{◌≡◌, min};
 ghost use Rattle.datagram.specs.Limits.{max_fragments};
 ghost use Rattle.steps.specs.Slots.{no_name_lem};

@@ -1,4 +1,6 @@
 // Numbers at a place of a lent slice. Every function is total: past the end a number is read as zero and nothing is written.
+#![tactic(auto)]
+
 ghost use Rattle.std.specs.Prelude.{◌≡◌, ◌^◌, ◌<◌, get_or, set};
 ghost use Rattle.wire.specs.Overlay.{overlay};
 
