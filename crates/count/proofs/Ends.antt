@@ -8,12 +8,12 @@ use Rattle.steps.specs.Runs.{lending, fresh}
 use Rattle.receiver_state.specs.View.{state_words_lem, name_bytes_lem, view, shaped}
 use Rattle.receiver.specs.declared.Call.{Call}
 use Rattle.open_and_payload.specs.Ends.{Opens}
-use Rattle.log.specs.declared.reader.Limits.{Limits}
-use Rattle.log.specs.Editions.{limits_in_lem}
-use Rattle.log.specs.Entries.{Entry}
-use Rattle.log.specs.Listed.{Listed, whole, broken, entries_in}
-use Rattle.log.specs.Said.{read_on, read_all}
-use Rattle.log.proofs.ReadingOn.{read-all}
+use Rattle.flight_log.specs.declared.reader.Limits.{Limits}
+use Rattle.flight_log.specs.Editions.{limits_in_lem}
+use Rattle.flight_log.specs.Entries.{Entry}
+use Rattle.flight_log.specs.Listed.{Listed, whole, broken, entries_in}
+use Rattle.flight_log.specs.Said.{read_on, read_all}
+use Rattle.flight_log.proofs.ReadingOn.{read-all}
 use Rattle.sorted_set.specs.Lists.{In}
 use Rattle.count_rules.specs.Marks.{PitList}
 use Rattle.count_rules.specs.Report.{report}

@@ -1,8 +1,8 @@
 -- INSIDE: the whole log, read for its own refusals, and the report. Definitions only; no promise of a public function rests on them.
 use Rattle.std.specs.Prelude.{◌≡◌, List, ℕ, ◌≤◌, ltb, length}
 use Rattle.wire.specs.Choice.{pick}
-use Rattle.log.specs.Entries.{Entry}
-use Rattle.log.specs.Listed.{Listed, whole, broken, entries_in}
+use Rattle.flight_log.specs.Entries.{Entry}
+use Rattle.flight_log.specs.Listed.{Listed, whole, broken, entries_in}
 use Rattle.count_rules.specs.Report.{Line}
 use Rattle.count_rules.specs.Count.{max_entries, max_tiles, max_pits, Report}
 use Rattle.pit_marks.specs.declared.Sizes.{Sizes}

@@ -2,7 +2,7 @@
 #![tactic(auto)]
 
 ghost use Rattle.std.specs.Prelude.{◌≡◌, List, ◌≤◌};
-ghost use Rattle.log.specs.Listed.{entries_in};
+ghost use Rattle.flight_log.specs.Listed.{entries_in};
 ghost use Rattle.count_rules.specs.Count.{max_tiles, no_report, reported};
 ghost use Rattle.count_rules.specs.Marks.{PitList};
 ghost use Rattle.count_rules.specs.Report.{report};
@@ -10,7 +10,7 @@ ghost use Rattle.pit_marks.specs.Sets.{sets_before, Has};
 ghost use Rattle.count.specs.Counts.{counted, loan_before, loan_after, Counts};
 ghost use Rattle.count.specs.Inside.{many, survey_of, Whole, report_with};
 
-use log::Step;
+use flight_log::Step;
 use pit_marks::Sizes;
 use stretch::{Stop, Totals};
 
@@ -79,7 +79,7 @@ fn survey(log: &[u8]) -> Surveyed
     let mut place: usize = 0;
     let mut n: u64 = 0;
     loop {
-        let step = log::read_on(log, place);
+        let step = flight_log::read_on(log, place);
         match step {
             Step::Found(entry) => {
                 place = entry.next;

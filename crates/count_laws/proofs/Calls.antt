@@ -9,7 +9,7 @@ use Rattle.wire.proofs.Overlays.{overlay-eq}
 use Rattle.words.proofs.Builds.{length-build}
 use Rattle.steps.specs.Answers.{Reply}
 use Rattle.arrival.specs.Demand.{Scene, Feed}
-use Rattle.log.specs.Editions.{limits_in_lem}
+use Rattle.flight_log.specs.Editions.{limits_in_lem}
 use Rattle.lmcp.specs.Lists.{read_list}
 use Rattle.sorted_set.specs.Lists.{rising}
 use Rattle.count_rules.specs.Marks.{PitList, list_in}

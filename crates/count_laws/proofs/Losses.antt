@@ -8,9 +8,9 @@ use Rattle.arrival.specs.Demand.{Scene, size, message, parts, Feed, got, done, c
 use Rattle.arrival.proofs.Track.{Lawful, Fair, fair-of, times, done-once}
 use Rattle.arrival.proofs.Whole.{completed-apart}
 use Rattle.arrival.proofs.Demand3.{delivered-own}
-use Rattle.log.specs.declared.reader.Limits.{Limits}
-use Rattle.log.specs.Editions.{limits_in_lem}
-use Rattle.log.specs.Entries.{Entry}
+use Rattle.flight_log.specs.declared.reader.Limits.{Limits}
+use Rattle.flight_log.specs.Editions.{limits_in_lem}
+use Rattle.flight_log.specs.Entries.{Entry}
 use Rattle.sorted_set.specs.Lists.{In, total}
 use Rattle.sorted_set.proofs.Members.{in_left, in_right, in_either}
 use Rattle.sorted_set.proofs.Sums.{total-append, total-map}

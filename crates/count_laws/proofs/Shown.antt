@@ -3,9 +3,9 @@ use Rattle.wire.proofs.Basics.{◌∙◌, sym, ◌≡◌, ap, refl, ℕ, ◌≤�
 use Rattle.wire.specs.Choice.{pick}
 use Rattle.wire.proofs.Choices.{never, zero-is-one}
 use Rattle.steps.specs.Answers.{Reply}
-use Rattle.log.specs.Editions.{limits_in_lem}
-use Rattle.log.specs.Entries.{Entry}
-use Rattle.log.specs.Listed.{Listed, whole, broken, entries_in}
+use Rattle.flight_log.specs.Editions.{limits_in_lem}
+use Rattle.flight_log.specs.Entries.{Entry}
+use Rattle.flight_log.specs.Listed.{Listed, whole, broken, entries_in}
 use Rattle.sorted_set.specs.Lists.{SameMembers, total}
 use Rattle.sorted_set.proofs.Members.{gather-same}
 use Rattle.sorted_set.proofs.Sums.{length-total, length-gather}

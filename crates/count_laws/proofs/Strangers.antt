@@ -14,9 +14,9 @@ use Rattle.steps.proofs.Reaches as reaches
 use Rattle.arrival.specs.Demand.{Message, Delivery, name_in, handed_by}
 use Rattle.arrival.specs.Strangers.{Start, Feed, begun, ◌▹◌, comes, part, after, complete, its, hands_over, Promised}
 use Rattle.arrival.proofs.Strangers.{strangers}
-use Rattle.log.specs.declared.reader.Limits.{Limits}
-use Rattle.log.specs.Editions.{limits_in_lem}
-use Rattle.log.specs.Entries.{Entry}
+use Rattle.flight_log.specs.declared.reader.Limits.{Limits}
+use Rattle.flight_log.specs.Editions.{limits_in_lem}
+use Rattle.flight_log.specs.Entries.{Entry}
 use Rattle.within_limits.specs.Within.{read_within_lem}
 use Rattle.within_limits.proofs.Withins as within
 use Rattle.sorted_set.specs.Lists.{In}

@@ -27,9 +27,9 @@ use Rattle.lmcp.specs.Read.{judged, read_value, read_count, typed, known, read_h
 use Rattle.lmcp.specs.Walk.{item, field, fields, object, root}
 use Rattle.lmcp.specs.Message.{frame, read_message_lem}
 use Rattle.lmcp.specs.Lists as lists
-use Rattle.log.specs.declared.reader.Limits.{Limits}
-use Rattle.log.specs.Editions.{edition1, edition2, limited, limit_in, head_in, limits_of, limits_in_lem}
-use Rattle.log.specs.Listed.{datagram_in, length_in, tick_in, entry_in, whole, list_by, entries_after, entries_in}
+use Rattle.flight_log.specs.declared.reader.Limits.{Limits}
+use Rattle.flight_log.specs.Editions.{edition1, edition2, limited, limit_in, head_in, limits_of, limits_in_lem}
+use Rattle.flight_log.specs.Listed.{datagram_in, length_in, tick_in, entry_in, whole, list_by, entries_after, entries_in}
 use Rattle.within_limits.specs.Within.{read_within_lem, step_within}
 use Rattle.sorted_set.specs.Lists.{enter, rising}
 use Rattle.count_rules.specs.Marks.{mark_length, mark_at, marks_in, pit_list_of, list_read, list_in}

@@ -9,10 +9,10 @@ use Rattle.steps.specs.Answers.{delivered}
 use Rattle.steps.specs.Runs.{World, Arrival, fresh, run, left_by}
 use Rattle.arrival.specs.Demand.{Message}
 use Rattle.arrival.specs.Strangers.{Start, part, Feed, begun, ◌▹◌, comes, complete, Begins, Supposed}
-use Rattle.log.specs.declared.reader.Limits.{Limits}
-use Rattle.log.specs.Editions.{limits_in_lem}
-use Rattle.log.specs.Entries.{Entry}
-use Rattle.log.specs.Listed.{whole, entries_in}
+use Rattle.flight_log.specs.declared.reader.Limits.{Limits}
+use Rattle.flight_log.specs.Editions.{limits_in_lem}
+use Rattle.flight_log.specs.Entries.{Entry}
+use Rattle.flight_log.specs.Listed.{whole, entries_in}
 use Rattle.within_limits.specs.Within.{read_within_lem}
 use Rattle.sorted_set.specs.Lists.{In}
 use Rattle.count_rules.specs.Marks.{PitList, list_in}

@@ -2,7 +2,7 @@
 use Rattle.std.specs.Prelude.{true, false, List, [], ◌∷◌, ℕ, replicate}
 use Rattle.steps.specs.Limits.{ledger_length}
 use Rattle.arrival.specs.Demand.{Message, Scene, part, noise, Feed, start, ◌▹◌}
-use Rattle.log.specs.Entries.{Entry, entry_of}
+use Rattle.flight_log.specs.Entries.{Entry, entry_of}
 use Rattle.count_rules.specs.Count.{Report}
 use Rattle.count_rules.specs.Promise.{Shown}
 

@@ -7,8 +7,8 @@ use Rattle.arrival.specs.Demand.{Message, Scene, parts, datagram, message, slot_
 use Rattle.arrival.proofs.Within.{small-within}
 use Rattle.arrival.proofs.Pieces.{Cut, cut_of, piece}
 use Rattle.arrival.proofs.Track.{Arrives, Fair}
-use Rattle.log.specs.declared.reader.Limits.{Limits}
-use Rattle.log.specs.Editions.{limits_of, edition2}
+use Rattle.flight_log.specs.declared.reader.Limits.{Limits}
+use Rattle.flight_log.specs.Editions.{limits_of, edition2}
 use Rattle.within_limits.proofs.Admits.{Admitted, refused_admitted, small_admitted, fragment_admitted}
 use Rattle.count_rules.specs.Promise.{Admits}
 

@@ -20,9 +20,9 @@ use Rattle.lmcp.specs.Read.{judged, read_value, read_count, typed, known, read_h
 use Rattle.lmcp.specs.Walk.{item, field, fields, object, root}
 use Rattle.lmcp.specs.Message.{frame, read_message_lem}
 use Rattle.lmcp.specs.Lists as lists
-use Rattle.log.specs.Editions.{Edition, edition1, edition2, Lawful, limits_of}
-use Rattle.log.specs.Entries.{entry_bytes, body_of}
-use Rattle.log.specs.Listed.{datagram_in, length_in, tick_in, entry_in, whole, list_by}
+use Rattle.flight_log.specs.Editions.{Edition, edition1, edition2, Lawful, limits_of}
+use Rattle.flight_log.specs.Entries.{entry_bytes, body_of}
+use Rattle.flight_log.specs.Listed.{datagram_in, length_in, tick_in, entry_in, whole, list_by}
 use Rattle.within_limits.specs.Within.{step_within}
 use Rattle.sorted_set.specs.Lists.{enter, rising}
 use Rattle.count_rules.specs.Marks.{mark_length, mark_at, marks_in, pit_list_of, list_read, list_in}

@@ -2,8 +2,8 @@
 use Rattle.wire.proofs.Basics.{◌∙◌, sym, ◌≡◌, ap, ℕ, List, length}
 use Rattle.arrival.specs.Demand.{Scene, Feed, Delivery, in_order_of_completion, Supposed}
 use Rattle.arrival.proofs.Demand3.{demand3}
-use Rattle.log.specs.declared.reader.Limits.{Limits}
-use Rattle.log.specs.Entries.{Entry}
+use Rattle.flight_log.specs.declared.reader.Limits.{Limits}
+use Rattle.flight_log.specs.Entries.{Entry}
 use Rattle.sorted_set.specs.Lists.{total}
 use Rattle.sorted_set.proofs.Members.{gather-same}
 use Rattle.sorted_set.proofs.Sums.{length-total, length-gather}

@@ -6,8 +6,8 @@ use Rattle.arrival.specs.Demand.{Scene, nobody, parts, size, Message, message, F
 use Rattle.arrival.proofs.Track.{Lawful, Fair, fair-of, times, done-once}
 use Rattle.arrival.proofs.Whole.{Apart, completed-apart, whole-tidy}
 use Rattle.arrival.proofs.Demand3.{delivered-own}
-use Rattle.log.specs.declared.reader.Limits.{Limits}
-use Rattle.log.specs.Entries.{Entry}
+use Rattle.flight_log.specs.declared.reader.Limits.{Limits}
+use Rattle.flight_log.specs.Entries.{Entry}
 use Rattle.sorted_set.specs.Lists.{In, SameMembers, total}
 use Rattle.sorted_set.proofs.Members.{chained, in-at, Place, place, map_in_lem, map-from, Origin}
 use Rattle.sorted_set.proofs.Sums.{total-map}

@@ -3,8 +3,8 @@ use Rattle.wire.proofs.Basics.{◌∙◌, sym, ◌≡◌, refl, ℕ, List, [], �
 use Rattle.wire.specs.Choice.{pick}
 use Rattle.wire.proofs.Choices.{either, never}
 use Rattle.steps.specs.Answers.{Reply, refused_by, kept, repeat, delivered}
-use Rattle.log.specs.declared.reader.Limits.{Limits}
-use Rattle.log.specs.Entries.{Entry}
+use Rattle.flight_log.specs.declared.reader.Limits.{Limits}
+use Rattle.flight_log.specs.Entries.{Entry}
 use Rattle.count_rules.specs.Marks.{PitList}
 use Rattle.count_rules.specs.Run.{answer_to, left_by, answers, payload_in, payloads}
 use Rattle.count_rules.specs.Count.{first_fault, Outcome}

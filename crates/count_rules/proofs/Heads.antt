@@ -1,9 +1,9 @@
 -- A log is counted within the limits of its own edition. Assumes nothing.
 use Rattle.wire.proofs.Basics.{◌∙◌, ◌≡◌, ap, refl, ℕ, List, some, Option, length}
-use Rattle.log.specs.Editions.{Edition, Lawful, edition_in, limits_of, limits_or}
-use Rattle.log.specs.Entries.{Entry, AllKeep, body_of, log_of}
-use Rattle.log.specs.Listed.{Listed, whole, list_by, entries_after, entries_in}
-use Rattle.log.proofs.LogRoundTrip.{head-back, entries-of-log}
+use Rattle.flight_log.specs.Editions.{Edition, Lawful, edition_in, limits_of, limits_or}
+use Rattle.flight_log.specs.Entries.{Entry, AllKeep, body_of, log_of}
+use Rattle.flight_log.specs.Listed.{Listed, whole, list_by, entries_after, entries_in}
+use Rattle.flight_log.proofs.LogRoundTrip.{head-back, entries-of-log}
 use Rattle.count_rules.specs.Count.{count_entries, count_listed, count_log_lem}
 
 module _ (v : Edition) (lawful : Lawful v) (es : List Entry) where

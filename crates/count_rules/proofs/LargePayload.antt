@@ -12,7 +12,7 @@ use Rattle.steps.specs.Receive.{After, opened, stay, decide, step5, act, receive
 use Rattle.steps.specs.Answers.{refused_by, kept, reply}
 use Rattle.steps.specs.Runs.{fresh}
 use Rattle.steps.proofs.Reaches.{opened-good, good-sound}
-use Rattle.log.specs.Editions.{edition1, edition2, limits_of}
+use Rattle.flight_log.specs.Editions.{edition1, edition2, limits_of}
 use Rattle.within_limits.specs.Within.{read_within_lem, step_within}
 use Rattle.within_limits.proofs.Withins.{step-refused}
 use Rattle.count_rules.specs.Run.{called, answer_to}

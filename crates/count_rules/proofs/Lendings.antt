@@ -6,10 +6,10 @@ use Rattle.steps.specs.Answers.{Reply}
 use Rattle.steps.specs.Runs.{lending, world_of}
 use Rattle.steps.proofs.Twins.{Two, two, Twin}
 use Rattle.steps.proofs.Whatever.{Same, within_same, fresh-twin}
-use Rattle.log.specs.declared.reader.Limits.{Limits}
-use Rattle.log.specs.Editions.{limits_in_lem}
-use Rattle.log.specs.Entries.{Entry}
-use Rattle.log.specs.Listed.{Listed, whole, broken, entries_in}
+use Rattle.flight_log.specs.declared.reader.Limits.{Limits}
+use Rattle.flight_log.specs.Editions.{limits_in_lem}
+use Rattle.flight_log.specs.Entries.{Entry}
+use Rattle.flight_log.specs.Listed.{Listed, whole, broken, entries_in}
 use Rattle.within_limits.proofs.Deliveries.{within-is}
 use Rattle.count_rules.specs.Run.{called, answers, payloads}
 use Rattle.count_rules.specs.Count.{max_entries, first_fault, no_report, report_of, unless, answers_to, count_entries, count_listed, count_log_lem}

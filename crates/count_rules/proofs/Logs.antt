@@ -11,8 +11,8 @@ use Rattle.steps.proofs.Reaches.{Good, step-good, opened-good}
 use Rattle.arrival.specs.Demand.{Scene, EachSent, slot_bytes, Feed, start, ◌▹◌, arrival, arrivals, after, Delivery, name_in, handed_by, delivery, deliveries, push}
 use Rattle.arrival.specs.Demand as demand
 use Rattle.arrival.proofs.Track.{Fair}
-use Rattle.log.specs.declared.reader.Limits.{Limits}
-use Rattle.log.specs.Entries.{Entry}
+use Rattle.flight_log.specs.declared.reader.Limits.{Limits}
+use Rattle.flight_log.specs.Entries.{Entry}
 use Rattle.within_limits.specs.Within.{read_within_lem}
 use Rattle.within_limits.proofs.Admits.{Admitted, step_admitted, Refuses, within-refused}
 use Rattle.sorted_set.specs.Lists.{In, SameMembers, total}

@@ -4,10 +4,10 @@ use Rattle.wire.specs.Choice.{pick}
 use Rattle.wire.specs.Sum.{sum}
 use Rattle.steps.specs.Runs.{fresh}
 use Rattle.arrival.specs.Demand.{Scene, Feed, Supposed}
-use Rattle.log.specs.declared.reader.Limits.{Limits}
-use Rattle.log.specs.Editions.{limits_in_lem}
-use Rattle.log.specs.Entries.{Entry}
-use Rattle.log.specs.Listed.{Listed, whole, broken, entries_in}
+use Rattle.flight_log.specs.declared.reader.Limits.{Limits}
+use Rattle.flight_log.specs.Editions.{limits_in_lem}
+use Rattle.flight_log.specs.Entries.{Entry}
+use Rattle.flight_log.specs.Listed.{Listed, whole, broken, entries_in}
 use Rattle.sorted_set.specs.Lists.{SameMembers}
 use Rattle.sorted_set.proofs.Members.{flipped, chained}
 use Rattle.count_rules.specs.Report.{report}

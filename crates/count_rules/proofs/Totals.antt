@@ -6,8 +6,8 @@ use Rattle.steps.specs.declared.Answer.{Answer}
 use Rattle.steps.specs.declared.Answer.TheVariants.{Refused, Kept, Repeat, Delivered}
 use Rattle.steps.specs.Answers.{Reply, refused_by, kept, repeat, delivered, reply}
 use Rattle.steps.specs.Runs.{World}
-use Rattle.log.specs.declared.reader.Limits.{Limits}
-use Rattle.log.specs.Entries.{Entry}
+use Rattle.flight_log.specs.declared.reader.Limits.{Limits}
+use Rattle.flight_log.specs.Entries.{Entry}
 use Rattle.within_limits.proofs.Admits.{within-number}
 use Rattle.count_rules.specs.Run.{called, answer_to, left_by, answers, is_kept, is_repeat, is_delivered, is_refused, how_many, kept_in, repeated_in, delivered_in, refusals, refused_in, payload_in, payloads}
 use Rattle.count_rules.specs.Promise.{EntriesSum}

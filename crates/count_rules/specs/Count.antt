@@ -6,10 +6,10 @@ use Rattle.steps.specs.Runs.{fresh}
 use Rattle.lmcp.specs.Run.{got, refused}
 use Rattle.lmcp.specs.Read.{Read}
 use Rattle.lmcp.specs.Lists.{read_list}
-use Rattle.log.specs.declared.reader.Limits.{Limits}
-use Rattle.log.specs.Editions.{limits_in_lem}
-use Rattle.log.specs.Entries.{Entry}
-use Rattle.log.specs.Listed.{Listed, whole, broken, entries_in}
+use Rattle.flight_log.specs.declared.reader.Limits.{Limits}
+use Rattle.flight_log.specs.Editions.{limits_in_lem}
+use Rattle.flight_log.specs.Entries.{Entry}
+use Rattle.flight_log.specs.Listed.{Listed, whole, broken, entries_in}
 use Rattle.sorted_set.specs.Lists.{total}
 use Rattle.count_rules.specs.Marks.{PitList, list_in}
 use Rattle.count_rules.specs.Report.{tiles, pits, Line, report}

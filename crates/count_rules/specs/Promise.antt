@@ -5,10 +5,10 @@ use Rattle.wire.specs.Sum.{sum}
 use Rattle.datagram.specs.declared.Read.TheVariants.{Refused}
 use Rattle.steps.specs.Runs.{World, Arrival}
 use Rattle.arrival.specs.Demand.{Scene, size, message, slot_bytes, parts, Feed, arrivals, in_order_of_completion, Supposed}
-use Rattle.log.specs.declared.reader.Limits.{Limits}
-use Rattle.log.specs.Editions.{limits_in_lem}
-use Rattle.log.specs.Entries.{Entry}
-use Rattle.log.specs.Listed.{whole, entries_in}
+use Rattle.flight_log.specs.declared.reader.Limits.{Limits}
+use Rattle.flight_log.specs.Editions.{limits_in_lem}
+use Rattle.flight_log.specs.Entries.{Entry}
+use Rattle.flight_log.specs.Listed.{whole, entries_in}
 use Rattle.within_limits.specs.Within.{read_within_lem}
 use Rattle.sorted_set.specs.Lists.{SameMembers}
 use Rattle.count_rules.specs.Marks.{PitList}

@@ -5,8 +5,8 @@ use Rattle.steps.specs.Search.{one}
 use Rattle.steps.specs.Receive.{After}
 use Rattle.steps.specs.Answers.{Reply, refused_by, kept, repeat, delivered, reply}
 use Rattle.steps.specs.Runs.{World, world_of, Arrival, from}
-use Rattle.log.specs.Entries.{Entry}
-use Rattle.log.specs.declared.reader.Limits.{Limits}
+use Rattle.flight_log.specs.Entries.{Entry}
+use Rattle.flight_log.specs.declared.reader.Limits.{Limits}
 use Rattle.within_limits.specs.Within.{step_within}
 use Rattle.sorted_set.specs.Lists.{gather}
 use Rattle.count_rules.specs.Marks.{PitList, list_in}

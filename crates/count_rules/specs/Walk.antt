@@ -5,10 +5,10 @@ use Rattle.steps.specs.Answers.{Reply, refused_by, kept, repeat, delivered}
 use Rattle.steps.specs.Runs.{World, fresh}
 use Rattle.lmcp.specs.Message.{listed}
 use Rattle.lmcp.specs.Lists.{read_list}
-use Rattle.log.specs.declared.reader.Limits.{Limits}
-use Rattle.log.specs.Editions.{limits_in_lem}
-use Rattle.log.specs.Entries.{Entry}
-use Rattle.log.specs.Listed.{Listed, whole, broken, entries_in}
+use Rattle.flight_log.specs.declared.reader.Limits.{Limits}
+use Rattle.flight_log.specs.Editions.{limits_in_lem}
+use Rattle.flight_log.specs.Entries.{Entry}
+use Rattle.flight_log.specs.Listed.{Listed, whole, broken, entries_in}
 use Rattle.count_rules.specs.Marks.{PitList, list_in}
 use Rattle.count_rules.specs.Run.{answer_to, left_by, payloads}
 use Rattle.count_rules.specs.Count.{max_entries, fault, first_fault, Outcome, answers_to, count_log_lem}

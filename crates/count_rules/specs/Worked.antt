@@ -7,8 +7,8 @@ use Rattle.steps.specs.Answers.{Reply, refused_by, kept, repeat, delivered}
 use Rattle.steps.specs.Worked.{head_of, A-of, B-of}
 use Rattle.arrival.specs.Demand.{Message, Scene, part, noise, Feed, start, ◌▹◌, arrivals}
 use Rattle.arrival.specs.Ours.{cut_message}
-use Rattle.log.specs.Editions.{Edition}
-use Rattle.log.specs.Entries.{Entry, entry_of, log_of}
+use Rattle.flight_log.specs.Editions.{Edition}
+use Rattle.flight_log.specs.Entries.{Entry, entry_of, log_of}
 use Rattle.count_rules.specs.Marks.{PitList, list_in}
 use Rattle.count_rules.specs.Report.{Line}
 use Rattle.count_rules.specs.Count.{Report}

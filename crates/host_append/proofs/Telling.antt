@@ -3,8 +3,8 @@ use Rattle.wire.proofs.Basics.{◌∙◌, sym, ◌≡◌, ap, refl, subst, ℕ, 
 use Rattle.wire.specs.Choice.{pick}
 use Rattle.wire.proofs.Once.{one_answer}
 use Rattle.datagram.specs.Limits.{max_datagram, max_payload}
-use Rattle.log.specs.Editions.{edition2, head_bytes}
-use Rattle.log.specs.Entries.{Entry, entry_bytes}
+use Rattle.flight_log.specs.Editions.{edition2, head_bytes}
+use Rattle.flight_log.specs.Entries.{Entry, entry_bytes}
 use Rattle.log_append.specs.Writes.{Answer, wrote, refused, says, fitted, begin_answer, append_answer, output, Began, Appended}
 use Rattle.log_append.specs.declared.Written.{Written}
 use Rattle.log_append.proofs.Writing.{entry-most, seven-most}

@@ -1,7 +1,7 @@
 -- What the C host is told when it keeps a flight, in one number, and what the header's macro takes from it. Definitions only.
 use Rattle.std.specs.Prelude.{◌≡◌, List, ℕ, ◌-◌, ◌*◌, ◌/◌, ◌^◌, length}
-use Rattle.log.specs.Editions.{edition2, head_bytes}
-use Rattle.log.specs.Entries.{Entry, entry_bytes}
+use Rattle.flight_log.specs.Editions.{edition2, head_bytes}
+use Rattle.flight_log.specs.Entries.{Entry, entry_bytes}
 use Rattle.log_append.specs.Writes.{Answer, wrote, refused, begin_answer, append_answer, output}
 
 -- how many bytes were written at the place, times 2^32; or the refusal number alone

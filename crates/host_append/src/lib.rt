@@ -2,7 +2,7 @@
 #![tactic(auto)]
 
 ghost use Rattle.std.specs.Prelude.{◌≡◌};
-ghost use Rattle.log.specs.Entries.{entry_of};
+ghost use Rattle.flight_log.specs.Entries.{entry_of};
 ghost use Rattle.log_append.specs.Writes.{says};
 ghost use Rattle.host_append.specs.Told.{length_code, BeginTold, AppendTold};
 ghost use Rattle.host_append.specs.Inside.{Spans};

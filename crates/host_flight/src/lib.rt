@@ -4,7 +4,7 @@
 ghost use Rattle.std.specs.Prelude.{◌≡◌};
 ghost use Rattle.host_flight.specs.Reading.{FirstTold, NextTold, step_code, step_left};
 
-use log::{EntryAt, First, Step};
+use flight_log::{EntryAt, First, Step};
 
 mod watching;
 
@@ -23,7 +23,7 @@ pub extern "C" fn qm_log_first(log: &[u8], head: &mut [u64]) -> u32
     if head.len() < HEAD {
         return 13;
     }
-    let first = log::first_entry(log);
+    let first = flight_log::first_entry(log);
     match first {
         First::At(place, limits) => {
             let told = [place as u64, limits.payload as u64, limits.fragments as u64];
@@ -65,7 +65,7 @@ pub extern "C" fn qm_log_next(log: &[u8], at: usize, entry: &mut [u64]) -> u32
     if entry.len() < ENTRY {
         return 13;
     }
-    let step = log::next_entry(log, at);
+    let step = flight_log::next_entry(log, at);
     match step {
         Step::Found(e) => put_found(entry, at, e),
         Step::End => put_end(entry, at),

@@ -12,7 +12,7 @@ use Rattle.receiver_state.specs.View.{view, shaped}
 use Rattle.receiver.specs.Lent.{Lent}
 use Rattle.receiver.specs.Calls.{refusal_of, Follows, told}
 use Rattle.receiver.specs.declared.Outcome.{Outcome}
-use Rattle.log.specs.declared.reader.Limits.{Limits}
+use Rattle.flight_log.specs.declared.reader.Limits.{Limits}
 use Rattle.within_limits.specs.Within.{ReceivesWithin}
 use Rattle.within_limits.specs.Within as limited
 use Rattle.within_limits.proofs.Deliveries.{within-is}

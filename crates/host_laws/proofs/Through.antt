@@ -8,7 +8,7 @@ use Rattle.datagram.specs.Said.{refused, says, said}
 use Rattle.datagram.specs.declared.Read.{Read}
 use Rattle.datagram.specs.declared.Read.TheVariants as read
 use Rattle.receiver.specs.Lent.{Lent}
-use Rattle.log.specs.declared.reader.Limits.{Limits}
+use Rattle.flight_log.specs.declared.reader.Limits.{Limits}
 use Rattle.within_limits.proofs.Admits.{Admitted}
 use Rattle.arrival.specs.Demand.{Message, Scene, size, message, parts, datagram, slot_bytes, SentSmall, SentCut, Sent, EachSent, part, Feed, arrival}
 use Rattle.arrival.specs.ArrivalCalls.{LetThrough}

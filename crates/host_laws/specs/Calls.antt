@@ -2,7 +2,7 @@
 use Rattle.std.specs.Prelude.{◌≡◌, true, false, ◌≤◌}
 use Rattle.steps.specs.Runs.{Arrival}
 use Rattle.receiver.specs.Lent.{Lent}
-use Rattle.log.specs.declared.reader.Limits.{Limits}
+use Rattle.flight_log.specs.declared.reader.Limits.{Limits}
 use Rattle.arrival.specs.ArrivalCalls.{LetThrough}
 use Rattle.host_receiver.specs.Calls.{ReceiveTold, WithinTold}
 use Rattle.host_laws.specs.Told.{Returned, lacks}

@@ -6,7 +6,7 @@ use Rattle.steps.specs.Runs.{Arrival}
 use Rattle.steps.specs.Reach.{is_open}
 use Rattle.receiver_state.specs.View.{view}
 use Rattle.receiver.specs.Lent.{Lent, lent}
-use Rattle.log.specs.declared.reader.Limits.{Limits}
+use Rattle.flight_log.specs.declared.reader.Limits.{Limits}
 use Rattle.arrival.specs.Demand.{Message, InFragments, key, parts}
 use Rattle.arrival.specs.Strangers.{part, Feed, begun, ◌▹◌, comes, forgets, complete, Supposed, its}
 use Rattle.arrival.specs.StrangersRuns.{start_of}

@@ -7,7 +7,7 @@ use Rattle.steps.specs.Worked.{A-of, B-of}
 use Rattle.steps.specs.Runs.{Arrival}
 use Rattle.receiver_state.specs.View.{memory_at, state_words_lem, name_bytes_lem}
 use Rattle.receiver.specs.Lent.{Lent, lent}
-use Rattle.log.specs.declared.reader.Limits.{Limits}
+use Rattle.flight_log.specs.declared.reader.Limits.{Limits}
 use Rattle.memory.specs.Words.{used_at, turn_at, sequences_at}
 use Rattle.arrival.specs.Demand.{Message, Scene, Feed, start, ◌▹◌, part, arrival}
 use Rattle.host_laws.specs.Told.{Returned}

@@ -7,7 +7,7 @@ use Rattle.receiver.specs.Lent.{Lent}
 use Rattle.receiver.specs.Calls.{Receives}
 use Rattle.receiver.specs.declared.Outcome.{Outcome}
 use Rattle.receiver_laws.proofs.Once.{Same, receive-once}
-use Rattle.log.specs.declared.reader.Limits.{Limits}
+use Rattle.flight_log.specs.declared.reader.Limits.{Limits}
 use Rattle.within_limits.specs.Within.{ReceivesWithin}
 use Rattle.within_limits.proofs.Once.{within-once}
 use Rattle.wire.specs.Slices.{◌⇒◌}

@@ -5,7 +5,7 @@ use Rattle.datagram.specs.Read.{sequence_in}
 use Rattle.receiver.specs.Lent.{Lent}
 use Rattle.receiver.specs.Calls.{Receives}
 use Rattle.receiver.specs.declared.Outcome.{Outcome}
-use Rattle.log.specs.declared.reader.Limits.{Limits}
+use Rattle.flight_log.specs.declared.reader.Limits.{Limits}
 use Rattle.within_limits.specs.Within.{ReceivesWithin}
 use Rattle.host_state.specs.Lengths.{outcome_count}
 use Rattle.wire.specs.Slices.{Buffer}

@@ -9,7 +9,7 @@ ghost use Rattle.host_receiver.specs.Outcomes.{place_numbers_lem, answer_numbers
 ghost use Rattle.host_receiver.specs.Inside.{Writes};
 ghost use Rattle.host_receiver.specs.Calls.{lacking, ReceiveTold, WithinTold};
 
-use log::Limits;
+use flight_log::Limits;
 use receiver::Outcome;
 use steps::{Answer, Emptied, PayloadAt};
 

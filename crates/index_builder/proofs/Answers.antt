@@ -3,10 +3,10 @@ use Rattle.wire.proofs.Basics.{◌∙◌, sym, ◌≡◌, ap, refl, subst, ℕ, 
 use Prim.Native.Nat.{max}
 use Rattle.wire.specs.Taken.{Taken, taken, refused}
 use Rattle.wire.proofs.Choices.{or_l, or_r}
-use Rattle.log.specs.Editions.{Edition, head_in, limits_of}
-use Rattle.log.specs.Said.{first_of, first_in}
-use Rattle.log.specs.declared.reader.Limits.{Limits}
-use Rattle.log.specs.declared.reader.First.TheVariants as first
+use Rattle.flight_log.specs.Editions.{Edition, head_in, limits_of}
+use Rattle.flight_log.specs.Said.{first_of, first_in}
+use Rattle.flight_log.specs.declared.reader.Limits.{Limits}
+use Rattle.flight_log.specs.declared.reader.First.TheVariants as first
 use Rattle.log_index.specs.Limits.{max_index, batch_rows}
 use Rattle.log_index.specs.Rows.{Row, sorted}
 use Rattle.log_index.specs.Index.{Gathered, gathered, stopped, rows_from, rows_behind, rows_in, rows_after, rows_added, Answer, holds, refuses, no_room_in, answer_in}

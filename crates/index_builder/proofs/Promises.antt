@@ -8,9 +8,9 @@ use Rattle.wire.specs.Overlay.{overlay}
 use Rattle.wire.specs.Taken.{Taken, taken, refused}
 use Rattle.wire.proofs.Choices.{either}
 use Rattle.wire.proofs.Overlays.{overlay-at}
-use Rattle.log.specs.Editions.{Edition, head_bytes, head_in, limits_of}
-use Rattle.log.specs.Entries.{body_of}
-use Rattle.log.proofs.LogRoundTrip.{head-back}
+use Rattle.flight_log.specs.Editions.{Edition, head_bytes, head_in, limits_of}
+use Rattle.flight_log.specs.Entries.{body_of}
+use Rattle.flight_log.proofs.LogRoundTrip.{head-back}
 use Rattle.log_index.specs.Limits.{max_index, batch_rows, large_batch}
 use Rattle.log_index.specs.Rows.{Row, sorted}
 use Rattle.log_index.specs.Index.{Gathered, gathered, stopped, rows_from, rows_behind, rows_in, rows_after, rows_added, first_to, first_entry_lem, Answer, holds, refuses, no_room_in, answer_in}

@@ -3,7 +3,7 @@
 use Rattle.std.specs.Prelude.{◌≡◌, List, ℕ, ◌-◌, ◌*◌, max, length, take}
 use Rattle.wire.specs.Overlay.{overlay}
 use Rattle.wire.specs.Taken.{Taken, taken, refused}
-use Rattle.log.specs.Editions.{Edition, head_in, limits_of}
+use Rattle.flight_log.specs.Editions.{Edition, head_in, limits_of}
 use Rattle.log_index.specs.Limits.{max_index, batch_rows, large_batch}
 use Rattle.log_index.specs.Rows.{Row, sorted}
 use Rattle.log_index.specs.Index.{Gathered, gathered, stopped, rows_from, rows_in, rows_added, Answer, holds, refuses, answer_in}

@@ -9,7 +9,7 @@ ghost use Rattle.index_builder.specs.Adds.{Indexes, AddsIn, Adds, Extends, Index
 ghost use Rattle.index_builder.specs.InsideWalk.{Settles, Takes, Walked, Finishes};
 
 use datagram::Read;
-use log::{First, Limits, Step};
+use flight_log::{First, Limits, Step};
 
 // How many rows the index has now.
 #[derive(Drop)]
@@ -88,7 +88,7 @@ fn walk(
     let mut rows = n;
     let mut waiting: usize = 0;
     while at < log.len() {
-        let step = log::next_entry(log, at);
+        let step = flight_log::next_entry(log, at);
         match step {
             Step::Found(entry) => {
                 let m = enter_datagram(
@@ -177,7 +177,7 @@ fn later(a: usize, b: usize) -> usize
 pub fn index_log(log: &[u8], index: &mut [u64]) -> Indexed
     ensures { Indexes log.now index.old result index.new }
 {
-    let first = log::first_entry(log);
+    let first = flight_log::first_entry(log);
     match first {
         First::At(place, limits) => add(log, place, limits, index, 0),
         First::Refused(number) => Indexed::Refused(number),
@@ -188,7 +188,7 @@ pub fn index_log(log: &[u8], index: &mut [u64]) -> Indexed
 pub fn extend(log: &[u8], from: usize, index: &mut [u64], n: usize) -> Indexed
     ensures { Extends log.now from index.old n result index.new }
 {
-    let first = log::first_entry(log);
+    let first = flight_log::first_entry(log);
     match first {
         First::At(_, limits) => add(log, from, limits, index, n),
         First::Refused(number) => Indexed::Refused(number),
@@ -201,7 +201,7 @@ pub fn index_on(log: &[u8], from: usize, index: &mut [u64], n: usize, most: u32)
     ensures { IndexesOn log.now from index.old n most result index.new }
 {
     let mut batch = [0u64; 3 * log_index::LARGE_BATCH];
-    let first = log::first_entry(log);
+    let first = flight_log::first_entry(log);
     match first {
         First::At(place, limits) => {
             let start = later(from, place);

@@ -4,11 +4,11 @@ use Rattle.wire.proofs.Basics.{drop-append_seam, eqb, le-ltb, eqb-true, arith}
 use Rattle.wire.specs.Bytes.{Bytes}
 use Rattle.wire.specs.Taken.{taken}
 use Rattle.wire.proofs.Choices.{either, and_l, and_r, and-of}
-use Rattle.log.specs.Editions.{head_bytes, head_in, limits_of}
-use Rattle.log.specs.Entries.{body_of}
-use Rattle.log.specs.Said.{first_of}
-use Rattle.log.specs.declared.reader.Limits.{Limits}
-use Rattle.log.proofs.LogRoundTrip.{head-back}
+use Rattle.flight_log.specs.Editions.{head_bytes, head_in, limits_of}
+use Rattle.flight_log.specs.Entries.{body_of}
+use Rattle.flight_log.specs.Said.{first_of}
+use Rattle.flight_log.specs.declared.reader.Limits.{Limits}
+use Rattle.flight_log.proofs.LogRoundTrip.{head-back}
 use Rattle.log_index.specs.Rows as rows
 use Rattle.log_index.specs.Rows.{Row, sorted, is_of}
 use Rattle.log_index.specs.Index.{Gathered, gathered, rows_of, first_to, first_entry_lem}

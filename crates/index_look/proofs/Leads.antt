@@ -15,13 +15,13 @@ use Rattle.datagram.specs.declared.Named.TheVariants.{Nameless, Long}
 use Rattle.datagram.specs.declared.Place.{Place}
 use Rattle.datagram.specs.declared.Read.{Read}
 use Rattle.datagram.specs.declared.Read.TheVariants.{Good, Refused}
-use Rattle.log.specs.Entries.{Entry, Keeps, AllKeep, entry_bytes, body_of}
-use Rattle.log.specs.Listed.{entry_in}
-use Rattle.log.specs.Said.{entry_at, step_of, step_in, next_at}
-use Rattle.log.specs.declared.reader.Limits.{Limits}
-use Rattle.log.specs.declared.reader.Step.TheVariants.{Found}
-use Rattle.log.proofs.LogRoundTrip.{entry-back, entry-some}
-use Rattle.log.proofs.ReadingOn.{found_at}
+use Rattle.flight_log.specs.Entries.{Entry, Keeps, AllKeep, entry_bytes, body_of}
+use Rattle.flight_log.specs.Listed.{entry_in}
+use Rattle.flight_log.specs.Said.{entry_at, step_of, step_in, next_at}
+use Rattle.flight_log.specs.declared.reader.Limits.{Limits}
+use Rattle.flight_log.specs.declared.reader.Step.TheVariants.{Found}
+use Rattle.flight_log.proofs.LogRoundTrip.{entry-back, entry-some}
+use Rattle.flight_log.proofs.ReadingOn.{found_at}
 use Rattle.log_index.specs.Rows.{Row}
 use Rattle.log_index.specs.Index.{row_for, entry_row, rows_of}
 use Rattle.log_index.proofs.Sorts.{All}

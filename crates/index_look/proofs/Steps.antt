@@ -5,11 +5,11 @@ use Rattle.datagram.specs.Read.{read_datagram_lem}
 use Rattle.datagram.specs.declared.Read.{Read}
 use Rattle.datagram.specs.declared.Read.TheVariants as read
 use Rattle.datagram.specs.declared.Header.{Header}
-use Rattle.log.specs.Said.{first_in, next_at}
-use Rattle.log.specs.declared.reader.EntryAt.{EntryAt}
-use Rattle.log.specs.declared.reader.First.TheVariants as first
-use Rattle.log.specs.declared.reader.Limits.{Limits}
-use Rattle.log.specs.declared.reader.Step.TheVariants as step
+use Rattle.flight_log.specs.Said.{first_in, next_at}
+use Rattle.flight_log.specs.declared.reader.EntryAt.{EntryAt}
+use Rattle.flight_log.specs.declared.reader.First.TheVariants as first
+use Rattle.flight_log.specs.declared.reader.Limits.{Limits}
+use Rattle.flight_log.specs.declared.reader.Step.TheVariants as step
 use Rattle.log_index.specs.Rows.{Row, row_of, is_of}
 use Rattle.log_index.specs.Words.{says}
 use Rattle.log_index.specs.declared.Found.{Found}

@@ -3,12 +3,12 @@ use Rattle.std.specs.Prelude.{Bool, true, false, ◌&&◌, List, ℕ, zero, suc,
 use Rattle.datagram.specs.Read.{read_datagram_lem}
 use Rattle.datagram.specs.declared.Read.{Read}
 use Rattle.datagram.specs.declared.Read.TheVariants as read
-use Rattle.log.specs.Said.{first_in, next_at}
-use Rattle.log.specs.declared.reader.First.{First}
-use Rattle.log.specs.declared.reader.First.TheVariants as first
-use Rattle.log.specs.declared.reader.Limits.{Limits}
-use Rattle.log.specs.declared.reader.Step.{Step}
-use Rattle.log.specs.declared.reader.Step.TheVariants as step
+use Rattle.flight_log.specs.Said.{first_in, next_at}
+use Rattle.flight_log.specs.declared.reader.First.{First}
+use Rattle.flight_log.specs.declared.reader.First.TheVariants as first
+use Rattle.flight_log.specs.declared.reader.Limits.{Limits}
+use Rattle.flight_log.specs.declared.reader.Step.{Step}
+use Rattle.flight_log.specs.declared.reader.Step.TheVariants as step
 use Rattle.log_index.specs.Rows.{Row}
 
 -- what the datagram reader accepts has a sequence

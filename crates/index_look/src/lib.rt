@@ -11,8 +11,8 @@ ghost use Rattle.index_look.specs.Keys.{sequence_is_lem, has_key, leads, ends_le
 ghost use Rattle.index_look.specs.Look.{file_rank, found_in_file, believed, looked_up_lem};
 
 use datagram::Read;
+use flight_log::{First, Limits, Step};
 use index_file::{FileRow, Head};
-use log::{First, Limits, Step};
 use log_index::Found;
 
 // Where the first entry of a key begins in the log, or the refusal.
@@ -40,11 +40,11 @@ fn sequence_is(datagram: &[u8], limits: Limits, sequence: u64) -> bool
 fn has_key(log: &[u8], place: u64, sender: u64, sequence: u64) -> bool
     ensures { result ≡ has_key log.now place sender sequence }
 {
-    let first = log::first_entry(log);
+    let first = flight_log::first_entry(log);
     let First::At(_, limits) = first else {
         return false;
     };
-    let step = log::next_entry(log, place as usize);
+    let step = flight_log::next_entry(log, place as usize);
     match step {
         Step::Found(entry) => {
             if entry.sender != sender {

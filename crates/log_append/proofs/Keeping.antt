@@ -4,8 +4,8 @@ use Rattle.wire.specs.Choice.{pick}
 use Rattle.wire.specs.Overlay.{overlay}
 use Rattle.wire.proofs.Overlays.{length-overlay, overlay-next, overlay-at}
 use Rattle.datagram.specs.Limits.{max_datagram, max_payload}
-use Rattle.log.specs.Editions.{Edition, edition2, head_bytes}
-use Rattle.log.specs.Entries.{Entry, entry_bytes, body_of, log_of}
+use Rattle.flight_log.specs.Editions.{Edition, edition2, head_bytes}
+use Rattle.flight_log.specs.Entries.{Entry, entry_bytes, body_of, log_of}
 use Rattle.log_append.specs.Writes.{wrote, refused, fitted, begin_answer, append_answer, Began, Appended, Kept, begun, added}
 use Rattle.log_append.specs.declared.Written.TheVariants.{Next}
 

@@ -1,7 +1,7 @@
 -- No second answer satisfies a contract of this crate. Assumes nothing.
 use Rattle.wire.proofs.Basics.{◌∙◌, sym, ◌≡◌, ap, ℕ, List, arith}
-use Rattle.log.specs.Editions.{edition2, head_bytes}
-use Rattle.log.specs.Entries.{Entry, entry_bytes}
+use Rattle.flight_log.specs.Editions.{edition2, head_bytes}
+use Rattle.flight_log.specs.Entries.{Entry, entry_bytes}
 use Rattle.log_append.specs.Writes.{Answer, says, output, Began, Appended}
 use Rattle.log_append.specs.declared.Written.{Written}
 use Rattle.log_append.specs.declared.Written.TheVariants.{Next, Refused}

@@ -5,11 +5,11 @@ use Rattle.varint.specs.Seven.{seven}
 use Rattle.wire.proofs.Overlays.{overlay-append, overlay-one, length-overlay}
 use Rattle.varint.proofs.Sevens.{groups-length}
 use Rattle.datagram.specs.Limits.{max_datagram, max_payload}
-use Rattle.log.specs.Editions.{edition2, second_byte, head_bytes}
-use Rattle.log.specs.Entries.{Entry, entry_of, entry_bytes}
+use Rattle.flight_log.specs.Editions.{edition2, second_byte, head_bytes}
+use Rattle.flight_log.specs.Entries.{Entry, entry_of, entry_bytes}
 use Rattle.log_append.specs.Writes.{wrote, refused, fitted, begin_answer, append_answer, Began, Appended}
 use Rattle.log_append.specs.declared.Written.TheVariants.{Next, Refused}
-use Rattle.log.proofs.LogRoundTrip.{entry-some}
+use Rattle.flight_log.proofs.LogRoundTrip.{entry-some}
 
 -- ---- the bytes of an entry
 

@@ -3,8 +3,8 @@ use Rattle.std.specs.Prelude.{◌≡◌, List, [], ◌∷◌, ◌++◌, ℕ, ◌
 use Rattle.wire.specs.Choice.{pick}
 use Rattle.wire.specs.Overlay.{overlay}
 use Rattle.datagram.specs.Limits.{max_datagram, max_payload}
-use Rattle.log.specs.Editions.{edition2, head_bytes}
-use Rattle.log.specs.Entries.{Entry, entry_bytes}
+use Rattle.flight_log.specs.Editions.{edition2, head_bytes}
+use Rattle.flight_log.specs.Entries.{Entry, entry_bytes}
 use Rattle.log_append.specs.declared.Written.{Written}
 use Rattle.log_append.specs.declared.Written.TheVariants.{Next, Refused}
 

@@ -4,7 +4,7 @@
 ghost use Rattle.std.specs.Prelude.{◌≡◌, ◌+◌, ◌≤◌, length};
 ghost use Rattle.wire.specs.Overlay.{overlay};
 ghost use Rattle.datagram.specs.Limits.{max_datagram};
-ghost use Rattle.log.specs.Entries.{entry_bytes, entry_of};
+ghost use Rattle.flight_log.specs.Entries.{entry_bytes, entry_of};
 ghost use Rattle.log_append.specs.Writes.{Began, Appended};
 
 // The place after what was written, or the refusal.
@@ -25,7 +25,7 @@ pub fn begin(out: &mut [u8], limit: u64) -> Written
     if out.len() < n {
         return Written::Refused(13);
     }
-    out[0] = log::EDITION;
+    out[0] = flight_log::EDITION;
     varint::put_seven(out, 1, limit);
     Written::Next(n)
 }

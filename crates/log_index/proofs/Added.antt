@@ -5,12 +5,12 @@ use Rattle.wire.specs.Taken.{Taken, taken, refused}
 use Rattle.datagram.specs.Read.{read_datagram_lem}
 use Rattle.datagram.specs.declared.Read.{Read}
 use Rattle.datagram.specs.declared.Read.TheVariants.{Good, Refused}
-use Rattle.log.specs.Editions.{Edition, Lawful, head_bytes, head_in, limits_of}
-use Rattle.log.specs.Entries.{Entry, AllKeep, entry_bytes, body_of}
-use Rattle.log.specs.Listed.{Listed, whole, broken, after, more, one_more_lem, list_by}
-use Rattle.log.specs.declared.reader.Limits.{Limits}
-use Rattle.log.proofs.LogRoundTrip.{entry-back, entry-some, HeadBack, back-body, back_head, head-back, one_more}
-use Rattle.log.proofs.AfterEntry.{rest-bytes}
+use Rattle.flight_log.specs.Editions.{Edition, Lawful, head_bytes, head_in, limits_of}
+use Rattle.flight_log.specs.Entries.{Entry, AllKeep, entry_bytes, body_of}
+use Rattle.flight_log.specs.Listed.{Listed, whole, broken, after, more, one_more_lem, list_by}
+use Rattle.flight_log.specs.declared.reader.Limits.{Limits}
+use Rattle.flight_log.proofs.LogRoundTrip.{entry-back, entry-some, HeadBack, back-body, back_head, head-back, one_more}
+use Rattle.flight_log.proofs.AfterEntry.{rest-bytes}
 use Rattle.log_index.specs.Rows.{Row}
 use Rattle.log_index.specs.Index.{row_for, entry_row, rows_of, Gathered, gathered, stopped, rows_to, rows_from, rows_behind, rows_in, rows_after, rows_added}
 use Rattle.log_index.proofs.Gathers.{ahead, rows-after, list-enough}

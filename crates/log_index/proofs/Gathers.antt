@@ -4,16 +4,16 @@ use Rattle.wire.specs.Bytes.{Bytes}
 use Rattle.wire.specs.Taken.{Taken, taken, refused}
 use Rattle.wire.proofs.Numbers.{drop-bytes}
 use Rattle.datagram.specs.Read.{read_datagram_lem}
-use Rattle.log.specs.Entries.{Entry, entry_bytes}
-use Rattle.log.specs.Listed.{Listed, whole, broken, after, more, list_by, entry_in}
-use Rattle.log.specs.Said.{step_of, step_in, next_at, entry_at}
-use Rattle.log.specs.declared.reader.EntryAt.{EntryAt}
-use Rattle.log.specs.declared.reader.Limits.{Limits}
-use Rattle.log.specs.declared.reader.Step.TheVariants.{Found, End, Refused}
-use Rattle.log.proofs.LogRoundTrip.{back-entry, entry-some}
-use Rattle.log.proofs.AfterEntry.{rest-bytes}
-use Rattle.log.proofs.ReadingOn.{found_at}
-use Rattle.log.proofs.Reading.{next-end}
+use Rattle.flight_log.specs.Entries.{Entry, entry_bytes}
+use Rattle.flight_log.specs.Listed.{Listed, whole, broken, after, more, list_by, entry_in}
+use Rattle.flight_log.specs.Said.{step_of, step_in, next_at, entry_at}
+use Rattle.flight_log.specs.declared.reader.EntryAt.{EntryAt}
+use Rattle.flight_log.specs.declared.reader.Limits.{Limits}
+use Rattle.flight_log.specs.declared.reader.Step.TheVariants.{Found, End, Refused}
+use Rattle.flight_log.proofs.LogRoundTrip.{back-entry, entry-some}
+use Rattle.flight_log.proofs.AfterEntry.{rest-bytes}
+use Rattle.flight_log.proofs.ReadingOn.{found_at}
+use Rattle.flight_log.proofs.Reading.{next-end}
 use Rattle.log_index.specs.Rows.{Row}
 use Rattle.log_index.specs.Index.{row_for, entry_row, rows_of, Gathered, gathered, stopped, rows_to, rows_from}
 

@@ -7,10 +7,10 @@ use Rattle.wire.specs.Taken.{Taken, taken, refused}
 use Rattle.datagram.specs.Read.{read_datagram_lem}
 use Rattle.datagram.specs.declared.Read.{Read}
 use Rattle.datagram.specs.declared.Read.TheVariants.{Good, Refused}
-use Rattle.log.specs.Editions.{Edition, head_in, limits_of}
-use Rattle.log.specs.Entries.{Entry, entry_bytes}
-use Rattle.log.specs.Listed.{Listed, whole, broken, list_by}
-use Rattle.log.specs.declared.reader.Limits.{Limits}
+use Rattle.flight_log.specs.Editions.{Edition, head_in, limits_of}
+use Rattle.flight_log.specs.Entries.{Entry, entry_bytes}
+use Rattle.flight_log.specs.Listed.{Listed, whole, broken, list_by}
+use Rattle.flight_log.specs.declared.reader.Limits.{Limits}
 use Rattle.log_index.specs.Limits.{max_index}
 use Rattle.log_index.specs.Rows.{Row, row_of, first_of}
 

@@ -4,8 +4,8 @@ use Rattle.wire.specs.Choice.{◌when◌else◌}
 use Rattle.wire.specs.Text.{ascii}
 use Rattle.text.specs.Text.{decimal}
 use Rattle.output.specs.Output.{Finishes}
-use Rattle.log.specs.declared.reader.Step.{Step}
-use Rattle.log.specs.declared.reader.Step.TheVariants.{Found, End, Refused}
+use Rattle.flight_log.specs.declared.reader.Step.{Step}
+use Rattle.flight_log.specs.declared.reader.Step.TheVariants.{Found, End, Refused}
 
 -- "1 sender 7 tick 99 length 23"
 abbrev pub entry_line : ℕ → ℕ → ℕ → ℕ → List ℕ

@@ -4,7 +4,7 @@
 ghost use Rattle.output.specs.Output.{Pours, Finishes};
 ghost use Rattle.log_lines.specs.Lines.{entry_line, last_line, longer_line};
 
-use log::{EntryAt, Step};
+use flight_log::{EntryAt, Step};
 
 // The bytes of the longest log that a program holds.
 pub const HOLDS: usize = 4194304;

@@ -1,13 +1,13 @@
 -- The lines of the entries that were passed, and of those that are left, are those of the log. Assumes nothing.
 use Rattle.wire.proofs.Basics.{◌∙◌, sym, ◌≡◌, ap, refl, ℕ, ◌+◌, List, [], ◌∷◌, ◌++◌, append_assoc, append-nil, length, length-append, arith}
 use Rattle.wire.specs.Bytes.{Bytes}
-use Rattle.log.specs.declared.reader.EntryAt.{EntryAt}
-use Rattle.log.specs.declared.reader.Step.{Step}
-use Rattle.log.specs.declared.reader.Step.TheVariants.{Found, End, Refused}
-use Rattle.log.specs.Entries.{Entry}
-use Rattle.log.specs.Listed.{Listed, whole, broken, entries_in}
-use Rattle.log.specs.Said.{entry_said, read_at}
-use Rattle.log.proofs.EntriesPassed.{after_all, after-whole, after-broken, Passed, passed_none, passed-more, passed-all, passed-broken, ahead}
+use Rattle.flight_log.specs.declared.reader.EntryAt.{EntryAt}
+use Rattle.flight_log.specs.declared.reader.Step.{Step}
+use Rattle.flight_log.specs.declared.reader.Step.TheVariants.{Found, End, Refused}
+use Rattle.flight_log.specs.Entries.{Entry}
+use Rattle.flight_log.specs.Listed.{Listed, whole, broken, entries_in}
+use Rattle.flight_log.specs.Said.{entry_said, read_at}
+use Rattle.flight_log.proofs.EntriesPassed.{after_all, after-whole, after-broken, Passed, passed_none, passed-more, passed-all, passed-broken, ahead}
 use Rattle.output.specs.Output.{closed, Pours}
 use Rattle.output.proofs.Sending.{pours-none, pours-then, pours-is, pours-stop}
 use Rattle.log_lines.specs.Lines.{entry_line, end_line, refused_line, last_line}

@@ -1,7 +1,7 @@
 -- The lines of the program `log_list`, in ASCII. Definitions only.
 use Rattle.std.specs.Prelude.{List, [], ◌∷◌, ◌++◌, ℕ, ◌+◌, length}
-use Rattle.log.specs.Entries.{Entry}
-use Rattle.log.specs.Listed.{Listed, whole, broken, entries_in}
+use Rattle.flight_log.specs.Entries.{Entry}
+use Rattle.flight_log.specs.Listed.{Listed, whole, broken, entries_in}
 use Rattle.log_lines.specs.Lines.{entry_line, end_line, refused_line}
 
 -- one line an entry, behind n entries before them, and the last line, by how many there are in all

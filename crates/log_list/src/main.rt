@@ -6,7 +6,7 @@ ghost use Rattle.output.specs.Output.{Finishes, line_limit};
 ghost use Rattle.log_lines.specs.Lines.{Tells};
 ghost use Rattle.log_list.specs.Lines.{list_lines};
 
-use log::Step;
+use flight_log::Step;
 use stream::All;
 
 // One line an entry, and the last line. Answers whether the system took all of them; it stops where it did not.
@@ -17,7 +17,7 @@ fn listed(log: &[u8], out: &mut [u8]) -> bool
     let mut at: usize = 0;
     let mut n: u64 = 0;
     while at != output::CLOSED {
-        let step = log::read_on(log, place);
+        let step = flight_log::read_on(log, place);
         let Step::Found(entry) = step else {
             return log_lines::finish(out, at, n, step);
         };

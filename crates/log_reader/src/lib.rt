@@ -3,10 +3,10 @@
 #![tactic(auto)]
 
 ghost use Rattle.std.specs.Prelude.{◌≡◌, take, drop};
-ghost use Rattle.log.specs.Editions.{limits_in_lem};
+ghost use Rattle.flight_log.specs.Editions.{limits_in_lem};
 ghost use Rattle.log_reader.specs.Reader.{reader_at, step_now, onward};
 
-use log::{Limits, Step};
+use flight_log::{Limits, Step};
 
 #[derive(Drop)]
 pub struct LogReader<'a> {
@@ -26,8 +26,8 @@ pub fn next<'s, 'a>(r: &'s mut LogReader<'a>) -> Step
     ensures { (result ≡ step_now r.old) × (r.new ≡ onward r.old) }
 {
     let at = r.at;
-    let step = log::read_on(r.log, at);
-    r.at = log::place_after(at, step);
+    let step = flight_log::read_on(r.log, at);
+    r.at = flight_log::place_after(at, step);
     step
 }
 
@@ -35,7 +35,7 @@ pub fn next<'s, 'a>(r: &'s mut LogReader<'a>) -> Step
 pub fn limits<'a>(r: LogReader<'a>) -> Limits
     ensures { result ≡ limits_in_lem r.entry.log.now }
 {
-    log::limits_in(r.log)
+    flight_log::limits_in(r.log)
 }
 
 // The datagram of an entry, as the part of the lent log that holds it.

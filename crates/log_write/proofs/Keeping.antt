@@ -3,7 +3,7 @@ use Rattle.wire.proofs.Basics.{◌∙◌, sym, ◌≡◌, ap, refl, subst, ℕ, 
 use Rattle.datagram.specs.Limits.{max_datagram}
 use Rattle.output.specs.Output.{Pours}
 use Rattle.output.proofs.Sending.{pours-is, put_front}
-use Rattle.log.specs.Entries.{Entry, entry_of, entry_bytes}
+use Rattle.flight_log.specs.Entries.{Entry, entry_of, entry_bytes}
 use Rattle.log_append.specs.Writes.{Answer, wrote, refused, says, append_answer, output, Appended}
 use Rattle.log_append.specs.declared.Written.{Written}
 use Rattle.log_append.specs.declared.Written.TheVariants.{Next, Refused}

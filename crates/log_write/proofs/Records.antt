@@ -17,8 +17,8 @@ use Rattle.output.proofs.Sending.{pours-none, pours-put, finishes-then, finishes
 use Rattle.record_lines.specs.Streams.{Stream, ended, cut, also, many, records_in}
 use Rattle.record_lines.specs.Lines.{lines_after, Tells}
 use Rattle.record_lines.proofs.Streams.{sized}
-use Rattle.log.specs.Editions.{edition2, head_bytes}
-use Rattle.log.specs.Entries.{entry_bytes, body_of, log_of}
+use Rattle.flight_log.specs.Editions.{edition2, head_bytes}
+use Rattle.flight_log.specs.Entries.{entry_bytes, body_of, log_of}
 use Rattle.log_append.specs.Writes.{Answer, wrote, refused, says, begin_answer, output, Began}
 use Rattle.log_append.specs.declared.Written.{Written}
 use Rattle.log_append.specs.declared.Written.TheVariants as written

@@ -3,7 +3,7 @@ use Rattle.std.specs.Prelude.{List, [], ℕ, ◌+◌}
 use Rattle.datagram.specs.Limits.{max_datagram}
 use Rattle.record_lines.specs.Streams.{Stream}
 use Rattle.record_lines.specs.Lines.{Says, lines_after}
-use Rattle.log.specs.Entries.{entry_bytes}
+use Rattle.flight_log.specs.Entries.{entry_bytes}
 use Rattle.log_write.specs.Kept.{entry_in}
 
 -- no entry is longer

@@ -4,8 +4,8 @@ use Rattle.wire.specs.Bytes.{be}
 use Rattle.datagram.specs.Limits.{max_payload, max_datagram}
 use Rattle.output.specs.Output.{Pours}
 use Rattle.record_lines.specs.Streams.{Rec, Stream, ended, cut, also}
-use Rattle.log.specs.Editions.{edition2}
-use Rattle.log.specs.Entries.{Entry, entry_of, entry_bytes, log_of}
+use Rattle.flight_log.specs.Editions.{edition2}
+use Rattle.flight_log.specs.Entries.{Entry, entry_of, entry_bytes, log_of}
 
 -- of any entry that a log takes
 abbrev pub Keeps : List ℕ → ℕ → Entry → List ℕ → ℕ → Type 0

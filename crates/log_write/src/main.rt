@@ -8,7 +8,7 @@ ghost use Rattle.wire.specs.Slices.{buffer};
 ghost use Rattle.stream.specs.declared.Kind.TheVariants.{Entry};
 ghost use Rattle.output.specs.Output.{line_limit};
 ghost use Rattle.record_lines.specs.Lines.{Tells};
-ghost use Rattle.log.specs.Entries.{entry_of};
+ghost use Rattle.flight_log.specs.Entries.{entry_of};
 ghost use Rattle.log_write.specs.Kept.{Keeps, log_text};
 ghost use Rattle.log_write.specs.Inside.{entry_limit, entries_text};
 

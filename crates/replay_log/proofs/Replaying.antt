@@ -8,14 +8,14 @@ use Rattle.steps.specs.Receive.{After, stay}
 use Rattle.steps.specs.Runs.{World, world_of}
 use Rattle.receiver_state.specs.View.{view, shaped}
 use Rattle.receiver.specs.Lent.{Lent, world_in}
-use Rattle.log.specs.declared.reader.Limits.{Limits}
-use Rattle.log.specs.declared.reader.EntryAt.{EntryAt}
-use Rattle.log.specs.declared.reader.Step.{Step}
-use Rattle.log.specs.declared.reader.Step.TheVariants.{Found, End, Refused}
-use Rattle.log.specs.Entries.{Entry}
-use Rattle.log.specs.Listed.{Listed, whole, broken, entries_in}
-use Rattle.log.specs.Said.{entry_said, read_at}
-use Rattle.log.proofs.EntriesPassed.{after_all, after-whole, after-broken, Passed, passed_none, passed-more, passed-all, passed-broken}
+use Rattle.flight_log.specs.declared.reader.Limits.{Limits}
+use Rattle.flight_log.specs.declared.reader.EntryAt.{EntryAt}
+use Rattle.flight_log.specs.declared.reader.Step.{Step}
+use Rattle.flight_log.specs.declared.reader.Step.TheVariants.{Found, End, Refused}
+use Rattle.flight_log.specs.Entries.{Entry}
+use Rattle.flight_log.specs.Listed.{Listed, whole, broken, entries_in}
+use Rattle.flight_log.specs.Said.{entry_said, read_at}
+use Rattle.flight_log.proofs.EntriesPassed.{after_all, after-whole, after-broken, Passed, passed_none, passed-more, passed-all, passed-broken}
 use Rattle.within_limits.specs.Within.{received_within}
 use Rattle.output.specs.Output.{closed, Pours, Finishes}
 use Rattle.output.proofs.Sending.{pours-none, pours-then, pours-is, pours-stop}

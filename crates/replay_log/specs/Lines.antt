@@ -5,10 +5,10 @@ use Rattle.steps.specs.Receive.{After}
 use Rattle.steps.specs.Runs.{World, world_of, begun}
 use Rattle.receiver.specs.Lent.{Lent}
 use Rattle.receiver.specs.declared.Outcome.{Outcome}
-use Rattle.log.specs.declared.reader.Limits.{Limits}
-use Rattle.log.specs.Editions.{limits_in_lem}
-use Rattle.log.specs.Entries.{Entry}
-use Rattle.log.specs.Listed.{Listed, whole, broken, entries_in}
+use Rattle.flight_log.specs.declared.reader.Limits.{Limits}
+use Rattle.flight_log.specs.Editions.{limits_in_lem}
+use Rattle.flight_log.specs.Entries.{Entry}
+use Rattle.flight_log.specs.Listed.{Listed, whole, broken, entries_in}
 use Rattle.within_limits.specs.Within.{step_within, ReceivesWithin}
 use Rattle.output.specs.Output.{Pours}
 use Rattle.log_lines.specs.Lines.{end_line, refused_line}

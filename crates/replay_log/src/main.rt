@@ -7,13 +7,13 @@ ghost use Rattle.std.specs.Prelude.{◌≡◌, true, ◌≤◌, length};
 ghost use Rattle.wire.specs.Slices.{buffer};
 ghost use Rattle.output.specs.Output.{line_limit, Finishes};
 ghost use Rattle.receiver_state.specs.View.{shaped};
-ghost use Rattle.log.specs.Said.{entry_said};
+ghost use Rattle.flight_log.specs.Said.{entry_said};
 ghost use Rattle.receiver.specs.Lent.{lent_before, lent_after};
 ghost use Rattle.log_lines.specs.Lines.{Tells};
 ghost use Rattle.replay_log.specs.Lines.{Replayed, replay_lines_lem};
 ghost use Rattle.replay_log.specs.Inside.{lines_with};
 
-use log::{EntryAt, Limits, Step};
+use flight_log::{EntryAt, Limits, Step};
 use receiver::Call;
 use stream::All;
 
@@ -62,12 +62,12 @@ fn replayed(
     requires { shaped state.old names.old ≡ true }
     ensures { Finishes out.old 0 (lines_with (lent_before state names store ledger) log.now) out.new result }
 {
-    let limits = log::limits_in(log);
+    let limits = flight_log::limits_in(log);
     let mut place: usize = 0;
     let mut at: usize = 0;
     let mut n: u64 = 0;
     while at != output::CLOSED {
-        let step = log::read_on(log, place);
+        let step = flight_log::read_on(log, place);
         let Step::Found(entry) = step else {
             return log_lines::finish(out, at, n, step);
         };

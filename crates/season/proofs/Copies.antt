@@ -1,9 +1,9 @@
 -- LATE COPIES ADD NO PIT TO A SEASON: the lists of a flight that keeps a feed of messages are those of the messages, each once. Assumes nothing.
 use Rattle.wire.proofs.Basics.{◌∙◌, sym, ◌≡◌, ap, subst, ℕ, List, length}
 use Rattle.arrival.specs.Demand.{Scene, Feed, Supposed}
-use Rattle.log.specs.Editions.{limits_in_lem}
-use Rattle.log.specs.Entries.{Entry}
-use Rattle.log.specs.Listed.{entries_in}
+use Rattle.flight_log.specs.Editions.{limits_in_lem}
+use Rattle.flight_log.specs.Entries.{Entry}
+use Rattle.flight_log.specs.Listed.{entries_in}
 use Rattle.sorted_set.specs.Lists.{SameMembers}
 use Rattle.sorted_set.proofs.Members.{gather-same}
 use Rattle.count_rules.specs.Marks.{list_in}

@@ -10,15 +10,15 @@ use Rattle.receiver_state.specs.View.{state_words_lem, name_bytes_lem, view, sha
 use Rattle.receiver.specs.declared.Call.{Call}
 use Rattle.receiver.specs.Lent.{lent}
 use Rattle.open_and_payload.specs.Ends.{Opens}
-use Rattle.log.specs.Editions.{Edition, head_in, limits_in_lem}
-use Rattle.log.specs.Entries.{Entry}
-use Rattle.log.specs.Listed.{entry_in}
-use Rattle.log.specs.declared.reader.Limits.{Limits}
-use Rattle.log.specs.declared.reader.EntryAt.{EntryAt}
-use Rattle.log.specs.declared.reader.Step.{Step}
-use Rattle.log.specs.declared.reader.Step.TheVariants.{Found, End, Refused}
-use Rattle.log.specs.Said.{first_of, first_in, entry_at, step_of, step_in, next_at, entry_said, from_first, read_at}
-use Rattle.log.proofs.ReadingOn.{Found_at, found_at}
+use Rattle.flight_log.specs.Editions.{Edition, head_in, limits_in_lem}
+use Rattle.flight_log.specs.Entries.{Entry}
+use Rattle.flight_log.specs.Listed.{entry_in}
+use Rattle.flight_log.specs.declared.reader.Limits.{Limits}
+use Rattle.flight_log.specs.declared.reader.EntryAt.{EntryAt}
+use Rattle.flight_log.specs.declared.reader.Step.{Step}
+use Rattle.flight_log.specs.declared.reader.Step.TheVariants.{Found, End, Refused}
+use Rattle.flight_log.specs.Said.{first_of, first_in, entry_at, step_of, step_in, next_at, entry_said, from_first, read_at}
+use Rattle.flight_log.proofs.ReadingOn.{Found_at, found_at}
 use Rattle.sorted_set.specs.Lists.{In}
 use Rattle.count_rules.specs.Run.{payloads}
 use Rattle.pit_payloads.specs.Looks.{book}

@@ -7,18 +7,18 @@ use Rattle.wire.specs.Bytes.{Bytes}
 use Rattle.wire.specs.Choice.{pick}
 use Rattle.wire.specs.Taken.{Taken, taken, refused}
 use Rattle.wire.proofs.Numbers.{drop-bytes}
-use Rattle.log.specs.Editions.{Edition, head_bytes, head_in, edition_of, limits_of, limits_or, limits_in_lem}
-use Rattle.log.specs.Entries.{Entry, entry_bytes}
-use Rattle.log.specs.Listed.{entry_in}
-use Rattle.log.specs.declared.reader.Limits.{Limits}
-use Rattle.log.specs.declared.reader.EntryAt.{EntryAt}
-use Rattle.log.specs.declared.reader.First.{First}
-use Rattle.log.specs.declared.reader.First.TheVariants as first
-use Rattle.log.specs.declared.reader.Step.{Step}
-use Rattle.log.specs.declared.reader.Step.TheVariants.{Found, End, Refused}
-use Rattle.log.specs.Said.{first_of, first_in, entry_at, step_of, step_in, next_at, entry_said, from_first, read_at}
-use Rattle.log.proofs.LogRoundTrip.{entry-back, Back, back-entry, head-back, HeadBack, back_head}
-use Rattle.log.proofs.ReadingOn.{found_at}
+use Rattle.flight_log.specs.Editions.{Edition, head_bytes, head_in, edition_of, limits_of, limits_or, limits_in_lem}
+use Rattle.flight_log.specs.Entries.{Entry, entry_bytes}
+use Rattle.flight_log.specs.Listed.{entry_in}
+use Rattle.flight_log.specs.declared.reader.Limits.{Limits}
+use Rattle.flight_log.specs.declared.reader.EntryAt.{EntryAt}
+use Rattle.flight_log.specs.declared.reader.First.{First}
+use Rattle.flight_log.specs.declared.reader.First.TheVariants as first
+use Rattle.flight_log.specs.declared.reader.Step.{Step}
+use Rattle.flight_log.specs.declared.reader.Step.TheVariants.{Found, End, Refused}
+use Rattle.flight_log.specs.Said.{first_of, first_in, entry_at, step_of, step_in, next_at, entry_said, from_first, read_at}
+use Rattle.flight_log.proofs.LogRoundTrip.{entry-back, Back, back-entry, head-back, HeadBack, back_head}
+use Rattle.flight_log.proofs.ReadingOn.{found_at}
 use Rattle.sorted_set.specs.Lists.{In}
 use Rattle.count_rules.specs.Run.{payloads}
 use Rattle.pit_marks.specs.declared.Sizes.{Sizes}

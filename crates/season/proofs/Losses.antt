@@ -6,10 +6,10 @@ use Rattle.arrival.specs.Demand.{Scene, size, message, Feed, done, completed}
 use Rattle.arrival.proofs.Track.{Lawful, Fair, fair-of, times, done-once}
 use Rattle.arrival.proofs.Whole.{completed-apart}
 use Rattle.arrival.proofs.Demand3.{delivered-own}
-use Rattle.log.specs.declared.reader.Limits.{Limits}
-use Rattle.log.specs.Editions.{limits_in_lem}
-use Rattle.log.specs.Entries.{Entry}
-use Rattle.log.specs.Listed.{entries_in}
+use Rattle.flight_log.specs.declared.reader.Limits.{Limits}
+use Rattle.flight_log.specs.Editions.{limits_in_lem}
+use Rattle.flight_log.specs.Entries.{Entry}
+use Rattle.flight_log.specs.Listed.{entries_in}
 use Rattle.sorted_set.specs.Lists.{In, SameMembers}
 use Rattle.sorted_set.proofs.Members.{chained, map_in_lem, map-from, Origin, in_left, in_right, in_either, gather-same}
 use Rattle.count_rules.specs.Marks.{list_in}

@@ -6,11 +6,11 @@ use Rattle.wire.specs.Overlay.{overlay}
 use Rattle.wire.specs.Slices.{Buffer}
 use Rattle.wire.proofs.Parts.{map_both}
 use Rattle.steps.specs.Answers.{Reply}
-use Rattle.log.specs.Editions.{limits_in_lem}
-use Rattle.log.specs.Entries.{Entry}
-use Rattle.log.specs.Listed.{Listed, entries_in}
-use Rattle.log.specs.Said.{read_all}
-use Rattle.log.proofs.ReadingOn.{read-all}
+use Rattle.flight_log.specs.Editions.{limits_in_lem}
+use Rattle.flight_log.specs.Entries.{Entry}
+use Rattle.flight_log.specs.Listed.{Listed, entries_in}
+use Rattle.flight_log.specs.Said.{read_all}
+use Rattle.flight_log.proofs.ReadingOn.{read-all}
 use Rattle.sorted_set.specs.Lists.{In, SameMembers}
 use Rattle.sorted_set.proofs.Members.{in_left, in_right, in_either, gather_in, Source, gather-from, map_in_lem, Origin, map-from}
 use Rattle.count_rules.specs.Marks.{PitList}

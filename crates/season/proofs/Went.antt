@@ -3,10 +3,10 @@ use Rattle.wire.proofs.Basics.{◌∙◌, sym, ◌≡◌, ap, refl, subst, ℕ, 
 use Rattle.wire.specs.Choice.{pick}
 use Rattle.steps.specs.Answers.{Reply, refused_by, kept, repeat, delivered}
 use Rattle.steps.specs.Runs.{World}
-use Rattle.log.specs.declared.reader.Limits.{Limits}
-use Rattle.log.specs.declared.reader.Step.{Step}
-use Rattle.log.specs.declared.reader.Step.TheVariants as step
-use Rattle.log.specs.Said.{entry_said, read_at}
+use Rattle.flight_log.specs.declared.reader.Limits.{Limits}
+use Rattle.flight_log.specs.declared.reader.Step.{Step}
+use Rattle.flight_log.specs.declared.reader.Step.TheVariants as step
+use Rattle.flight_log.specs.Said.{entry_said, read_at}
 use Rattle.sorted_set.specs.Lists.{In}
 use Rattle.sorted_set.proofs.Members.{in_left, in_right, in_either}
 use Rattle.count_rules.specs.Marks.{PitList, list_in}

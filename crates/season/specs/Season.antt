@@ -6,9 +6,9 @@ use Rattle.wire.specs.Overlay.{overlay}
 use Rattle.wire.specs.Slices.{Buffer}
 use Rattle.wire.specs.Taken.{taken}
 use Rattle.steps.specs.Runs.{fresh}
-use Rattle.log.specs.declared.reader.Limits.{Limits}
-use Rattle.log.specs.Editions.{Edition, head_in, limits_in_lem}
-use Rattle.log.specs.Listed.{entries_in}
+use Rattle.flight_log.specs.declared.reader.Limits.{Limits}
+use Rattle.flight_log.specs.Editions.{Edition, head_in, limits_in_lem}
+use Rattle.flight_log.specs.Listed.{entries_in}
 use Rattle.sorted_set.specs.Lists.{In, SameMembers, gather}
 use Rattle.count_rules.specs.Marks.{PitList, list_in}
 use Rattle.count_rules.specs.Report.{pits, sure_pits, Line, report}

@@ -10,8 +10,8 @@ use Rattle.receiver.specs.Lent.{Lent}
 use Rattle.open_and_payload.specs.Ends.{payload_of}
 use Rattle.within_limits.specs.Within.{received_within, ReceivesWithin}
 use Rattle.lmcp.specs.Read.{Read}
-use Rattle.log.specs.declared.reader.Limits.{Limits}
-use Rattle.log.specs.Entries.{Entry}
+use Rattle.flight_log.specs.declared.reader.Limits.{Limits}
+use Rattle.flight_log.specs.Entries.{Entry}
 use Rattle.sorted_set.specs.Lists.{In}
 use Rattle.count_rules.specs.Run.{called, refusals, payload_in}
 use Rattle.count_rules.specs.Walk.{list_at}

@@ -5,12 +5,12 @@ use Rattle.wire.specs.Bytes.{Bytes}
 use Rattle.wire.specs.Choice.{pick}
 use Rattle.steps.specs.Answers.{Reply}
 use Rattle.receiver_state.specs.View.{state_words_lem, name_bytes_lem}
-use Rattle.log.specs.declared.reader.Limits.{Limits}
-use Rattle.log.specs.declared.reader.EntryAt.{EntryAt}
-use Rattle.log.specs.declared.reader.Step.{Step}
-use Rattle.log.specs.declared.reader.Step.TheVariants as step
-use Rattle.log.specs.Editions.{limits_in_lem}
-use Rattle.log.specs.Said.{entry_said, read_at}
+use Rattle.flight_log.specs.declared.reader.Limits.{Limits}
+use Rattle.flight_log.specs.declared.reader.EntryAt.{EntryAt}
+use Rattle.flight_log.specs.declared.reader.Step.{Step}
+use Rattle.flight_log.specs.declared.reader.Step.TheVariants as step
+use Rattle.flight_log.specs.Editions.{limits_in_lem}
+use Rattle.flight_log.specs.Said.{entry_said, read_at}
 use Rattle.sorted_set.specs.Lists.{In}
 use Rattle.sorted_set.proofs.Members.{in_left, in_right, in_either}
 use Rattle.count_rules.specs.Run.{payload_in, payloads}

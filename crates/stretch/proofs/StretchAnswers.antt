@@ -8,12 +8,12 @@ use Rattle.lmcp.specs.Run.{got, refused}
 use Rattle.lmcp.specs.Read.{Read}
 use Rattle.lmcp.specs.Message.{listed}
 use Rattle.lmcp.specs.Lists.{read_list}
-use Rattle.log.specs.declared.reader.Limits.{Limits}
-use Rattle.log.specs.declared.reader.Step.{Step}
-use Rattle.log.specs.declared.reader.Step.TheVariants as step
-use Rattle.log.specs.Entries.{Entry}
-use Rattle.log.specs.Listed.{Listed, whole, broken, after}
-use Rattle.log.specs.Said.{entry_said, read_at, onward, read_on}
+use Rattle.flight_log.specs.declared.reader.Limits.{Limits}
+use Rattle.flight_log.specs.declared.reader.Step.{Step}
+use Rattle.flight_log.specs.declared.reader.Step.TheVariants as step
+use Rattle.flight_log.specs.Entries.{Entry}
+use Rattle.flight_log.specs.Listed.{Listed, whole, broken, after}
+use Rattle.flight_log.specs.Said.{entry_said, read_at, onward, read_on}
 use Rattle.count_rules.specs.Marks.{PitList, list_in}
 use Rattle.count_rules.specs.Run.{answer_to, answers, payload_in, lists_read}
 use Rattle.count_rules.specs.Walk.{seen_at, list_at, seen_after}

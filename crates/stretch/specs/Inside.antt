@@ -4,10 +4,10 @@ use Rattle.wire.specs.Bytes.{Bytes}
 use Rattle.steps.specs.declared.Answer.{Answer}
 use Rattle.steps.specs.declared.Answer.TheVariants.{Refused, Kept, Repeat, Delivered}
 use Rattle.steps.specs.Answers.{Reply}
-use Rattle.log.specs.declared.reader.Limits.{Limits}
-use Rattle.log.specs.declared.reader.Step.{Step}
-use Rattle.log.specs.declared.reader.Step.TheVariants as step
-use Rattle.log.specs.Entries.{Entry}
+use Rattle.flight_log.specs.declared.reader.Limits.{Limits}
+use Rattle.flight_log.specs.declared.reader.Step.{Step}
+use Rattle.flight_log.specs.declared.reader.Step.TheVariants as step
+use Rattle.flight_log.specs.Entries.{Entry}
 use Rattle.sorted_set.specs.Lists.{In}
 use Rattle.count_rules.specs.Run.{payload_in}
 use Rattle.pit_marks.specs.declared.Sizes.{Sizes}

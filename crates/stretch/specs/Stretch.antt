@@ -10,13 +10,13 @@ use Rattle.steps.specs.Runs.{World, world_of}
 use Rattle.receiver_state.specs.View.{shaped}
 use Rattle.receiver.specs.Lent.{Lent, world_in}
 use Rattle.lmcp.specs.Lists.{read_list}
-use Rattle.log.specs.declared.reader.Limits.{Limits}
-use Rattle.log.specs.declared.reader.Step.{Step}
-use Rattle.log.specs.declared.reader.Step.TheVariants as step
-use Rattle.log.specs.Editions.{limits_in_lem}
-use Rattle.log.specs.Entries.{Entry}
-use Rattle.log.specs.Listed.{Listed, whole, broken}
-use Rattle.log.specs.Said.{entry_said, read_at}
+use Rattle.flight_log.specs.declared.reader.Limits.{Limits}
+use Rattle.flight_log.specs.declared.reader.Step.{Step}
+use Rattle.flight_log.specs.declared.reader.Step.TheVariants as step
+use Rattle.flight_log.specs.Editions.{limits_in_lem}
+use Rattle.flight_log.specs.Entries.{Entry}
+use Rattle.flight_log.specs.Listed.{Listed, whole, broken}
+use Rattle.flight_log.specs.Said.{entry_said, read_at}
 use Rattle.sorted_set.specs.Lists.{In}
 use Rattle.count_rules.specs.Run.{called, kept_in, repeated_in, delivered_in, refused_in, payloads}
 use Rattle.count_rules.specs.Walk.{list_at}

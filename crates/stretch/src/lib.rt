@@ -2,14 +2,14 @@
 #![tactic(auto)]
 
 ghost use Rattle.std.specs.Prelude.{◌≡◌, ℕ, ◌+◌, ◌<◌, ◌^◌, get_or};
-ghost use Rattle.log.specs.Said.{entry_said};
+ghost use Rattle.flight_log.specs.Said.{entry_said};
 ghost use Rattle.receiver.specs.Lent.{lent_before, lent_after};
 ghost use Rattle.pit_marks.specs.Sets.{sets_before, held_in};
 ghost use Rattle.pit_payloads.specs.Looks.{book_before, book_after};
 ghost use Rattle.stretch.specs.Stretch.{desk, CountsOn};
 ghost use Rattle.stretch.specs.Inside.{Few, one_more_lem, told_of, ran, ran_by_lem, no_totals, stop_of_lem, stopped_at, TakesPayload, TakesEntry};
 
-use log::{EntryAt, Limits, Step};
+use flight_log::{EntryAt, Limits, Step};
 use pit_marks::Sizes;
 use pit_payloads::Looked;
 use steps::Answer;
@@ -256,12 +256,12 @@ pub fn count_on(
     ensures { CountsOn log.now place most (desk (lent_before state names store ledger) (book_before numbers tiles pits sure)) sizes result
         (desk (lent_after state names store ledger) (book_after numbers tiles pits sure)) }
 {
-    let limits = log::limits_in(log);
+    let limits = flight_log::limits_in(log);
     let mut at = place;
     let mut taken: u64 = 0;
     let mut done = nothing(held(sizes, &*tiles, &*pits, &*sure));
     while taken < most {
-        let step = log::read_on(log, at);
+        let step = flight_log::read_on(log, at);
         let Step::Found(entry) = step else {
             return stopped(stop_of(step), at, taken, done);
         };

@@ -17,7 +17,7 @@ use Rattle.steps.specs.declared.Answer.TheVariants as answer
 use Rattle.steps.specs.Receive.{Machine, After, stay, sound, decide, act, receive, step}
 use Rattle.steps.proofs.Branches.{step-unsound}
 use Rattle.steps.proofs.Numbers.{said-number, refusal-number}
-use Rattle.log.specs.declared.reader.Limits.{Limits}
+use Rattle.flight_log.specs.declared.reader.Limits.{Limits}
 use Rattle.within_limits.specs.Within.{read_within_lem, step_within}
 use Rattle.within_limits.proofs.Readers.{within-good}
 use Rattle.within_limits.proofs.Withins.{step-good, step-nine, step-refused}

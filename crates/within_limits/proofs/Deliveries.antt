@@ -15,7 +15,7 @@ use Rattle.receiver_state.proofs.Bridge.{slots_length}
 use Rattle.receiver.specs.Lent.{Lent}
 use Rattle.receiver.specs.declared.Outcome.{Outcome}
 use Rattle.receiver_laws.proofs.Deliveries.{LiesIn, none-lies, follows-lies}
-use Rattle.log.specs.declared.reader.Limits.{Limits}
+use Rattle.flight_log.specs.declared.reader.Limits.{Limits}
 use Rattle.within_limits.specs.Within.{step_within, received_within, ReceivesWithin}
 
 -- the step list's call within the limits, said with their two numbers

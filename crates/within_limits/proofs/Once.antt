@@ -6,7 +6,7 @@ use Rattle.receiver_state.specs.View.{shaped}
 use Rattle.receiver.specs.Lent.{Lent}
 use Rattle.receiver.specs.declared.Outcome.{Outcome}
 use Rattle.receiver_laws.proofs.Once.{Same, follows-once}
-use Rattle.log.specs.declared.reader.Limits.{Limits}
+use Rattle.flight_log.specs.declared.reader.Limits.{Limits}
 use Rattle.within_limits.specs.Within.{received_within, ReceivesWithin}
 
 unshaped-nine : (limits : Limits) (l : Lent) (sender : ℕ) (d : List ℕ) → shaped l.state l.names ≡ false → (received_within limits l sender d).answer ≡ Refused 9

@@ -5,7 +5,7 @@ use Rattle.datagram.specs.Read.{magic_in, small_magic, read_datagram_lem}
 use Rattle.datagram.specs.declared.Header.{Header}
 use Rattle.datagram.specs.declared.Read.TheVariants.{Good}
 use Rattle.datagram.proofs.Larger.{larger}
-use Rattle.log.specs.declared.reader.Limits.{Limits}
+use Rattle.flight_log.specs.declared.reader.Limits.{Limits}
 use Rattle.within_limits.specs.Within.{read_within_lem}
 
 -- what is accepted within a log's limits is accepted, and says the same

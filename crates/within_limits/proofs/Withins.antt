@@ -17,7 +17,7 @@ use Rattle.receiver.specs.Lent.{Lent, lent}
 use Rattle.receiver.specs.Calls.{received, Leaves, Follows, Receives}
 use Rattle.receiver.proofs.Settling.{told_is}
 use Rattle.receiver.specs.declared.Outcome.{Outcome}
-use Rattle.log.specs.declared.reader.Limits.{Limits}
+use Rattle.flight_log.specs.declared.reader.Limits.{Limits}
 use Rattle.within_limits.specs.Within.{read_within_lem, step_within, received_within, ReceivesWithin}
 use Rattle.within_limits.proofs.Readers.{within-good, within_loose, within-small}
 

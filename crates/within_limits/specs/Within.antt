@@ -12,7 +12,7 @@ use Rattle.receiver_state.specs.View.{view, shaped}
 use Rattle.receiver.specs.Lent.{Lent}
 use Rattle.receiver.specs.Calls.{Follows}
 use Rattle.receiver.specs.declared.Outcome.{Outcome}
-use Rattle.log.specs.declared.reader.Limits.{Limits}
+use Rattle.flight_log.specs.declared.reader.Limits.{Limits}
 
 -- the datagram reader of a receiver with slots of C bytes, within a log's limits
 abbrev pub read_within_lem : Limits → ℕ → List ℕ → Read

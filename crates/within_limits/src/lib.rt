@@ -10,7 +10,7 @@ ghost use Rattle.receiver.specs.Lent.{lent_before, lent_after};
 ghost use Rattle.within_limits.specs.Within.{read_within_lem, ReceivesWithin};
 
 use datagram::Read;
-use log::Limits;
+use flight_log::Limits;
 use receiver::Outcome;
 use steps::{Answer, Emptied};
 

@@ -1,6 +1,6 @@
 -- `log_append::append` meets its contract. Assumes nothing.
 use Rattle.wire.proofs.Basics.{arith, needs}
-use Rattle.log.specs.Entries.{entry_of}
+use Rattle.flight_log.specs.Entries.{entry_of}
 use Rattle.log_append.proofs.Writing.{append-long, append-short, fits-at, append-good}
 use Rattle.log_append.proofs.append.Statement.{statement}
 use Rattle.log_append.proofs.append.Tie as tie

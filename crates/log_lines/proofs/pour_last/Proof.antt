@@ -1,7 +1,7 @@
 -- `log_lines::pour_last` meets its contract. Assumes nothing.
 use Rattle.wire.proofs.Basics.{sym, ap, needs}
 use Rattle.output.proofs.Sending.{pours-is, pours-then, pours-none}
-use Rattle.log.specs.declared.reader.Step.{Step}
+use Rattle.flight_log.specs.declared.reader.Step.{Step}
 use Rattle.log_lines.specs.Lines.{last_line}
 use Rattle.log_lines.proofs.pour_last.Statement.{statement}
 use Rattle.log_lines.proofs.pour_last.Tie as tie

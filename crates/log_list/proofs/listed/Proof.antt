@@ -1,7 +1,7 @@
 -- Entry by entry. The loop's invariant: the entries passed have their lines. Assumes nothing.
 use Rattle.wire.proofs.Basics.{◌∙◌, sym, ◌≡◌, refl, ◌-◌, length, arith, needs}
 use Rattle.wire.specs.Bytes.{Bytes}
-use Rattle.log.proofs.EntriesPassed.{no-entry, ahead}
+use Rattle.flight_log.proofs.EntriesPassed.{no-entry, ahead}
 use Rattle.output.proofs.Sending.{finishes-shut}
 use Rattle.log_list.proofs.Listing.{Going, going-none, going_more, going_end, going-shut}
 use Rattle.log_list.proofs.listed.Statement.{statement}

@@ -1,4 +1,4 @@
--- `log_reader::limits` meets its contract: a walk of its MIR, by hand. The reader is taken apart, and `log::limits_in` is called on the log. All that the proof knows of it is that it meets its contract.
+-- `log_reader::limits` meets its contract: a walk of its MIR, by hand. The reader is taken apart, and `flight_log::limits_in` is called on the log. All that the proof knows of it is that it meets its contract.
 -- The reader is Copy: what it owns is had twice, one copy is kept whole for the exit, and of the other what the log owns goes to the callee, beside the lifetime's token, which comes back.
 -- Assumes nothing.
 use Rattle.wire.proofs.Basics.{◌≡◌, refl, List, [], ◌∷◌, length}
@@ -37,17 +37,17 @@ use denote.Triple.Table.{entered, cited}
 use denote.Triple.Walked.{says, Stays, stay_none, walk_of, Goes-none, Walks, ends_at, walked, walk_Meets}
 use denote.Exit.{yes}
 use denote.Triple.Clauses.{ensured, lasts}
-use Rattle.log.specs.Editions.{limits_in_lem}
-use Rattle.log.specs.declared.reader.Limits.{Limits}
-use Rattle.log.specs.contracts.reader.Limits as N
-use Rattle.log.proofs.reader.Limits.TheLaws as N'
+use Rattle.flight_log.specs.Editions.{limits_in_lem}
+use Rattle.flight_log.specs.declared.reader.Limits.{Limits}
+use Rattle.flight_log.specs.contracts.reader.Limits as N
+use Rattle.flight_log.proofs.reader.Limits.TheLaws as N'
 use Rattle.log_reader.specs.declared.LogReader.{LogReader}
 use Rattle.log_reader.specs.contracts.LogReader as T
 use Rattle.log_reader.proofs.LogReader.TheLaws as T'
-use Rattle.log.specs.contracts.limits_in as inside
-use Rattle.log.proofs.limits_in.Symbol as inside-def
-use Rattle.log.proofs.limits_in.Symbol.{name as #log·limits-in}
-use Rattle.log.proofs.limits_in.Met as inside-thm
+use Rattle.flight_log.specs.contracts.limits_in as inside
+use Rattle.flight_log.proofs.limits_in.Symbol as inside-def
+use Rattle.flight_log.proofs.limits_in.Symbol.{name as #log·limits-in}
+use Rattle.flight_log.proofs.limits_in.Met as inside-thm
 use Rattle.log_reader.specs.contracts.limits.Key.{name as #log-reader·limits}
 use Rattle.log_reader.specs.contracts.limits as limits
 use Rattle.log_reader.proofs.limits.Statement as stated
@@ -171,4 +171,4 @@ limits-spec 𝓤 𝓛 𝓜 𝓡 =
     entered 𝓤 𝓛.H (triple_of 𝓛 limits.signature (limits.spec 𝓛 𝓜.mem 𝓡.run))
     (tables 𝓤 𝓛.H 𝓜 𝓡 code.env).C (tables 𝓤 𝓛.H 𝓜 𝓡 code.env).Λ #log-reader·limits code.function (code.unfolded 𝓤 𝓛.H 𝓜 𝓡)
     (limits-meets 𝓛 𝓜.mem 𝓡.run (tables_of 𝓤 𝓛.H 𝓜 (tables 𝓤 𝓛.H 𝓜 𝓡 code.env))
-    (cited 𝓤 𝓛.H (Inside 𝓛 𝓜.mem 𝓡.run) 𝓜 𝓡 code.env #log·limits-in inside-def.routine code.calls-log::limits-in (inside-thm.met 𝓤 𝓛 𝓜 𝓡)))
+    (cited 𝓤 𝓛.H (Inside 𝓛 𝓜.mem 𝓡.run) 𝓜 𝓡 code.env #log·limits-in inside-def.routine code.calls-flight_log::limits-in (inside-thm.met 𝓤 𝓛 𝓜 𝓡)))

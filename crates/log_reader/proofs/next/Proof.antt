@@ -43,22 +43,22 @@ use denote.Triple.Spec.{Meets, triple_of}
 use denote.Triple.Table.{entered, cited}
 use denote.Triple.Clauses.{ensured, lasts}
 use denote.Triple.Walked.{says, Stays, stay_ref, walk_of, Goes-ref, Walks, ends_at, walked, walk_Meets}
-use Rattle.log.specs.Said.{read_at, place_after_lem}
-use Rattle.log.specs.declared.reader.Step.{Step}
+use Rattle.flight_log.specs.Said.{read_at, place_after_lem}
+use Rattle.flight_log.specs.declared.reader.Step.{Step}
 use Rattle.log_reader.specs.Reader.{reader_at}
 use Rattle.log_reader.specs.declared.LogReader.{LogReader}
 use Rattle.log_reader.specs.contracts.LogReader as T
 use Rattle.log_reader.proofs.LogReader.TheLaws as T'
-use Rattle.log.specs.contracts.reader.Step as S
-use Rattle.log.proofs.reader.Step.TheLaws as S'
-use Rattle.log.specs.contracts.read_on as read
-use Rattle.log.proofs.read_on.Symbol as read-def
-use Rattle.log.proofs.read_on.Symbol.{name as #log·read-on}
-use Rattle.log.proofs.read_on.Met as read-thm
-use Rattle.log.specs.contracts.place_after as after
-use Rattle.log.proofs.place_after.Symbol as after-def
-use Rattle.log.proofs.place_after.Symbol.{name as #log·place-after}
-use Rattle.log.proofs.place_after.Met as after-thm
+use Rattle.flight_log.specs.contracts.reader.Step as S
+use Rattle.flight_log.proofs.reader.Step.TheLaws as S'
+use Rattle.flight_log.specs.contracts.read_on as read
+use Rattle.flight_log.proofs.read_on.Symbol as read-def
+use Rattle.flight_log.proofs.read_on.Symbol.{name as #log·read-on}
+use Rattle.flight_log.proofs.read_on.Met as read-thm
+use Rattle.flight_log.specs.contracts.place_after as after
+use Rattle.flight_log.proofs.place_after.Symbol as after-def
+use Rattle.flight_log.proofs.place_after.Symbol.{name as #log·place-after}
+use Rattle.flight_log.proofs.place_after.Met as after-thm
 use Rattle.log_reader.specs.contracts.next.Key.{name as #log-reader·next}
 use Rattle.log_reader.specs.contracts.next as next
 use Rattle.log_reader.proofs.next.Statement as stated
@@ -234,5 +234,5 @@ next-spec 𝓤 𝓛 𝓜 𝓡 =
     entered 𝓤 𝓛.H (triple_of 𝓛 next.signature (next.spec 𝓛 𝓜.mem 𝓡.run))
     (tables 𝓤 𝓛.H 𝓜 𝓡 code.env).C (tables 𝓤 𝓛.H 𝓜 𝓡 code.env).Λ #log-reader·next code.function (code.unfolded 𝓤 𝓛.H 𝓜 𝓡)
     (next-meets 𝓛 𝓜.mem 𝓡.run (tables_of 𝓤 𝓛.H 𝓜 (tables 𝓤 𝓛.H 𝓜 𝓡 code.env))
-    (cited 𝓤 𝓛.H (Read 𝓛 𝓜.mem 𝓡.run) 𝓜 𝓡 code.env #log·read-on read-def.routine code.calls-log::read-on (read-thm.met 𝓤 𝓛 𝓜 𝓡))
-    (cited 𝓤 𝓛.H (After 𝓛 𝓜.mem 𝓡.run) 𝓜 𝓡 code.env #log·place-after after-def.routine code.calls-log::place-after (after-thm.met 𝓤 𝓛 𝓜 𝓡)))
+    (cited 𝓤 𝓛.H (Read 𝓛 𝓜.mem 𝓡.run) 𝓜 𝓡 code.env #log·read-on read-def.routine code.calls-flight_log::read-on (read-thm.met 𝓤 𝓛 𝓜 𝓡))
+    (cited 𝓤 𝓛.H (After 𝓛 𝓜.mem 𝓡.run) 𝓜 𝓡 code.env #log·place-after after-def.routine code.calls-flight_log::place-after (after-thm.met 𝓤 𝓛 𝓜 𝓡)))

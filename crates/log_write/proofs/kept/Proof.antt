@@ -5,7 +5,7 @@ use Rattle.stream.specs.declared.Kind.TheVariants.{Entry}
 use Rattle.output.proofs.Sending.{pours-is}
 use Rattle.record_lines.specs.Streams.{many}
 use Rattle.record_lines.proofs.RecordLoop.{Going, going-none, going_more, going_end, going-over, going-shut}
-use Rattle.log.specs.Entries.{entry_of, entry_bytes}
+use Rattle.flight_log.specs.Entries.{entry_of, entry_bytes}
 use Rattle.log_write.specs.Inside.{says}
 use Rattle.log_write.proofs.Records.{short-part, finishes-out}
 use Rattle.log_write.proofs.kept.Statement.{statement}

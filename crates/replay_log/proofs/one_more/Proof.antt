@@ -2,7 +2,7 @@
 use Rattle.wire.proofs.Basics.{◌≡◌, subst, ℕ, List, needs}
 use Rattle.receiver.specs.Lent.{Lent}
 use Rattle.receiver.specs.declared.Outcome.{Outcome}
-use Rattle.log.specs.declared.reader.Limits.{Limits}
+use Rattle.flight_log.specs.declared.reader.Limits.{Limits}
 use Rattle.within_limits.specs.Within.{ReceivesWithin}
 use Rattle.replay_log.proofs.one_more.Statement.{statement}
 use Rattle.replay_log.proofs.one_more.Tie as tie

@@ -1,9 +1,9 @@
 -- Entry by entry. The loop's invariant: the entries passed have their lines. Assumes nothing.
 use Rattle.wire.proofs.Basics.{◌∙◌, sym, ◌≡◌, ap, refl, ◌-◌, length, arith, needs}
 use Rattle.receiver.specs.Lent.{lent, world_in}
-use Rattle.log.specs.declared.reader.Limits.{Limits}
-use Rattle.log.specs.Listed.{entries_in}
-use Rattle.log.proofs.EntriesPassed.{no-entry, ahead}
+use Rattle.flight_log.specs.declared.reader.Limits.{Limits}
+use Rattle.flight_log.specs.Listed.{entries_in}
+use Rattle.flight_log.proofs.EntriesPassed.{no-entry, ahead}
 use Rattle.output.proofs.Sending.{finishes-shut, finishes-is}
 use Rattle.receiver_state.proofs.Unique.{shaped-still}
 use Rattle.replay_log.specs.Lines.{log_lines_lem, lines_from}

@@ -1,7 +1,7 @@
 -- The loop's invariant: the whole stretch is what was taken so far, and then the rest of it. Assumes nothing.
 use Rattle.wire.proofs.Basics.{◌∙◌, sym, ◌≡◌, ap, refl, ℕ, ◌-◌, List, length, ℤ, arith, needs}
-use Rattle.log.proofs.EntriesPassed.{no-entry}
-use Rattle.log.specs.declared.reader.Step.TheVariants as step
+use Rattle.flight_log.proofs.EntriesPassed.{no-entry}
+use Rattle.flight_log.specs.declared.reader.Step.TheVariants as step
 use Rattle.receiver.specs.Lent.{lent}
 use Rattle.pit_marks.specs.declared.Sizes.{Sizes}
 use Rattle.pit_marks.specs.Sets.{sets_of}

@@ -1,6 +1,6 @@
 -- The datagram is received, the answer told, and what is delivered taken. Assumes nothing.
 use Rattle.wire.proofs.Basics.{ap, arith, needs}
-use Rattle.log.specs.Said.{entry_said}
+use Rattle.flight_log.specs.Said.{entry_said}
 use Rattle.receiver.specs.Lent.{lent}
 use Rattle.pit_marks.specs.Sets.{sets_of}
 use Rattle.pit_payloads.specs.Looks.{book}

@@ -23,7 +23,7 @@ loop-i-preserved c =
       refl,
       l.invariant.2,
       elim c.if-s-at.branch [
-        then-s-at w ↦ whole ∙ rw (ne_eqb _ _ w.if-s-at.true, w.same-is) (and-false l.same)
+        | then-s-at w ↦ whole ∙ rw (ne_eqb _ _ w.if-s-at.true, w.same-is) (and-false l.same)
         | else-s-at w ↦ whole ∙ rw (eq-eqb _ _ w.if-s-at.false, w.same-is) refl
       ],
     )

@@ -8,7 +8,7 @@ use Rattle.steps.specs.Slots.{no_name_lem}
 use Rattle.receiver_state.specs.View.{room_word, ready}
 use Rattle.receiver.specs.Lent.{lent}
 use Rattle.receiver.specs.declared.Outcome.{Outcome}
-use Rattle.log.specs.declared.reader.Limits.{Limits}
+use Rattle.flight_log.specs.declared.reader.Limits.{Limits}
 use Rattle.within_limits.specs.Within.{read_within_lem, ReceivesWithin}
 use Rattle.within_limits.proofs.Withins.{received-good, received-nine, by-receive, by-limits}
 use Rattle.within_limits.proofs.receive_within.Statement.{statement}
