@@ -24,4 +24,4 @@ pub returns : goal.returns
 unfolding good_name_lem
 returns c =
     let l = c.args.name.now in
-    c.well-formed-2.ensures ∙ sym (rw (le-leb 1 (length l) (omega arith), le-leb (length l) max_name (omega arith)))
+    c.well_formed-2.ensures ∙ sym (rw (le-leb 1 (length l) (omega arith), le-leb (length l) max_name (omega arith)))

@@ -1,4 +1,4 @@
-use Rattle.wire.proofs.Basics.{◌∙◌, sym, ◌≡◌, refl, ℕ, not-false, arith}
+use Rattle.wire.proofs.Basics.{◌∙◌, sym, ◌≡◌, refl, ℕ, arith}
 use Rattle.names.specs.Scan.{start}
 use Rattle.names.proofs.Scans.{scan-end, plain_step}
 use Rattle.names.proofs.is_plain.Goals as goal
@@ -12,7 +12,7 @@ returns-then-not-within c = λ e. absurd (let z : ◌≡◌ {A = ℕ} 0 1 = cc i
 pub loop-i-preserved : goal.loop-i-preserved
 loop-i-preserved c =
     let l = c.loop-i in
-    (omega arith, l.invariant.1 ∙ plain_step c.args.name.now l.i (omega arith) (sym c.within.ensures ∙ not-false _ c.if-not-within.false))
+    (omega arith, l.invariant.1 ∙ plain_step c.args.name.now l.i (omega arith) (sym c.within.ensures ∙ c.if-not-within.false))
 
 pub returns : goal.returns
 returns c =
