@@ -1,0 +1,9 @@
+-- The letter of a digit. Assumes nothing.
+use Rattle.wire.proofs.Basics.{le-ltb, lt-ltb}
+use Rattle.text.proofs.letter.Goals as goal
+
+pub returns-then-d-lt10 : goal.returns-then-d-lt10
+returns-then-d-lt10 c = rw (lt-ltb c.args.d 10 c.if-d-lt10.true)
+
+pub returns : goal.returns
+returns c = rw (le-ltb c.args.d 10 c.if-d-lt10.false)
