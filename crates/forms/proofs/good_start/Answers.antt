@@ -1,0 +1,9 @@
+-- `forms::good_start` meets its contract. Assumes nothing.
+use Rattle.wire.proofs.Basics.{eq-eqb, ne_eqb}
+use Rattle.forms.proofs.good_start.Goals as goal
+
+pub returns-then-number-eq0 : goal.returns-then-number-eq0
+returns-then-number-eq0 c = rw (eq-eqb _ _ c.if-number-eq0.true)
+
+pub returns : goal.returns
+returns c = rw (ne_eqb _ _ c.if-number-eq0.false)
