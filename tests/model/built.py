@@ -1,30 +1,25 @@
-"""How a test runs what was built. Programs are x86-64: they run with the toolchain's own loader and C library, and on another processor under its
-emulator."""
+"""How a test runs what was built. Programs are x86-64: they run with the toolchain's own loader and C library."""
 import glob
 import os
-import platform
 import subprocess
 import sys
 
 from .files import ROOT
 
 _guide = subprocess.run(["rt", "doc"], capture_output=True, text=True, check=True).stdout.strip()
-# the toolchain, and what of it is for this processor
-HOME = os.path.dirname(os.path.dirname(_guide))
-OWN = os.path.join(HOME, "on", platform.machine())
-TOOLS = os.path.join(OWN, "toolchain")
+# the toolchain, and its compiler, linker and C library
+HOME = os.path.dirname(_guide)
+TOOLS = os.path.join(HOME, "toolchain")
 LIB = os.path.join(TOOLS, "lib")
 # the words before the path of what is run
 RUN = [os.path.join(LIB, "ld-linux-x86-64.so.2"), "--library-path", LIB]
-if platform.machine() != "x86_64":
-    RUN.insert(0, os.path.join(TOOLS, "bin", "qemu-x86_64"))
 
 
 def program(name):
     """The words that run a program of crates.txt. One that is not built is a fault, and no reason to pass."""
-    path = os.path.join(ROOT, "target", "bin", name)
+    path = os.path.join(ROOT, "crates", name, "out", name)
     if not os.path.exists(path):
-        sys.exit(f"{name} is not built: rt check {name}")
+        sys.exit(f"{name} is not built: tools/prove {name}")
     return RUN + [path]
 
 

@@ -1,4 +1,4 @@
-"""Calling qm and the Rattle programs from a test: built first, and on another processor than x86-64 under the toolchain's emulator."""
+"""Calling qm and the Rattle programs from a test: built first."""
 import os
 import subprocess
 import sys

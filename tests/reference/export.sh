@@ -1,12 +1,10 @@
 # Sourced by tests that call proved code from C, from the repository's root: links the C sources named with the archives of the crates that export it.
 # With the toolchain alone.
 #   build_x86 PROGRAM "CRATE.." SOURCE..     writes the program
-#   run_x86 PROGRAM ARGS..                   runs it, on another processor under the toolchain's emulator
+#   run_x86 PROGRAM ARGS..                   runs it
 command -v rt >/dev/null 2>&1 || { echo "the test needs the Rattle toolchain: there is no command rt" >&2; exit 2; }
-tools=$(dirname "$(dirname "$(rt doc)")")/on/$(uname -m)/toolchain
+tools=$(dirname "$(rt doc)")/toolchain
 lib=$tools/lib
-emulator=$tools/bin/qemu-x86_64
-[ -x "$emulator" ] || emulator=
 export_to=target/tests/export
 
 build_x86() {
@@ -32,5 +30,5 @@ build_x86() {
 }
 
 run_x86() {
-    ${emulator:+"$emulator"} "$lib/ld-linux-x86-64.so.2" --library-path "$lib" "$@"
+    "$lib/ld-linux-x86-64.so.2" --library-path "$lib" "$@"
 }
