@@ -4,7 +4,6 @@ use Rattle.wire.proofs.Basics.{length-append, length-drop, take-append-drop, len
 use Rattle.wire.proofs.Basics.{not-false, arith}
 use Rattle.wire.specs.Choice.{pick}
 use Rattle.wire.specs.Bytes.{be, bytes, Bytes}
-use Rattle.wire.specs.Sum.{sum}
 use Rattle.wire.specs.Same.{same}
 use Rattle.wire.proofs.Choices.{or_l, or_r}
 use Rattle.wire.proofs.Parts.{same_true}
