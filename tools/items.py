@@ -13,13 +13,15 @@ MARKS = r"(?:(?:unfoldable|abbrev|pub|axiom) )*"
 SIGNATURE = re.compile(rf"(?P<marks>{MARKS})(?P<name>[^\s(){{}}.;,@\"]+)(?P<levels> \{{[^}}:]*\}})? :(?: |$)")
 TYPE = re.compile(rf"(?P<marks>{MARKS})(?P<kind>record|data) (?P<name>\S+)")
 USE = re.compile(r"^(?:unfoldable )?(?P<pub>pub )?(?:ghost )?use (?P<module>[^\s{;]+?)(?:\.\{(?P<names>[^}]*)\}|(?: as (?P<alias>[^\s;]+))?);?\s*$")
-CLAUSE = re.compile(r"^\s*(?:requires|ensures) \{(.*?)\}\s*$", re.M | re.S)
+# a clause may have a name, and a star where it speaks of memory
+CLAUSE = re.compile(r"^\s*(?:requires|ensures)\*?(?: \w+)? \{(.*?)\}\s*$", re.M | re.S)
+CLAUSES = r"\s*(?:requires|ensures)\*?(?: \w+)? \{"
 RT_ITEM = re.compile(r'^(?P<pub>pub )?(?:extern "C" )?(?P<kind>struct|enum|const|fn) (?P<name>\w+)')
 RT_USE = re.compile(r"^(?P<pub>pub )?use (?P<path>[\w:]+?)(?: as (?P<alias>\w+))?;")
 # what the prelude of antt, which is open in every file, and a contract's own words give
-PRELUDE = set("Unit tt ⊥ ¬ absurd Dec yes no IsProp IsSet now refl".split())
+PRELUDE = set("Unit tt ⊥ ¬ absurd Dec yes no IsProp IsSet refl result".split())
 # what no text need define: the fields of lent memory and of a pair
-LIBRARY_FIELDS = {"entry", "exit", "now", "0", "1", "2", "3", "4"}
+LIBRARY_FIELDS = {"entry", "exit", "now", "old", "new", "0", "1", "2", "3", "4"}
 
 
 def indent_of(line):
@@ -72,8 +74,8 @@ class Item:
 
 
 def operator_parts(name):
-    """The words of an operator's name: `_when_else_` gives when and else."""
-    return [p for p in name.split("_") if p] if "_" in name and "«" not in name else []
+    """The words of an operator's name: `◌when◌else◌` gives when and else."""
+    return [p for p in name.split("◌") if p] if "◌" in name else []
 
 
 class Names:
@@ -140,7 +142,7 @@ class File:
         """The names that a word of a text stands for here: itself, or the operators that it is part of."""
         if word in self.by_name or word in self.names.imports:
             return [word]
-        return self.operators.get(word.strip("_"), [])
+        return self.operators.get(word.strip("◌"), [])
 
     def item(self, name):
         """The project's item of a name that this file defines or passes on or brings in; None for the library's."""
@@ -323,8 +325,8 @@ class AnttFile(File):
 
 
 def parameters(signature):
-    """The parameters of a function, as its clauses write them: an underscore stands between « and »."""
-    return {f"«{x}»" if "_" in x else x for x in re.findall(r"(\w+):", signature)}
+    """The parameters of a function, and what its clauses call its answer."""
+    return {"result", *re.findall(r"(\w+):", signature)}
 
 
 class RattleFile(File):
@@ -350,6 +352,11 @@ class RattleFile(File):
             if line.startswith("//"):
                 comment.append(line)
                 continue
+            if line.startswith("#["):
+                # an attribute may go over lines, and stands between the comment and its item
+                while not self.lines[number - 1].rstrip().endswith("]"):
+                    number += 1
+                continue
             if rattle:
                 words = rattle["path"].split("::")
                 self.types[rattle["alias"] or words[-1]] = (words[0], words[-1])
@@ -359,8 +366,7 @@ class RattleFile(File):
                 number = self.begin(found, comment, number)
             else:
                 self.names.read(line)
-            if not line.startswith("#["):
-                comment = []
+            comment = []
 
     def begin(self, found, comment, number):
         item = Item(self, found["kind"], found["name"], number)
@@ -368,11 +374,12 @@ class RattleFile(File):
         item.comment = comment
         end = number - 1
         if item.kind == "fn":
-            # up to the brace of its body, which has a line of its own where there are clauses
-            while not re.match(r"^(\{|\S.*\{)$", self.lines[end]):
+            # up to the brace of its body, which has a line of its own where there are clauses; a short body may end its line
+            while not re.match(r"^(\{|\S.*\{|\S.*\{.*\})$", self.lines[end]):
                 end += 1
-            item.text = self.lines[number - 1 : end] + [x for x in [self.lines[end][:-1].rstrip()] if x]
-            while not self.lines[end].startswith("}"):
+            head, _, body = self.lines[end].partition("{")
+            item.text = self.lines[number - 1 : end] + [x for x in [head.rstrip()] if x]
+            while not body and not self.lines[end].startswith("}"):
                 end += 1
             self.items.append(item)
             self.functions[item.name] = item
@@ -409,7 +416,7 @@ class RattleFile(File):
         return scope.used
 
     def rattle_items(self, item):
-        text = re.sub(r"//.*", "", re.split(r"^\s*(?:requires|ensures) ", "\n".join(item.text), flags=re.M)[0])
+        text = re.sub(r"//.*", "", re.split(rf"^{CLAUSES}", "\n".join(item.text), flags=re.M)[0])
         out = []
         for path, name in re.findall(r"\b(?:(\w+)::)?([A-Z]\w*)\b", text):
             found = self.project.rattle(self.crate, path, name) if path else self.declared(name)

@@ -30,13 +30,13 @@ class Project:
 
     @lru_cache(maxsize=None)
     def module(self, name):
-        """The file of a module: `Rattle·CRATE[·specs].specs.FILE`, `..specs.declared.[FILE.]TYPE[.the-variants]` (the file of src/ that declares it); None for the library's."""
-        found = re.match(r"Rattle·(\w+)(?:·\w+)?\.(specs|proofs)\.(.+)$", name)
+        """The file of a module: `Rattle.CRATE.specs.FILE`, `..specs.declared.[FILE.]TYPE[.TheVariants]` (the file of src/ that declares it); None for the library's."""
+        found = re.match(r"Rattle\.(\w+)\.(specs|proofs)\.(.+)$", name)
         if not found:
             return None
         crate, folder, rest = found.groups()
         if rest.startswith("declared."):
-            words = rest.removesuffix(".the-variants").split(".")[1:]
+            words = rest.removesuffix(".TheVariants").split(".")[1:]
             sources = [f"crates/{crate}/src/{words[0]}.rt"] if len(words) > 1 else [f"crates/{crate}/src/lib.rt", f"crates/{crate}/src/main.rt"]
             return next((f for f in map(self.file, sources) if f), None)
         return self.file(f"crates/{crate}/{folder}/{rest.replace('.', '/')}.antt")

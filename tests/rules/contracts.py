@@ -5,47 +5,54 @@ import os
 import re
 
 import antt
+import items
 from faults import bare, read
+
+# what of the toolchain's library reaches the system, whose contracts are assumed
+SYSTEM = re.compile(r"\bHostRuntime\b|\bstd\s*::\s*(?:\{[^;]*\b)?(?:io|fs|env|time|process|thread|net|os|rt)\b")
 
 
 def needs():
-    """crates.txt: {crate: the crates that it stands on}."""
+    """crates.txt: {crate: the crates that it stands on}; a static library has that word behind its name."""
     out = {}
     for line in read("crates.txt").split("\n"):
         name, colon, rest = line.split("#")[0].partition(":")
         if colon:
-            out[name.strip()] = rest.split()
+            out[name.split()[0]] = rest.split()
     return out
 
 
 def crates(faults, project):
-    """Every crate is listed, every listed crate is there, and only `stream`, `output` and the programs stand on what is assumed: the toolchain's libc, io and os."""
+    """Every crate is listed, every listed crate is there, none stands on the toolchain's libc, io and os, and only `stream`, `output` and the programs on what is assumed: what its
+    library says of the system."""
     listed = needs()
     for crate in sorted(os.listdir("crates")):
         faults.rule(crate in listed, f"crates/{crate} is not listed in crates.txt")
     for crate, on in listed.items():
         faults.rule(os.path.isdir(f"crates/{crate}"), f"crates.txt lists {crate}, and there is no crates/{crate}")
         assumes = [d for d in on if d in ("libc", "io", "os")]
+        faults.rule(not assumes, f"{crate} stands on {' '.join(assumes)}: the toolchain's std reaches the system")
         program = os.path.exists(f"crates/{crate}/src/main.rt")
-        faults.rule(not assumes or program or crate in ("stream", "output"), f"{crate} is no program and stands on {' '.join(assumes)}, whose contracts are assumed")
+        reached = [path for path in project.paths(f"{crate}/src/**/*.rt") if SYSTEM.search(bare(path, read(path)))]
+        faults.rule(not reached or program or crate in ("stream", "output"), f"{' '.join(reached)}: {crate} is no program and reaches the system, whose contracts are assumed")
 
 
 def showing():
-    """The definitions that take lent slices and show them afterwards (`x .exit .now`): {name: which of its arguments}."""
+    """The definitions that take lent slices and show them afterwards (`x.exit.now`): {name: which of its arguments}."""
     out = {}
     for path in glob.glob("crates/*/specs/*.antt"):
         for name, takes, is_ in re.findall(r"^(\w+)((?: \w+)+) = (.*)$", bare(path, read(path)), re.M):
-            after = [k for k, x in enumerate(takes.split()) if re.search(rf"\b{x} \.exit\b", is_)]
+            after = [k for k, x in enumerate(takes.split()) if re.search(rf"\b{x}\.exit\b", is_)]
             if after:
                 out[name] = after
     return out
 
 
 def ensures_of(item):
-    """What a function's ensures says between its braces; empty without one."""
+    """What a function's ensures say between their braces, together; empty without one."""
     text = bare(item.file.path, "\n".join(item.text))
-    found = re.search(r"^\s*ensures.*?\{(.*)\}", text, re.M | re.S)
-    return found[1] if found else ""
+    parts = [found[1].strip() for found in items.CLAUSE.finditer(text) if found[0].lstrip().startswith("ensures")]
+    return " × ".join(f"({part})" for part in parts) if len(parts) > 1 else "".join(parts)
 
 
 def equations(nodes):
@@ -61,14 +68,16 @@ def equations(nodes):
 
 
 def spelled(nodes):
-    """The words of nodes, without what only opens, closes or quotes."""
+    """The words of nodes, without what only opens and closes."""
     out = []
     for n in nodes:
-        if isinstance(n, antt.Group):
-            out += spelled(n.nodes)
-        elif n.text not in ("⌜", "⌝"):
-            out.append(n.text)
+        out += spelled(n.nodes) if isinstance(n, antt.Group) else [n.text]
     return out
+
+
+def named(nodes):
+    """The names in nodes, of `x.f` the x."""
+    return {word.partition(".")[0] for word in spelled(nodes)}
 
 
 def unread(item):
@@ -78,7 +87,7 @@ def unread(item):
         return unread_by_clauses(item, lines)
     head = antt.tree(antt.tokens(lines[0]))
     names = [t.text for g in head if isinstance(g, antt.Group) and g.bracket == "(" for t in g.nodes[: antt.place(g.nodes, ":")]]
-    words = set(spelled(antt.tree(antt.tokens("\n".join(lines[1:])))))
+    words = named(antt.tree(antt.tokens("\n".join(lines[1:]))))
     return [k for k, x in enumerate(names) if x not in words]
 
 
@@ -87,7 +96,7 @@ def unread_by_clauses(item, lines):
     out = None
     for nodes in clauses:
         equals = antt.place(nodes, "=")
-        right = set(spelled(nodes[equals + 1 :]))
+        right = named(nodes[equals + 1 :])
         idle = {k for k, n in enumerate(nodes[1:equals]) if antt.is_name(n) and n.text not in right}
         out = idle if out is None else out & idle
     return sorted(out or [])
@@ -102,12 +111,12 @@ def says_something(faults, where, item, said, told):
     while stack:
         run = stack.pop()
         stack += [n.nodes for n in run if isinstance(n, antt.Group)]
-        for part in antt.split(run, {"×", "→", "≡", "λ", "⌜", "⌝"}):
+        for part in antt.split(run, {"×", "→", "≡", "λ"}):
             part = [n for n in part if isinstance(n, antt.Group) or n.kind != "field"]
             head = part and antt.is_name(part[0]) and item.file.items_of(part[0].text)
             for k in unread(head[0]) if head and part[0].text == head[0].name and head[0].kind in ("record", "definition") else []:
                 if k + 1 < len(part):
-                    idle = set(spelled([part[k + 1]])) & told
+                    idle = named([part[k + 1]]) & told
                     faults.rule(not idle, f"{where} gives {' '.join(idle)} to {part[0].text}, which does not read it")
 
 
@@ -116,16 +125,15 @@ def public_functions(faults, project):
     for item in project.contracts:
         where = f"{item.file.path}:{item.line}: public {item.name}"
         text = bare(item.file.path, "\n".join(item.text))
-        said, signature = ensures_of(item), re.split(r"^\s*ensures", text, flags=re.M)[0]
+        said, signature = ensures_of(item), re.split(r"^\s*(?:requires|ensures)", text, flags=re.M)[0]
         faults.rule(not re.search(r"^\s*requires", text, re.M), f"{where} has a requires")
-        result = re.match(r"[^λ]*λ\s*(\w+)\s*\.(.*)", said, re.S)
         if "->" in signature:
-            faults.rule(result and re.search(rf"\b{result[1]}\b", result[2]), f"{where} says nothing of what it gives")
+            faults.rule(re.search(r"\bresult\b", said), f"{where} says nothing of what it gives")
         shown = {x.split()[k] for name, after in shows.items() for x in re.findall(rf"\b{name}((?: \w+)+)", said) for k in after if k < len(x.split())}
         lent = re.findall(r"(\w+): &(?:'\w+ )?mut ", signature)
         for one in lent:
-            faults.rule(one in shown or re.search(rf"\b{one} \.exit\b", said), f"{where} says nothing of {one} afterwards")
-        says_something(faults, where, item, said, {result[1], *lent} if result else set(lent))
+            faults.rule(one in shown or re.search(rf"\b{one}\.(?:new|exit)\b", said), f"{where} says nothing of {one} afterwards")
+        says_something(faults, where, item, said, {"result", *lent})
 
 
 def check(faults, project):

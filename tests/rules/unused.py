@@ -26,9 +26,9 @@ def words(text):
 
 
 def stands(name, used):
-    """Whether a name is among the words that are used: itself, or all parts of an operator, also with the places of its arguments (`_+ 1`)."""
+    """Whether a name is among the words that are used: itself, or all parts of an operator, also with the places of its arguments (`◌+ 1`)."""
     parts = items.operator_parts(name)
-    return name in used or (bool(parts) and all(any(p == w or p == w.strip("_") for w in used) for p in parts))
+    return name in used or (bool(parts) and all(any(p == w or p == w.strip("◌") for w in used) for p in parts))
 
 
 def edits(project, path):
