@@ -35,9 +35,9 @@ fn call_code(call: Call) -> u32
 // A fresh receiver over a store of that many bytes: 0, or the number of the refusal.
 #[unsafe(no_mangle)]
 pub extern "C" fn qm_open(state: &mut [u64], names: &mut [u8], store_length: usize) -> u32
-    ensures { OpenTold state.old names.old store_length_lem result state.new names.new }
+    ensures { OpenTold state.old names.old store_length result state.new names.new }
 {
-    call_code(open_and_payload::open(state, names, store_length_lem))
+    call_code(open_and_payload::open(state, names, store_length))
 }
 
 // The sender's slots are freed and its remembered keys dropped: 0, or the number of the refusal.
