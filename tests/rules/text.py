@@ -7,7 +7,7 @@ import items
 import pages
 from faults import bare, read
 
-MOST = 8  # arguments, and .before in a row
+MOST = 8  # arguments, and fields in a row
 # ---- the tables of exceptions: each is to be mended, and then goes from here
 # clauses and definitions with more arguments: crate and name
 OVER = set()
@@ -15,9 +15,9 @@ OVER = set()
 NOT_INSIDE = set()
 # the most characters of a line
 LONGEST = {"src": 200, "specs": 200, "proofs": 300}
-OPERATORS = set("→ × ≡ λ ≤ < + * : ⌝ ⌜ ∷ ++ = ⊎ - / % ^ && || when else if then in let".split())
+OPERATORS = set("→ × ≡ ≢ λ ≤ < + * : ∷ ++ = == ⊎ - / % ^ && || +ℤ -ℤ *ℤ ≤ℤ <ℤ ⇒ when else if then in let".split())
 # a word that hands on the number of a refusal
-REFUSES = r"(?:\w+\.)?(?:\w*[rR]efus\w*|bad|broken|noReport|Unread|Unwritten)"
+REFUSES = r"(?:\w+\.)?(?:\w*[rR]efus\w*|bad|broken|no_report|Unread|Unwritten)"
 # the pages that name theorems
 PAGES = ("CONTRACTS", "TRUST", "COUNT", "ORDER-OF-ARRIVAL")
 
@@ -149,11 +149,11 @@ SPELLED = {word: " ∷ ".join(f"0x{ord(c):x}" for c in word) for word in ("LMCP"
 
 
 def written(faults, project):
-    """No line of specs/ begins with `(pick`: chains are `_when_else_`. No list of four or more codes of characters in specs/ and src/; in worked cases, which have datagrams, none of the paper's words."""
+    """No line of specs/ begins with `(pick`: chains are `◌when◌else◌`. No list of four or more codes of characters in specs/ and src/; in worked cases, which have datagrams, none of the paper's words."""
     for path in project.paths("*/specs/*.antt") + project.paths("*/src/*.rt"):
         text = bare(path, read(path))
         if path.endswith(".antt"):
-            faults.rule(not re.search(r"^\s*\(pick\b", text, re.M), f"{path}: a line begins with (pick: write the chain by _when_else_")
+            faults.rule(not re.search(r"^\s*\(pick\b", text, re.M), f"{path}: a line begins with (pick: write the chain by ◌when◌else◌")
         if "Worked" not in path and not any(raw in path for raw in RAW):
             faults.rule(not re.search(CODES[path.rpartition(".")[2]], text), f"{path} has a list of codes of characters: write the word by ascii, or *b\"..\"")
         for word, codes in SPELLED.items() if not any(raw in path for raw in RAW) else ():
@@ -178,10 +178,11 @@ def bare_refusals(faults, project):
 
 
 def long_chains(faults, project):
-    """Places are named, and not counted: no chain of more than eight `.before`, also one that goes over lines."""
+    """Places are named, and not counted: no chain of more than eight fields, as `c.loop-1.if-a-b.true` has three, also one that goes over lines."""
     for path in project.paths("*/proofs/**/*.antt"):
-        longest = max((len(x.split()) for x in re.findall(r"(?:\.before(?![\w-])\s*)+", bare(path, read(path)).replace(".before", " .before"))), default=0)
-        faults.rule(longest <= MOST, f"{path}: a chain of {longest} .before, more than {MOST}: name a place on the way by let")
+        text = re.sub(r"(?m)^(?:(?:pub|unfoldable) )*use .*", "", bare(path, read(path)))
+        longest = max((x.count(".") for x in re.findall(r"(?:\s*\.[^\W\d_][\w'-]*)+", text)), default=0)
+        faults.rule(longest <= MOST, f"{path}: a chain of {longest} fields, more than {MOST}: name a place on the way by let")
 
 
 def short_lines(faults, project):
