@@ -1,0 +1,40 @@
+-- `cutter::cut_datagram` meets its contract. Assumes nothing.
+use Rattle.wire.proofs.Basics.{◌∙◌, sym, ap, refl, le-ltb, lt-ltb, arith}
+use Rattle.cutter.specs.Cut.{says, cut_answer}
+use Rattle.cutter.proofs.Sizes.{sized, planned, answer-plan}
+use Rattle.cutter.proofs.cut_datagram.Goals as goal
+
+pub returns-then-m-lt-LEAST_SIZE : goal.returns-then-m-lt-LEAST_SIZE
+unfolding cut_answer
+returns-then-m-lt-LEAST_SIZE c = record { answer = rw (lt-ltb _ _ c.if-m-lt-LEAST_SIZE.true); output = refl }
+
+pub returns-then-m-gt-MOST_SIZE : goal.returns-then-m-gt-MOST_SIZE
+unfolding cut_answer
+returns-then-m-gt-MOST_SIZE c = record { answer = rw (le-ltb _ _ c.if-m-lt-LEAST_SIZE.false, lt-ltb _ _ c.if-m-gt-MOST_SIZE.true); output = refl }
+
+pub returns-then-not-good_name : goal.returns-then-not-good_name
+unfolding cut_answer
+returns-then-not-good_name c =
+    record {
+      answer = rw (le-ltb _ _ c.if-m-lt-LEAST_SIZE.false, le-ltb _ _ c.if-m-gt-MOST_SIZE.false, sym c.good_name.ensures ∙ c.if-not-good_name.true);
+      output = refl;
+    }
+
+pub plan-r-requires : goal.plan-r-requires
+plan-r-requires c = sized _ _ (sym c.good_name.ensures ∙ c.if-not-good_name.false) c.if-m-lt-LEAST_SIZE.false c.if-m-gt-MOST_SIZE.false
+
+pub returns-in_default : goal.returns-in_default
+returns-in_default c =
+    record { answer = c.plan-r.ensures ∙ sym (answer-plan _ _ _ _ _ c.if-m-lt-LEAST_SIZE.false c.if-m-gt-MOST_SIZE.false (sym c.good_name.ensures ∙ c.if-not-good_name.false)); output = rw c.in_default.is }
+
+pub put_datagram-requires : goal.put_datagram-requires
+put_datagram-requires c =
+    let made = planned _ _ _ _ _ _ _ (sym c.plan-r.ensures ∙ ap says c.in-Made.is) in
+    ((sized _ _ (sym c.good_name.ensures ∙ c.if-not-good_name.false) c.if-m-lt-LEAST_SIZE.false c.if-m-gt-MOST_SIZE.false, made.limited), (omega (arith, made.few, made.asked), made.count))
+
+pub returns : goal.returns
+returns c =
+    record {
+      answer = ap says (sym c.in-Made.is) ∙ c.plan-r.ensures ∙ sym (answer-plan _ _ _ _ _ c.if-m-lt-LEAST_SIZE.false c.if-m-gt-MOST_SIZE.false (sym c.good_name.ensures ∙ c.if-not-good_name.false));
+      output = c.put_datagram.ensures;
+    }
