@@ -1,7 +1,7 @@
 """The text of antt, as far as its names go: tokens, brackets, and which names a text uses that are not bound in it.
 
-A name is any run of characters other than spaces and ( ) { } . ; , @ " « ». A dot is a projection (`x .f`), a path (`module.name`, or
-tight after a name a projection), or the end of a λ's binders (`λ x. e`). There is no type ascription, so `(x : A)` always binds x."""
+A name is any run of characters other than spaces and ( ) { } . ; , @ " « ». A dot is a projection (`(g x).f`), a path (`module.name`, or `x.f`, a
+projection too), or the end of a λ's binders (`λ x. e`). There is no type ascription, so `(x : A)` always binds x."""
 import re
 from dataclasses import dataclass, field
 
@@ -75,6 +75,9 @@ def tokens(text):
         if kind == "field":
             out.append(Token("field", raw[k][1]))
             k += 1
+            while k < len(raw) and raw[k][0] == "path":
+                out.append(Token("field", raw[k + 1][1]))
+                k += 2
         elif kind in ("name", "quoted"):
             words = [word]
             while k < len(raw) and raw[k][0] == "path":

@@ -165,6 +165,12 @@ class File:
             return [item] if item else []
         return self.items_of(parts[0])
 
+    def of_library(self, parts):
+        """Whether a path begins with a module or a name that the toolchain's library gives."""
+        if parts[0] in self.names.aliases:
+            return self.project.module(self.names.aliases[parts[0]]) is None
+        return parts[0] in self.names.imports and self.item(parts[0]) is None
+
     def known(self, word):
         """Whether a word is a name here at all: the file's, imported, the prelude's."""
         return bool(self.spelled(word)) or word in PRELUDE

@@ -17,7 +17,7 @@ class Project:
     def read_crates(self):
         """The crates in the order of crates.txt, each after those that it stands on."""
         with open(os.path.join(self.root, "crates.txt"), encoding="utf8") as f:
-            return [m[1] for m in re.finditer(r"^(\w+) *:", f.read(), re.M)]
+            return [m[1] for m in re.finditer(r"^(\w+)(?: +staticlib)? *:", f.read(), re.M)]
 
     def paths(self, pattern):
         return sorted(os.path.relpath(p, self.root) for p in glob.glob(os.path.join(self.root, "crates", pattern), recursive=True))

@@ -15,7 +15,7 @@ from model.tally import close, held
 promise = importlib.machinery.SourceFileLoader("promise", os.path.join(ROOT, "tools/promise")).load_module()
 project = specs.Project(ROOT)
 # the most lines, without empty ones, that a book may have
-MOST = {"demand3": 650, "count-promise": 950}
+MOST = {"demand3": 650, "count_promise": 950}
 
 
 def items_in(lines):
@@ -66,7 +66,7 @@ def check_words(name, file, item, toks, printed):
     for t in toks:
         if t.kind == "path" and t.parts[0] not in bound:
             there = file.items_at(t.parts)
-            held(there and all(i.key in printed for i in there), f"{name}: {item} uses {t.text}, which is not printed before it")
+            held(file.of_library(t.parts) or (there and all(i.key in printed for i in there)), f"{name}: {item} uses {t.text}, which is not printed before it")
         if t.kind != "name" or t.text in antt.KEYWORDS or antt.is_number(t.text) or t.text in bound:
             continue
         held(file.known(t.text), f"{name}: {item} uses {t.text}, and nothing says what that is")
@@ -74,19 +74,29 @@ def check_words(name, file, item, toks, printed):
             held(i.key in printed or i is item, f"{name}: {item} uses {t.text}, which is not printed before it")
 
 
-def check_fields(name, item, toks, fields):
+def check_fields(name, file, item, toks, fields):
+    """Of a path what follows its first name, unless that is a module or a type."""
     for t in toks:
-        if t.kind == "field" and not antt.is_number(t.text):
-            held(t.text in fields, f"{name}: {item} takes {t.text}, and no record printed before it has such a field")
+        of = [t.text] if t.kind == "field" else t.parts[1:] if t.kind == "path" and t.parts[0] not in file.names.aliases and not t.parts[0][:1].isupper() else []
+        for word in of:
+            held(antt.is_number(word) or word in fields, f"{name}: {item} takes {word}, and no record printed before it has such a field")
+
+
+def labels_in(clauses):
+    """The labels of records in clauses."""
+    return {word for c in clauses for word in re.findall(r"[{;]\s*(\w+) =", c)}
 
 
 def check_rattle(name, file, item, text, printed):
     """The types and consts of a declaration or a signature."""
     for i in file.rattle_items(item):
         held(i.key in printed, f"{name}: {item} uses {i.name}, which is not printed before it")
-    clauses = re.findall(r"⌜(.*?)⌝", text, re.S)
-    bound = items.parameters(text) | set(re.findall(r"λ (\w+)\.", text)) | set(re.findall(r"\((\w+) : ", text))
+    clauses = items.CLAUSE.findall(text)
+    bound = items.parameters(text) | set(re.findall(r"λ (\w+)\.", text)) | set(re.findall(r"\((\w+) : ", text)) | labels_in(clauses)
     for t in (t for c in clauses for t in antt.tokens(c)):
+        if t.kind == "path" and t.parts[0] not in bound:
+            there = file.items_at(t.parts)
+            held(file.of_library(t.parts) or (there and all(i.key in printed for i in there)), f"{name}: {item} uses {t.text}, which is not printed before it")
         if t.kind == "name" and t.text not in bound | antt.KEYWORDS and not antt.is_number(t.text):
             held(file.known(t.text), f"{name}: {item} uses {t.text}, and nothing says what that is")
             for i in file.items_of(t.text):
@@ -104,7 +114,7 @@ def check_book(name, lines):
         else:
             toks = antt.tokens(text)
             check_words(name, file, item, toks, printed)
-            check_fields(name, item, toks, fields)
+            check_fields(name, file, item, toks, fields)
         printed[item.key] = item
     held(printed and list(printed.values())[-1].name == name.rpartition("::")[2], f"{name}: it is not the last that is printed")
 
@@ -114,7 +124,7 @@ def said(*args):
 
 
 names = [x.split()[0] for x in said("--list").stdout.split("\n") if x]
-held({"demand3", "strangers", "count-promise", "shown-promise", "receive", "count_log"} <= set(names), "tools/promise --list lacks a promise")
+held({"demand3", "strangers", "count_promise", "shown_promise", "receive", "count_log"} <= set(names), "tools/promise --list lacks a promise")
 for name in names:
     item, fault = promise.asked(project, name)
     held(item, f"{name} is listed: {fault}")
