@@ -34,7 +34,7 @@ module _ (v d i : ℕ) (h : i < length (rows_of (pitsurv v))) (s : List ℕ) (at
   step_run b e r bs some es g =
       let R = row_of v i h in
       let S = run-says (packed_of v) rows i R (λ z. some (byte 4 bs ∙ z)) in
-      ran_checks (pitsurv v) (read_object v d) s at b e r (step_rows v i) short within S.is-run (byte 4 bs ∙ S.bytes-are) (byte 6 es ∙ S.Bool-is) g
+      ran_checks (pitsurv v) (read_object v d) s at b e r (step_rows v i) short within S.is-run (byte 4 bs ∙ S.bytes-are) (byte 6 es ∙ S.bool_is) g
 
   module _ (b w : ℕ) (bs : b ≡ cell tab i 4) (none : b ≡ 0) (ws : w ≡ cell tab i 0) where
     empty : cell (packed_of v) i 4 ≡ 0
