@@ -101,13 +101,9 @@ def all_cases(folder):
 
 # what an edit of a definition may name without an import of its own
 KNOWN = {
-    "Prim.Native.Nat": "_+_ _-_ _*_ _/_ _%_ _^_ zero suc",
-    "lib.Dec": "eqb ltb leb",
-    "lib.ListN": "length take drop getD",
-    "mathlib.Core.Bool": "Bool true false not _&&_ _||_",
-    "mathlib.Core.List": "List [] _∷_ _++_",
-    "Rattle·wire.specs.Choice": "pick _when_else_",
-    "native.Mathlib.Omega": "arith",
+    "Rattle.std.specs.Prelude": "◌+◌ ◌-◌ ◌*◌ ◌/◌ ◌%◌ ◌^◌ ◌≤◌ ◌<◌ zero suc pos eqb ltb leb length take drop get_or replicate Bool true false not ◌&&◌ ◌||◌ List [] ◌∷◌ ◌++◌",
+    "Rattle.wire.specs.Choice": "pick ◌when◌else◌",
+    "Rattle.wire.proofs.Basics": "arith",
 }
 
 
@@ -116,7 +112,7 @@ def imported(text, new):
     heads = " ".join(re.findall(r"(?m)^use [^\n]*", text))
     words = set(re.findall(r"[^\s(){};,]+", new))
     for module, names in KNOWN.items():
-        more = [n for n in names.split() if words & ({w for w in n.split("_") if w} if n != "_" else set()) and not re.search(r"[{ ]" + re.escape(n) + r"[,}]", heads)]
+        more = [n for n in names.split() if words & {w for w in n.split("◌") if w} and not re.search(r"[{ ]" + re.escape(n) + r"[,}]", heads)]
         if more:
             at = re.search(r"(?m)^use ", text).start()
             text = text[:at] + f"use {module}.{{{', '.join(more)}}}\n" + text[at:]
