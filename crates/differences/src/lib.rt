@@ -9,7 +9,7 @@ ghost use Rattle.differences.specs.Difference.{difference, told};
 pub const MOST_LATE: u32 = 1024;
 
 // What the watch says of a number: how many are missing before it, by how many it is late, or that the sender restarted there.
-#[derive(Drop)]
+#[derive(Clone, Copy)]
 pub enum Answer {
     First,
     Forward(u32),

@@ -13,7 +13,7 @@ use differences::Answer;
 pub const SENDERS: usize = 16;
 
 // The first `count` places are in use: a sender, and the last number that moved its watch.
-#[derive(Drop)]
+#[derive(Clone, Copy)]
 pub struct Watch {
     pub senders: [u64; SENDERS],
     pub lasts: [u32; SENDERS],
@@ -21,7 +21,7 @@ pub struct Watch {
 }
 
 // The answer and the watch afterwards.
-#[derive(Drop)]
+#[derive(Clone, Copy)]
 pub struct Seen {
     pub answer: Answer,
     pub watch: Watch,
