@@ -17,7 +17,7 @@ USE = re.compile(r"^(?:unfoldable )?(?P<pub>pub )?(?:ghost )?use (?P<module>[^\s
 CLAUSE = re.compile(r"^\s*(?:requires|ensures)\*?(?: \w+)? \{(.*?)\}\s*$", re.M | re.S)
 CLAUSES = r"\s*(?:requires|ensures)\*?(?: \w+)? \{"
 RT_ITEM = re.compile(r'^(?P<pub>pub )?(?:extern "C" )?(?P<kind>struct|enum|const|fn) (?P<name>\w+)')
-RT_USE = re.compile(r"^(?P<pub>pub )?use (?P<path>[\w:]+?)(?: as (?P<alias>\w+))?;")
+RT_USE = re.compile(r"^(?P<pub>pub )?use (?P<path>[\w:]+?)(?:::\{(?P<names>[^{}]*)\}|(?: as (?P<alias>\w+))?);")
 # what the prelude of antt, which is open in every file, and a contract's own words give
 PRELUDE = set("Unit tt ⊥ ¬ absurd Dec yes no IsProp IsSet refl result".split())
 # what no text need define: the fields of lent memory and of a pair
@@ -353,7 +353,11 @@ class RattleFile(File):
         while number < len(self.lines):
             line = self.lines[number]
             number += 1
-            rattle = RT_USE.match(line)
+            begun = line
+            while re.match(r"(?:pub )?use ", begun) and ";" not in begun:
+                begun += " " + self.lines[number].strip()
+                number += 1
+            rattle = RT_USE.match(begun)
             found = RT_ITEM.match(line)
             if line.startswith("//"):
                 comment.append(line)
@@ -365,9 +369,11 @@ class RattleFile(File):
                 continue
             if rattle:
                 words = rattle["path"].split("::")
-                self.types[rattle["alias"] or words[-1]] = (words[0], words[-1])
-                if rattle["pub"]:
-                    self.passed_on.add(words[-1])
+                names = [words[-1] + (f" as {rattle['alias']}" if rattle["alias"] else "")] if rattle["names"] is None else [x.strip() for x in rattle["names"].split(",") if x.strip()]
+                for name, _, alias in (x.partition(" as ") for x in names):
+                    self.types[alias or name] = (words[0], name)
+                    if rattle["pub"]:
+                        self.passed_on.add(alias or name)
             elif found:
                 number = self.begin(found, comment, number)
             else:
