@@ -9,6 +9,7 @@ ghost use Rattle.text.specs.Text.{decimal, signed_decimal, hex};
 ghost use Rattle.output.specs.Output.{Pours, WrittenOut, Finishes, last_line};
 ghost use Rattle.output.specs.InsideRoom.{Clears};
 
+use std::io::{Stdout, Write};
 use stream::Next;
 
 // Room that any number needs, and the last line. A program's buffer has as much or more.
@@ -24,7 +25,7 @@ pub const CLOSED: usize = 18446744073709551615;
 const PIECE: usize = LINE / 2;
 
 // Writes the bytes before a place to standard output. Answers whether the system took them all.
-pub fn write_out(out: &[u8], at: usize) -> bool
+pub fn write_out(stdout: Stdout, out: &[u8], at: usize) -> bool
     ensures { WrittenOut at result }
 {
     if at == CLOSED {
@@ -33,30 +34,31 @@ pub fn write_out(out: &[u8], at: usize) -> bool
     if at == 0 {
         return true;
     }
-    io::write_all(libc::STDOUT_FILENO, wire::part(out, 0, at))
+    let mut writer = stdout;
+    writer.write_all(wire::part(out, 0, at)).is_ok()
 }
 
 // Makes room: a buffer that is full up to the place is written out. Answers the place to go on from.
-fn clear(out: &[u8], at: usize) -> usize
+fn clear(stdout: Stdout, out: &[u8], at: usize) -> usize
     ensures { Clears (length out.now) at result }
 {
     if at != out.len() {
         return at;
     }
-    if write_out(out, at) {
+    if write_out(stdout, out, at) {
         return 0;
     }
     CLOSED
 }
 
 // Bytes of any number, as they are. Answers the place after them.
-pub fn pour(out: &mut [u8], at: usize, bytes: &[u8]) -> usize
+pub fn pour(stdout: Stdout, out: &mut [u8], at: usize, bytes: &[u8]) -> usize
     ensures { Pours out.old at bytes.now out.new result }
 {
     let mut next = at;
     let mut i: usize = 0;
     while i < bytes.len() {
-        let from = clear(out, next);
+        let from = clear(stdout, out, next);
         let k = wire::least(bytes.len() - i, wire::room(out.len(), from));
         if k == 0 {
             return from;
@@ -69,108 +71,108 @@ pub fn pour(out: &mut [u8], at: usize, bytes: &[u8]) -> usize
 }
 
 // A number in decimal, by way of a line of its own: where the buffer's end is near.
-fn decimal_apart(out: &mut [u8], at: usize, n: u64) -> usize
+fn decimal_apart(stdout: Stdout, out: &mut [u8], at: usize, n: u64) -> usize
     ensures { Pours out.old at (decimal n) out.new result }
 {
     let mut line = [0u8; LINE];
     let k = text::put_decimal(&mut line, 0, n);
-    pour(out, at, wire::part(&line, 0, k))
+    pour(stdout, out, at, wire::part(&line, 0, k))
 }
 
 // A number in decimal.
-pub fn pour_decimal(out: &mut [u8], at: usize, n: u64) -> usize
+pub fn pour_decimal(stdout: Stdout, out: &mut [u8], at: usize, n: u64) -> usize
     ensures { Pours out.old at (decimal n) out.new result }
 {
     if LINE <= wire::room(out.len(), at) {
         return text::put_decimal(out, at, n);
     }
-    decimal_apart(out, at, n)
+    decimal_apart(stdout, out, at, n)
 }
 
 // A signed number in decimal, by way of a line of its own.
-fn signed_apart(out: &mut [u8], at: usize, z: i64) -> usize
+fn signed_apart(stdout: Stdout, out: &mut [u8], at: usize, z: i64) -> usize
     ensures { Pours out.old at (signed_decimal z) out.new result }
 {
     let mut line = [0u8; LINE];
     let k = text::put_signed(&mut line, 0, z);
-    pour(out, at, wire::part(&line, 0, k))
+    pour(stdout, out, at, wire::part(&line, 0, k))
 }
 
 // A signed number in decimal.
-pub fn pour_signed(out: &mut [u8], at: usize, z: i64) -> usize
+pub fn pour_signed(stdout: Stdout, out: &mut [u8], at: usize, z: i64) -> usize
     ensures { Pours out.old at (signed_decimal z) out.new result }
 {
     if LINE <= wire::room(out.len(), at) {
         return text::put_signed(out, at, z);
     }
-    signed_apart(out, at, z)
+    signed_apart(stdout, out, at, z)
 }
 
 // A word and a number.
-pub fn pour_counted(out: &mut [u8], at: usize, word: &[u8], n: u64) -> usize
+pub fn pour_counted(stdout: Stdout, out: &mut [u8], at: usize, word: &[u8], n: u64) -> usize
     ensures { Pours out.old at (word.now ++ decimal n) out.new result }
 {
-    let next = pour(out, at, word);
-    pour_decimal(out, next, n)
+    let next = pour(stdout, out, at, word);
+    pour_decimal(stdout, out, next, n)
 }
 
 // A word, a number and the end of the line.
-pub fn pour_counted_line(out: &mut [u8], at: usize, word: &[u8], n: u64) -> usize
+pub fn pour_counted_line(stdout: Stdout, out: &mut [u8], at: usize, word: &[u8], n: u64) -> usize
     ensures { Pours out.old at (word.now ++ decimal n ++ ascii "\n") out.new result }
 {
-    let next = pour_counted(out, at, word, n);
-    pour(out, next, b"\n")
+    let next = pour_counted(stdout, out, at, word, n);
+    pour(stdout, out, next, b"\n")
 }
 
 // At most a piece of bytes in hexadecimal, by way of a line of its own.
-fn piece_apart(out: &mut [u8], at: usize, bytes: &[u8]) -> usize
+fn piece_apart(stdout: Stdout, out: &mut [u8], at: usize, bytes: &[u8]) -> usize
     requires { length bytes.now ≤ 64 }
     ensures { Pours out.old at (hex bytes.now) out.new result }
 {
     let mut line = [0u8; LINE];
     let k = text::put_hex(&mut line, 0, bytes);
-    pour(out, at, wire::part(&line, 0, k))
+    pour(stdout, out, at, wire::part(&line, 0, k))
 }
 
 // At most a piece of bytes, in hexadecimal.
-fn pour_piece(out: &mut [u8], at: usize, bytes: &[u8]) -> usize
+fn pour_piece(stdout: Stdout, out: &mut [u8], at: usize, bytes: &[u8]) -> usize
     requires { length bytes.now ≤ 64 }
     ensures { Pours out.old at (hex bytes.now) out.new result }
 {
     if LINE <= wire::room(out.len(), at) {
         return text::put_hex(out, at, bytes);
     }
-    piece_apart(out, at, bytes)
+    piece_apart(stdout, out, at, bytes)
 }
 
 // Bytes of any number, in hexadecimal.
-pub fn pour_hex(out: &mut [u8], at: usize, bytes: &[u8]) -> usize
+pub fn pour_hex(stdout: Stdout, out: &mut [u8], at: usize, bytes: &[u8]) -> usize
     ensures { Pours out.old at (hex bytes.now) out.new result }
 {
     let mut next = at;
     let mut i: usize = 0;
     while i < bytes.len() {
         let k = wire::least(PIECE, bytes.len() - i);
-        next = pour_piece(out, next, wire::part(bytes, i, k));
+        next = pour_piece(stdout, out, next, wire::part(bytes, i, k));
         i += k;
     }
     next
 }
 
-fn pour_last(out: &mut [u8], at: usize, n: u64, next: Next) -> usize
+fn pour_last(stdout: Stdout, out: &mut [u8], at: usize, n: u64, next: Next) -> usize
     ensures { Pours out.old at (last_line next n) out.new result }
 {
     match next {
-        Next::End => pour_counted_line(out, at, b"end ", n),
-        Next::Cut => pour_counted_line(out, at, b"cut ", n),
-        Next::Record(_, _, _) => pour_counted_line(out, at, b"cut ", n),
+        Next::End => pour_counted_line(stdout, out, at, b"end ", n),
+        Next::Cut => pour_counted_line(stdout, out, at, b"cut ", n),
+        Next::Record(_, _, _) => pour_counted_line(stdout, out, at, b"cut ", n),
     }
 }
 
 // The last line, and all that is not written out yet. Answers whether the system took all that was written out.
-pub fn finish(out: &mut [u8], at: usize, n: u64, next: Next) -> bool
+pub fn finish(stdout: Stdout, out: &mut [u8], at: usize, n: u64, next: Next) -> bool
     ensures { Finishes out.old at (last_line next n) out.new result }
 {
-    let end = pour_last(out, at, n, next);
-    write_out(out, end)
+    let end = pour_last(stdout, out, at, n, next);
+    write_out(stdout, out, end)
 }

@@ -9,6 +9,8 @@ ghost use Rattle.stream.specs.Records.{head_of, body_length_lem, Gives};
 ghost use Rattle.stream.specs.Whole.{HoldsAll};
 ghost use Rattle.stream.specs.InsideWindows.{Ready, Within, Fronted, Grown, Dropped, Headed, after_skip_lem};
 
+use std::io::{Read, Stdin};
+
 // More records than any input has: a proved loop has to end, so a program counts its records up to this.
 pub const MANY: u64 = 18446744073709551615;
 
@@ -17,7 +19,7 @@ pub const HOLDS: usize = 131072;
 
 // How records stand in the input: after a 2-byte length, after a 4-byte length, as one byte and a 4-byte count of 8-byte numbers, or as an
 // entry of a flight: an 8-byte sender, an 8-byte tick and a 2-byte length.
-#[derive(Drop)]
+#[derive(Clone, Copy)]
 pub enum Kind {
     Bytes2,
     Bytes4,
@@ -99,23 +101,26 @@ fn to_front(buf: &mut [u8], at: usize, end: usize) -> usize
     n
 }
 
-// One read into the buffer from a place on. Answers the place after what came: the place itself where the input has ended.
-fn read_from(buf: &mut [u8], at: usize) -> usize
+// One read into the buffer from a place on. Answers the place after what came: the place itself where the input has ended, or a read failed.
+fn read_from(stdin: Stdin, buf: &mut [u8], at: usize) -> usize
     requires { at ≤ length buf.old }
     ensures { Grown buf.old at buf.new result }
 {
-    let got = libc::read(libc::STDIN_FILENO, &mut buf[at..]);
-    at + io::count(got, &buf[at..])
+    let mut reader = stdin;
+    match reader.read(&mut buf[at..]) {
+        Ok(got) => at + got,
+        Err(_) => at,
+    }
 }
 
 // Reads on until `want` bytes are unread, or the input ends. Answers their end.
-fn fill(buf: &mut [u8], at: usize, end: usize, want: usize) -> usize
+fn fill(stdin: Stdin, buf: &mut [u8], at: usize, end: usize, want: usize) -> usize
     requires { (at ≤ end) × (end ≤ length buf.old) × (want ≤ length buf.old - at) }
     ensures { Grown buf.old end buf.new result }
 {
     let mut e = end;
     while e - at < want {
-        let more = read_from(buf, e);
+        let more = read_from(stdin, buf, e);
         if more == e {
             return e;
         }
@@ -125,23 +130,23 @@ fn fill(buf: &mut [u8], at: usize, end: usize, want: usize) -> usize
 }
 
 // Has `want` bytes unread in one piece, or as many as there are, moving them to the front where the buffer's end is too near.
-fn ready(buf: &mut [u8], input: Input, want: usize) -> Input
+fn ready(stdin: Stdin, buf: &mut [u8], input: Input, want: usize) -> Input
     requires { (input.at ≤ input.end) × (input.end ≤ length buf.old) × (want < length buf.old) }
     ensures { Ready buf.old input want buf.new result }
 {
     let at = input.at;
     let end = input.end;
     if want < buf.len() - at {
-        let e = fill(buf, at, end, want);
+        let e = fill(stdin, buf, at, end, want);
         return Input { at, end: e };
     }
     let n = to_front(buf, at, end);
-    let e = fill(buf, 0, n, want);
+    let e = fill(stdin, buf, 0, n, want);
     Input { at: 0, end: e }
 }
 
 // Drops `rest` bytes of the input after a place: those that are held, then as many as come. They pass through the buffer after the place.
-fn drop_after(buf: &mut [u8], place: usize, end: usize, rest: usize) -> Skip
+fn drop_after(stdin: Stdin, buf: &mut [u8], place: usize, end: usize, rest: usize) -> Skip
     requires { (place ≤ end) × (end ≤ length buf.old) }
     ensures { Dropped buf.old place end rest buf.new result }
 {
@@ -154,7 +159,7 @@ fn drop_after(buf: &mut [u8], place: usize, end: usize, rest: usize) -> Skip
     }
     let mut left = rest - held;
     while 0 < left {
-        let more = read_from(buf, place);
+        let more = read_from(stdin, buf, place);
         if more == place {
             return Skip::Ended;
         }
@@ -181,20 +186,24 @@ fn after_skip(at: usize, len: usize, skip: Skip) -> Next
 }
 
 // The record whose head of `head` bytes is unread, with a body of `body` bytes.
-fn take_body(buf: &mut [u8], one: Input, kind: Kind, body: usize) -> Next
+fn take_body(stdin: Stdin, buf: &mut [u8], one: Input, kind: Kind, body: usize) -> Next
     requires { Headed kind buf.old one body }
     ensures { Gives kind buf.old one buf.new result }
 {
     let head = head_of(kind);
     let len = wire::least(body, buf.len() - (head + 1));
-    let two = ready(buf, one, head + len);
+    let two = ready(stdin, buf, one, head + len);
     let at = two.at;
     let end = two.end;
     if end - at < head + len {
         return Next::Cut;
     }
     let place = at + head;
-    after_skip(place, len, drop_after(buf, place + len, end, body - len))
+    after_skip(
+        place,
+        len,
+        drop_after(stdin, buf, place + len, end, body - len),
+    )
 }
 
 // An input that lies within a buffer of n bytes.
@@ -210,7 +219,7 @@ fn within(input: Input, n: usize) -> Input
 
 // The next record of the input. A body longer than the buffer holds is given by its front; the rest of it is read and dropped. A buffer
 // with no room for a head and one byte more is answered by Cut.
-pub fn next_record(buf: &mut [u8], input: Input, kind: Kind) -> Next
+pub fn next_record(stdin: Stdin, buf: &mut [u8], input: Input, kind: Kind) -> Next
     ensures { Gives kind buf.old input buf.new result }
 {
     let head = head_of(kind);
@@ -218,7 +227,7 @@ pub fn next_record(buf: &mut [u8], input: Input, kind: Kind) -> Next
         return Next::Cut;
     }
     let inside = within(input, buf.len());
-    let one = ready(buf, inside, head);
+    let one = ready(stdin, buf, inside, head);
     let at = one.at;
     let end = one.end;
     if at == end {
@@ -228,7 +237,7 @@ pub fn next_record(buf: &mut [u8], input: Input, kind: Kind) -> Next
         return Next::Cut;
     }
     let body = body_length(&buf[at..end], kind);
-    take_body(buf, one, kind, body)
+    take_body(stdin, buf, one, kind, body)
 }
 
 // The head of a record whose body stands at a place.
@@ -240,16 +249,16 @@ pub fn head(buf: &[u8], at: usize, kind: Kind) -> &[u8]
 }
 
 // The whole input, read to its end or until it is seen to be longer than the buffer.
-pub fn read_all(buf: &mut [u8]) -> All
+pub fn read_all(stdin: Stdin, buf: &mut [u8]) -> All
     ensures { HoldsAll (length buf.old) buf.new result }
 {
     let most = buf.len();
-    let n = fill(buf, 0, 0, most);
+    let n = fill(stdin, buf, 0, 0, most);
     if n < most {
         return All::Whole(n);
     }
     let mut over = [0u8; 1];
-    let more = read_from(&mut over, 0);
+    let more = read_from(stdin, &mut over, 0);
     if more == 0 {
         return All::Whole(n);
     }
