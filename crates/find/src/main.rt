@@ -9,6 +9,7 @@ ghost use Rattle.find.specs.Numbers.{with_digit_lem, number_in, says};
 ghost use Rattle.find.specs.Said.{key_line};
 
 use index_builder::Indexed;
+use std::io::{Stdin, Stdout};
 use stream::All;
 
 // The largest sender and the largest sequence.
@@ -63,45 +64,70 @@ fn number_in(text: &[u8], most: u64) -> Number
 }
 
 // What is said of a key.
-fn answer(log: &[u8], index: &mut [u64], out: &mut [u8], sender: u64, sequence: u64) -> usize
+fn answer(
+    stdout: Stdout,
+    log: &[u8],
+    index: &mut [u64],
+    out: &mut [u8],
+    sender: u64,
+    sequence: u64,
+) -> usize
     ensures { Pours out.old 0 (key_line (length index.old) sender sequence log.now) out.new result }
 {
     let indexed = index_builder::index_log(log, &mut *index);
     match indexed {
         Indexed::Entries(n) => index_lines::pour_found(
+            stdout,
             out,
             0,
             log_index::find(index, n, sender, sequence),
         ),
-        Indexed::Refused(number) => index_lines::pour_refused(out, 0, number),
+        Indexed::Refused(number) => index_lines::pour_refused(stdout, out, 0, number),
     }
 }
 
 // It is written out. Answers whether the system took it.
-fn answered(log: &[u8], index: &mut [u64], out: &mut [u8], sender: u64, sequence: u64) -> bool
+fn answered(
+    stdout: Stdout,
+    log: &[u8],
+    index: &mut [u64],
+    out: &mut [u8],
+    sender: u64,
+    sequence: u64,
+) -> bool
     ensures { Finishes out.old 0 (key_line (length index.old) sender sequence log.now) out.new result }
 {
-    let end = answer(log, index, out, sender, sequence);
-    output::write_out(out, end)
+    let end = answer(stdout, log, index, out, sender, sequence);
+    output::write_out(stdout, out, end)
 }
 
 // Looks the key up in the whole input, or says that it is longer than the buffer.
-fn run(buf: &mut [u8], index: &mut [u64], out: &mut [u8], sender: u64, sequence: u64) -> bool
+fn run(
+    stdin: Stdin,
+    stdout: Stdout,
+    buf: &mut [u8],
+    index: &mut [u64],
+    out: &mut [u8],
+    sender: u64,
+    sequence: u64,
+) -> bool
     requires { line_limit ≤ length out.old }
     ensures { Tells (length buf.old) (key_line (length index.old) sender sequence) out.old out.new result }
 {
-    let all = stream::read_all(buf);
+    let all = stream::read_all(stdin, buf);
     match all {
-        All::Whole(n) => answered(wire::part(buf, 0, n), index, out, sender, sequence),
-        All::Longer => log_lines::finish_longer(out, buf.len() as u64),
+        All::Whole(n) => answered(stdout, wire::part(buf, 0, n), index, out, sender, sequence),
+        All::Longer => log_lines::finish_longer(stdout, out, buf.len() as u64),
     }
 }
 
-fn looked_up(sender: u64, sequence: u64) {
+fn looked_up(stdin: Stdin, stdout: Stdout, sender: u64, sequence: u64) {
     let mut buf = [0u8; log_lines::HOLDS];
     let mut index = [0u64; index_lines::WORDS];
     let mut out = [0u8; 4096];
-    run(&mut buf, &mut index, &mut out, sender, sequence);
+    run(
+        stdin, stdout, &mut buf, &mut index, &mut out, sender, sequence,
+    );
 }
 
 fn usage() {
@@ -115,7 +141,7 @@ fn argument(i: usize, most: u64) -> Number {
     number_in(wire::part(&text, 0, n), most)
 }
 
-fn main() {
+fn main(rt: HostRuntime) {
     if os::arg_count() != 3 {
         usage();
         return;
@@ -128,5 +154,5 @@ fn main() {
         usage();
         return;
     };
-    looked_up(sender, sequence);
+    looked_up(rt.stdin(), rt.stdout(), sender, sequence);
 }

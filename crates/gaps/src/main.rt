@@ -12,6 +12,7 @@ ghost use Rattle.gaps.specs.Lines.{answer_text, line, lines, Judged};
 
 use datagram::Read;
 use differences::Answer;
+use std::io::{Stdin, Stdout};
 use stream::{Input, Kind, Next};
 use watch::{Seen, Watch};
 
@@ -29,39 +30,47 @@ fn judge(w: Watch, d: &[u8]) -> Seen
     }
 }
 
-fn pour_answer(out: &mut [u8], at: usize, answer: Answer) -> usize
+fn pour_answer(stdout: Stdout, out: &mut [u8], at: usize, answer: Answer) -> usize
     ensures { Pours out.old at (answer_text (notes answer)) out.new result }
 {
     match answer {
-        Answer::First => output::pour(out, at, b" first\n"),
+        Answer::First => output::pour(stdout, out, at, b" first\n"),
         Answer::Forward(missing) => output::pour_counted_line(
+            stdout,
             out,
             at,
             b" forward ",
             missing as u64,
         ),
-        Answer::Same => output::pour(out, at, b" same\n"),
-        Answer::Late(by) => output::pour_counted_line(out, at, b" late ", by as u64),
+        Answer::Same => output::pour(stdout, out, at, b" same\n"),
+        Answer::Late(by) => output::pour_counted_line(stdout, out, at, b" late ", by as u64),
         Answer::Restarted(number) => output::pour_counted_line(
+            stdout,
             out,
             at,
             b" restarted ",
             number as u64,
         ),
-        Answer::Refused(number) => output::pour_counted_line(out, at, b" refused ", number as u64),
+        Answer::Refused(number) => output::pour_counted_line(
+            stdout,
+            out,
+            at,
+            b" refused ",
+            number as u64,
+        ),
     }
 }
 
 // Line n.
-fn pour_line(out: &mut [u8], at: usize, n: u64, answer: Answer) -> usize
+fn pour_line(stdout: Stdout, out: &mut [u8], at: usize, n: u64, answer: Answer) -> usize
     ensures { Pours out.old at (line n (notes answer)) out.new result }
 {
-    let next = output::pour_decimal(out, at, n);
-    pour_answer(out, next, answer)
+    let next = output::pour_decimal(stdout, out, at, n);
+    pour_answer(stdout, out, next, answer)
 }
 
 // One line a datagram of the input, and the last line. Answers whether the system took all of them; it stops where it did not.
-fn run(buf: &mut [u8], input: Input, out: &mut [u8]) -> bool
+fn run(stdin: Stdin, stdout: Stdout, buf: &mut [u8], input: Input, out: &mut [u8]) -> bool
     requires { line_limit ≤ length out.old }
     ensures { Tells Bytes2 lines buf.old input (buffer out) 0 result }
 {
@@ -70,9 +79,9 @@ fn run(buf: &mut [u8], input: Input, out: &mut [u8]) -> bool
     let mut at: usize = 0;
     let mut n: u64 = 0;
     while n < stream::MANY {
-        let next = stream::next_record(buf, rest, Kind::Bytes2);
+        let next = stream::next_record(stdin, buf, rest, Kind::Bytes2);
         let Next::Record(from, len, left) = next else {
-            return output::finish(out, at, n, next);
+            return output::finish(stdout, out, at, n, next);
         };
         n += 1;
         rest = left;
@@ -80,16 +89,22 @@ fn run(buf: &mut [u8], input: Input, out: &mut [u8]) -> bool
         let watch = seen.watch;
         let answer = seen.answer;
         w = watch;
-        at = pour_line(out, at, n, answer);
+        at = pour_line(stdout, out, at, n, answer);
         if at == output::CLOSED {
             return false;
         }
     }
-    output::finish(out, at, n, Next::Cut)
+    output::finish(stdout, out, at, n, Next::Cut)
 }
 
-fn main() {
+fn main(rt: HostRuntime) {
     let mut buf = [0u8; stream::HOLDS];
     let mut out = [0u8; output::HOLDS];
-    run(&mut buf, Input { at: 0, end: 0 }, &mut out);
+    run(
+        rt.stdin(),
+        rt.stdout(),
+        &mut buf,
+        Input { at: 0, end: 0 },
+        &mut out,
+    );
 }

@@ -3,6 +3,7 @@
 // and two words of a state, each as what it holds and a value.
 ghost use Rattle.std.specs.Prelude.{◌≤◌};
 
+use std::io::Stdout;
 use receiver::Call;
 use steps::Answer;
 
@@ -57,22 +58,22 @@ fn prepare(case: &[u8], place: usize, state: &mut [u64], names: &mut [u8])
     );
 }
 
-fn pour_call(out: &mut [u8], at: usize, call: Call, done: &[u8]) -> usize {
+fn pour_call(stdout: Stdout, out: &mut [u8], at: usize, call: Call, done: &[u8]) -> usize {
     match call {
-        Call::Done => output::pour(out, at, done),
-        Call::Refused(n) => output::pour_counted(out, at, b"refused ", n as u64),
+        Call::Done => output::pour(stdout, out, at, done),
+        Call::Refused(n) => output::pour_counted(stdout, out, at, b"refused ", n as u64),
     }
 }
 
 // The slot size of a store of so many bytes.
-fn opened_in(out: &mut [u8], at: usize, case: &[u8], state: &mut [u64], names: &mut [u8]) -> usize {
+fn opened_in(stdout: Stdout, out: &mut [u8], at: usize, case: &[u8], state: &mut [u64], names: &mut [u8]) -> usize {
     let w = wire::least(state_words(case), state.len());
     let b = wire::least(name_bytes(case), names.len());
     let call = open_and_payload::open(&mut state[..w], &mut names[..b], crate::number(case, 16));
     if let Call::Done = call {
-        return output::pour_counted(out, at, b"slot size ", words::word(state, spot(1)));
+        return output::pour_counted(stdout, out, at, b"slot size ", words::word(state, spot(1)));
     }
-    pour_call(out, at, call, b"")
+    pour_call(stdout, out, at, call, b"")
 }
 
 // What is answered to a small message over what is lent.
@@ -98,16 +99,16 @@ fn answered(
     outcome.answer
 }
 
-fn pour_answer(out: &mut [u8], at: usize, answer: Answer) -> usize {
+fn pour_answer(stdout: Stdout, out: &mut [u8], at: usize, answer: Answer) -> usize {
     match answer {
-        Answer::Refused(n) => output::pour_counted(out, at, b"refused ", n as u64),
-        Answer::Kept => output::pour(out, at, b"kept"),
-        Answer::Repeat => output::pour(out, at, b"repeat"),
-        Answer::Delivered(_, n) => output::pour_counted(out, at, b"delivered ", n as u64),
+        Answer::Refused(n) => output::pour_counted(stdout, out, at, b"refused ", n as u64),
+        Answer::Kept => output::pour(stdout, out, at, b"kept"),
+        Answer::Repeat => output::pour(stdout, out, at, b"repeat"),
+        Answer::Delivered(_, n) => output::pour_counted(stdout, out, at, b"delivered ", n as u64),
     }
 }
 
-fn received_in(
+fn received_in(stdout: Stdout, 
     out: &mut [u8],
     at: usize,
     case: &[u8],
@@ -118,11 +119,11 @@ fn received_in(
 ) -> usize {
     prepare(case, 32, state, names);
     let answer = answered(case, state, names, store, ledger);
-    pour_answer(out, at, answer)
+    pour_answer(stdout, out, at, answer)
 }
 
 // What is answered to forgetting sender 0.
-fn forgotten_in(
+fn forgotten_in(stdout: Stdout, 
     out: &mut [u8],
     at: usize,
     case: &[u8],
@@ -133,22 +134,22 @@ fn forgotten_in(
     let w = wire::least(state_words(case), state.len());
     let b = wire::least(name_bytes(case), names.len());
     let call = receiver::forget(&mut state[..w], &mut names[..b], 0);
-    pour_call(out, at, call, b"done")
+    pour_call(stdout, out, at, call, b"done")
 }
 
 // The same over arrays that are one longer than must be.
-pub(crate) fn opened(out: &mut [u8], at: usize, case: &[u8]) -> usize {
+pub(crate) fn opened(stdout: Stdout, stdout, out: &mut [u8], at: usize, case: &[u8]) -> usize {
     let mut state = [0u64; receiver::STATE_WORDS + 1];
     let mut names = [0u8; receiver::NAME_BYTES + 1];
-    opened_in(out, at, case, &mut state, &mut names)
+    opened_in(stdout, out, at, case, &mut state, &mut names)
 }
 
-pub(crate) fn received(out: &mut [u8], at: usize, case: &[u8]) -> usize {
+pub(crate) fn received(stdout: Stdout, stdout, out: &mut [u8], at: usize, case: &[u8]) -> usize {
     let mut state = [0u64; receiver::STATE_WORDS + 1];
     let mut names = [0u8; receiver::NAME_BYTES + 1];
     let mut store = [0u8; 2 * STORE];
     let mut ledger = [0u32; receiver::LEDGER + 1];
-    received_in(
+    received_in(stdout, 
         out,
         at,
         case,
@@ -159,8 +160,8 @@ pub(crate) fn received(out: &mut [u8], at: usize, case: &[u8]) -> usize {
     )
 }
 
-pub(crate) fn forgotten(out: &mut [u8], at: usize, case: &[u8]) -> usize {
+pub(crate) fn forgotten(stdout: Stdout, stdout, out: &mut [u8], at: usize, case: &[u8]) -> usize {
     let mut state = [0u64; receiver::STATE_WORDS + 1];
     let mut names = [0u8; receiver::NAME_BYTES + 1];
-    forgotten_in(out, at, case, &mut state, &mut names)
+    forgotten_in(stdout, out, at, case, &mut state, &mut names)
 }

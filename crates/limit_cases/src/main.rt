@@ -11,6 +11,7 @@ mod lent;
 mod tied;
 mod watching;
 
+use std::io::{Stdin, Stdout};
 use stream::{Input, Kind, Next};
 
 // The number at a place of a case.
@@ -20,6 +21,7 @@ fn number(case: &[u8], place: usize) -> usize {
 
 // The rest of a line, by the byte that names the call.
 fn answer(
+    stdout: Stdout,
     out: &mut [u8],
     at: usize,
     call: u64,
@@ -28,19 +30,20 @@ fn answer(
     d: &mut [u8],
 ) -> usize {
     match call {
-        1 => cuts::cut(out, at, case, payload, d),
-        2 => cuts::parts(out, at, case, payload, d),
-        3 => watching::seen(out, at, case),
-        4 => lent::opened(out, at, case),
-        5 => lent::received(out, at, case),
-        6 => lent::forgotten(out, at, case),
-        7 => tied::answered(out, at, case),
-        _ => output::pour(out, at, b"no such call"),
+        1 => cuts::cut(stdout, out, at, case, payload, d),
+        2 => cuts::parts(stdout, out, at, case, payload, d),
+        3 => watching::seen(stdout, out, at, case),
+        4 => lent::opened(stdout, out, at, case),
+        5 => lent::received(stdout, out, at, case),
+        6 => lent::forgotten(stdout, out, at, case),
+        7 => tied::answered(stdout, out, at, case),
+        _ => output::pour(stdout, out, at, b"no such call"),
     }
 }
 
 // Line n.
 fn one_more(
+    stdout: Stdout,
     out: &mut [u8],
     at: usize,
     n: u64,
@@ -49,40 +52,56 @@ fn one_more(
     payload: &[u8],
     d: &mut [u8],
 ) -> usize {
-    let a = output::pour_decimal(out, at, n);
-    let b = output::pour(out, a, b" ");
-    let c = answer(out, b, call, case, payload, d);
-    output::pour(out, c, b"\n")
+    let a = output::pour_decimal(stdout, out, at, n);
+    let b = output::pour(stdout, out, a, b" ");
+    let c = answer(stdout, out, b, call, case, payload, d);
+    output::pour(stdout, out, c, b"\n")
 }
 
 // One line a case, and the last line. It stops where the output is closed.
-fn run(buf: &mut [u8], out: &mut [u8], payload: &[u8], d: &mut [u8])
+fn run(stdin: Stdin, stdout: Stdout, buf: &mut [u8], out: &mut [u8], payload: &[u8], d: &mut [u8])
     requires { line_limit ≤ length out.old }
 {
     let mut input = Input { at: 0, end: 0 };
     let mut at: usize = 0;
     let mut n: u64 = 0;
     while n < stream::MANY {
-        let next = stream::next_record(buf, input, Kind::Numbers);
+        let next = stream::next_record(stdin, buf, input, Kind::Numbers);
         let Next::Record(from, len, left) = next else {
-            output::finish(out, at, n, next);
+            output::finish(stdout, out, at, n, next);
             return;
         };
         n += 1;
         input = left;
         let call = wire::number(stream::head(buf, from, Kind::Numbers), 0, 1);
-        at = one_more(out, at, n, call, wire::part(buf, from, len), payload, d);
+        at = one_more(
+            stdout,
+            out,
+            at,
+            n,
+            call,
+            wire::part(buf, from, len),
+            payload,
+            d,
+        );
         if at == output::CLOSED {
             return;
         }
     }
-    output::finish(out, at, n, Next::Cut);
+    output::finish(stdout, out, at, n, Next::Cut);
 }
 
-fn main() {
+fn main(rt: HostRuntime) {
     let mut buf = [0u8; 4096];
     let mut out = [0u8; 4096];
     let payload = [65u8; datagram::MAX_PAYLOAD + 1];
     let mut d = [0u8; cutter::MOST_SIZE];
-    run(&mut buf, &mut out, &payload, &mut d);
+    run(
+        rt.stdin(),
+        rt.stdout(),
+        &mut buf,
+        &mut out,
+        &payload,
+        &mut d,
+    );
 }

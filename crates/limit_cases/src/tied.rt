@@ -4,6 +4,7 @@
 // message comes.
 ghost use Rattle.std.specs.Prelude.{◌≤◌};
 
+use std::io::Stdout;
 use receiver::Outcome;
 use steps::{Answer, Emptied, PayloadAt};
 
@@ -74,35 +75,35 @@ fn alter(case: &[u8], state: &mut [u64]) {
     }
 }
 
-fn pour_delivered(out: &mut [u8], at: usize, place: PayloadAt, n: usize) -> usize {
-    let next = output::pour_counted(out, at, b"delivered ", n as u64);
+fn pour_delivered(stdout: Stdout, out: &mut [u8], at: usize, place: PayloadAt, n: usize) -> usize {
+    let next = output::pour_counted(stdout, out, at, b"delivered ", n as u64);
     match place {
-        PayloadAt::InDatagram(p) => output::pour_counted(out, next, b" datagram ", p as u64),
-        PayloadAt::InStore(p) => output::pour_counted(out, next, b" store ", p as u64),
+        PayloadAt::InDatagram(p) => output::pour_counted(stdout, out, next, b" datagram ", p as u64),
+        PayloadAt::InStore(p) => output::pour_counted(stdout, out, next, b" store ", p as u64),
     }
 }
 
-fn pour_answer(out: &mut [u8], at: usize, answer: Answer) -> usize {
+fn pour_answer(stdout: Stdout, out: &mut [u8], at: usize, answer: Answer) -> usize {
     match answer {
-        Answer::Refused(n) => output::pour_counted(out, at, b"refused ", n as u64),
-        Answer::Kept => output::pour(out, at, b"kept"),
-        Answer::Repeat => output::pour(out, at, b"repeat"),
-        Answer::Delivered(place, n) => pour_delivered(out, at, place, n),
+        Answer::Refused(n) => output::pour_counted(stdout, out, at, b"refused ", n as u64),
+        Answer::Kept => output::pour(stdout, out, at, b"kept"),
+        Answer::Repeat => output::pour(stdout, out, at, b"repeat"),
+        Answer::Delivered(place, n) => pour_delivered(stdout, out, at, place, n),
     }
 }
 
-fn pour_emptied(out: &mut [u8], at: usize, emptied: Emptied) -> usize {
+fn pour_emptied(stdout: Stdout, out: &mut [u8], at: usize, emptied: Emptied) -> usize {
     match emptied {
         Emptied::Nobody => at,
-        Emptied::Was(key) => output::pour_counted(out, at, b" emptied ", key.sequence),
+        Emptied::Was(key) => output::pour_counted(stdout, out, at, b" emptied ", key.sequence),
     }
 }
 
-fn pour_outcome(out: &mut [u8], at: usize, outcome: Outcome) -> usize {
+fn pour_outcome(stdout: Stdout, out: &mut [u8], at: usize, outcome: Outcome) -> usize {
     let answer = outcome.answer;
     let emptied = outcome.emptied;
-    let next = pour_answer(out, at, answer);
-    pour_emptied(out, next, emptied)
+    let next = pour_answer(stdout, out, at, answer);
+    pour_emptied(stdout, out, next, emptied)
 }
 
 // What comes, by the case.
@@ -128,7 +129,7 @@ fn received(
 }
 
 // What is answered to it over such a state.
-fn answered_in(
+fn answered_in(stdout: Stdout, 
     out: &mut [u8],
     at: usize,
     case: &[u8],
@@ -141,16 +142,16 @@ fn answered_in(
     open_all(state, names, store, ledger, d);
     alter(case, state);
     let outcome = received(case, state, names, store, ledger, d);
-    pour_outcome(out, at, outcome)
+    pour_outcome(stdout, out, at, outcome)
 }
 
-pub(crate) fn answered(out: &mut [u8], at: usize, case: &[u8]) -> usize {
+pub(crate) fn answered(stdout: Stdout, stdout, out: &mut [u8], at: usize, case: &[u8]) -> usize {
     let mut state = [0u64; receiver::STATE_WORDS];
     let mut names = [0u8; receiver::NAME_BYTES];
     let mut store = [0u8; 64];
     let mut ledger = [0u32; receiver::LEDGER];
     let mut d = [0u8; 23];
-    answered_in(
+    answered_in(stdout, 
         out,
         at,
         case,

@@ -1,5 +1,6 @@
 // The sequence watch. A case is: how many senders the watch claims, of 1 to 16 in order; the last number of the first; the sender and the number;
 // and how far the last number of each lies above that of the one before it, 0 where the case does not say.
+use std::io::Stdout;
 use differences::Answer;
 use watch::Watch;
 
@@ -21,7 +22,7 @@ fn lasts_from(first: u32, step: u32) -> [u32; watch::SENDERS] {
     lasts
 }
 
-pub(crate) fn seen(out: &mut [u8], at: usize, case: &[u8]) -> usize {
+pub(crate) fn seen(stdout: Stdout, stdout, out: &mut [u8], at: usize, case: &[u8]) -> usize {
     let lasts = lasts_from(word(case, 8), word(case, 32));
     let w = Watch {
         senders: [1, 2, 3, 4, 5, 6, 7, 8, 9, 10, 11, 12, 13, 14, 15, 16],
@@ -30,11 +31,11 @@ pub(crate) fn seen(out: &mut [u8], at: usize, case: &[u8]) -> usize {
     };
     let answer = watch::ask(w, wire::number(case, 16, 8), word(case, 24));
     match answer {
-        Answer::First => output::pour(out, at, b"first"),
-        Answer::Forward(n) => output::pour_counted(out, at, b"forward ", n as u64),
-        Answer::Same => output::pour(out, at, b"same"),
-        Answer::Late(n) => output::pour_counted(out, at, b"late ", n as u64),
-        Answer::Restarted(n) => output::pour_counted(out, at, b"restarted ", n as u64),
-        Answer::Refused(n) => output::pour_counted(out, at, b"refused ", n as u64),
+        Answer::First => output::pour(stdout, out, at, b"first"),
+        Answer::Forward(n) => output::pour_counted(stdout, out, at, b"forward ", n as u64),
+        Answer::Same => output::pour(stdout, out, at, b"same"),
+        Answer::Late(n) => output::pour_counted(stdout, out, at, b"late ", n as u64),
+        Answer::Restarted(n) => output::pour_counted(stdout, out, at, b"restarted ", n as u64),
+        Answer::Refused(n) => output::pour_counted(stdout, out, at, b"refused ", n as u64),
     }
 }

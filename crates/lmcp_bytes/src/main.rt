@@ -14,6 +14,7 @@ ghost use Rattle.lmcp_bytes.specs.Lines.{numbers_of, calculated, longer_text, Wr
 ghost use Rattle.lmcp_bytes.specs.Inside.{holds_before, holds_after, made_text};
 
 use lmcp::Made;
+use std::io::{Stdin, Stdout};
 use stream::{Input, Kind, Next};
 
 // The numbers that the program holds.
@@ -64,28 +65,29 @@ fn calculates(head: &[u8]) -> bool
     wire::number(head, 0, 1) != 0
 }
 
-fn pour_longer(out: &mut [u8], at: usize, n: usize) -> usize
+fn pour_longer(stdout: Stdout, out: &mut [u8], at: usize, n: usize) -> usize
     ensures { Pours out.old at (longer_text n) out.new result }
 {
-    let next = output::pour_counted(out, at, b" longer than ", n as u64);
-    output::pour(out, next, b" numbers\n")
+    let next = output::pour_counted(stdout, out, at, b" longer than ", n as u64);
+    output::pour(stdout, out, next, b" numbers\n")
 }
 
-fn pour_made(out: &mut [u8], at: usize, bytes: &[u8], made: Made) -> usize
+fn pour_made(stdout: Stdout, out: &mut [u8], at: usize, bytes: &[u8], made: Made) -> usize
     ensures { Pours out.old at (made_text bytes.now made) out.new result }
 {
     match made {
         Made::Bytes(n) => {
-            let a = output::pour(out, at, b" bytes ");
-            let b = output::pour_hex(out, a, wire::part(bytes, 0, n));
-            output::pour(out, b, b"\n")
+            let a = output::pour(stdout, out, at, b" bytes ");
+            let b = output::pour_hex(stdout, out, a, wire::part(bytes, 0, n));
+            output::pour(stdout, out, b, b"\n")
         }
-        Made::Refused(e) => output::pour_counted_line(out, at, b" refused ", e as u64),
+        Made::Refused(e) => output::pour_counted_line(stdout, out, at, b" refused ", e as u64),
     }
 }
 
 // List n is written, and its line goes out. Answers the place after it.
 fn one_more(
+    stdout: Stdout,
     out: &mut [u8],
     at: usize,
     n: u64,
@@ -96,17 +98,25 @@ fn one_more(
 ) -> usize
     ensures { Written calculate body.now n (holds_before list bytes out) at (holds_after list bytes out) result }
 {
-    let next = output::pour_decimal(out, at, n);
+    let next = output::pour_decimal(stdout, out, at, n);
     if list.len() < body.len() / 8 {
-        return pour_longer(out, next, list.len());
+        return pour_longer(stdout, out, next, list.len());
     }
     let count = take_list(body, list);
     let made = lmcp_writer::write_message(front(list, count), calculate, bytes);
-    pour_made(out, next, bytes, made)
+    pour_made(stdout, out, next, bytes, made)
 }
 
 // One line a list of the input, and the last line. Answers whether the system took all of them; it stops where it did not.
-fn run(buf: &mut [u8], input: Input, list: &mut [i64], bytes: &mut [u8], out: &mut [u8]) -> bool
+fn run(
+    stdin: Stdin,
+    stdout: Stdout,
+    buf: &mut [u8],
+    input: Input,
+    list: &mut [i64],
+    bytes: &mut [u8],
+    out: &mut [u8],
+) -> bool
     requires { line_limit ≤ length out.old }
     ensures { Tells Numbers (lines (length list.old) (length bytes.old)) buf.old input (buffer out) 0 result }
 {
@@ -114,14 +124,15 @@ fn run(buf: &mut [u8], input: Input, list: &mut [i64], bytes: &mut [u8], out: &m
     let mut at: usize = 0;
     let mut n: u64 = 0;
     while n < stream::MANY {
-        let next = stream::next_record(buf, rest, Kind::Numbers);
+        let next = stream::next_record(stdin, buf, rest, Kind::Numbers);
         let Next::Record(from, len, left) = next else {
-            return output::finish(out, at, n, next);
+            return output::finish(stdout, out, at, n, next);
         };
         n += 1;
         rest = left;
         let calculate = calculates(stream::head(buf, from, Kind::Numbers));
         at = one_more(
+            stdout,
             out,
             at,
             n,
@@ -134,15 +145,17 @@ fn run(buf: &mut [u8], input: Input, list: &mut [i64], bytes: &mut [u8], out: &m
             return false;
         }
     }
-    output::finish(out, at, n, Next::Cut)
+    output::finish(stdout, out, at, n, Next::Cut)
 }
 
-fn main() {
+fn main(rt: HostRuntime) {
     let mut buf = [0u8; BUFFER];
     let mut list = [0i64; NUMBERS];
     let mut bytes = [0u8; lmcp::MAX_MESSAGE];
     let mut out = [0u8; output::HOLDS];
     run(
+        rt.stdin(),
+        rt.stdout(),
         &mut buf,
         Input { at: 0, end: 0 },
         &mut list,

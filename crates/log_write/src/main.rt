@@ -13,13 +13,14 @@ ghost use Rattle.log_write.specs.Kept.{Keeps, log_text};
 ghost use Rattle.log_write.specs.Inside.{entry_limit, entries_text};
 
 use log_append::Written;
+use std::io::{Stdin, Stdout};
 use stream::{Input, Kind, Next};
 
 // No entry is longer: three numbers of at most ten bytes, and a datagram.
 const ENTRY: usize = 30 + datagram::MAX_DATAGRAM;
 
 // One entry goes out, by way of a space of its own. Answers the place after it. There is room for it, so no refusal comes.
-fn keep(out: &mut [u8], at: usize, space: &mut [u8], head: &[u8], d: &[u8]) -> usize
+fn keep(stdout: Stdout, out: &mut [u8], at: usize, space: &mut [u8], head: &[u8], d: &[u8]) -> usize
     requires { entry_limit ≤ length space.old }
     ensures { Keeps out.old at (entry_of (be 8 head.now) (be 8 (drop 8 head.now)) d.now) out.new result }
 {
@@ -27,13 +28,21 @@ fn keep(out: &mut [u8], at: usize, space: &mut [u8], head: &[u8], d: &[u8]) -> u
     let tick = wire::number(head, 8, 8);
     let written = log_append::append(&mut *space, 0, sender, tick, d);
     match written {
-        Written::Next(n) => output::pour(out, at, wire::part(space, 0, n)),
+        Written::Next(n) => output::pour(stdout, out, at, wire::part(space, 0, n)),
         Written::Refused(_) => at,
     }
 }
 
 // The entries of the input, one after another, behind the head of the log. Answers whether the system took all of them; it stops where it did not.
-fn kept(buf: &mut [u8], input: Input, out: &mut [u8], space: &mut [u8], first: usize) -> bool
+fn kept(
+    stdin: Stdin,
+    stdout: Stdout,
+    buf: &mut [u8],
+    input: Input,
+    out: &mut [u8],
+    space: &mut [u8],
+    first: usize,
+) -> bool
     requires { entry_limit ≤ length space.old }
     ensures { Tells Entry entries_text buf.old input (buffer out) first result }
 {
@@ -41,13 +50,14 @@ fn kept(buf: &mut [u8], input: Input, out: &mut [u8], space: &mut [u8], first: u
     let mut at = first;
     let mut n: u64 = 0;
     while n < stream::MANY {
-        let next = stream::next_record(buf, rest, Kind::Entry);
+        let next = stream::next_record(stdin, buf, rest, Kind::Entry);
         let Next::Record(from, len, left) = next else {
-            return output::write_out(out, at);
+            return output::write_out(stdout, out, at);
         };
         n += 1;
         rest = left;
         at = keep(
+            stdout,
             out,
             at,
             space,
@@ -58,11 +68,18 @@ fn kept(buf: &mut [u8], input: Input, out: &mut [u8], space: &mut [u8], first: u
             return false;
         }
     }
-    output::write_out(out, at)
+    output::write_out(stdout, out, at)
 }
 
 // The log of the input. Its payload limit is the largest that a log may have, and its head has room, so no refusal comes.
-fn made(buf: &mut [u8], input: Input, out: &mut [u8], space: &mut [u8]) -> bool
+fn made(
+    stdin: Stdin,
+    stdout: Stdout,
+    buf: &mut [u8],
+    input: Input,
+    out: &mut [u8],
+    space: &mut [u8],
+) -> bool
     requires { (entry_limit ≤ length space.old) × (line_limit ≤ length out.old) }
     ensures { Tells Entry log_text buf.old input (buffer out) 0 result }
 {
@@ -70,12 +87,19 @@ fn made(buf: &mut [u8], input: Input, out: &mut [u8], space: &mut [u8]) -> bool
     let Written::Next(first) = begun else {
         return false;
     };
-    kept(buf, input, out, space, first)
+    kept(stdin, stdout, buf, input, out, space, first)
 }
 
-fn main() {
+fn main(rt: HostRuntime) {
     let mut buf = [0u8; 262144];
     let mut out = [0u8; 262144];
     let mut space = [0u8; ENTRY];
-    made(&mut buf, Input { at: 0, end: 0 }, &mut out, &mut space);
+    made(
+        rt.stdin(),
+        rt.stdout(),
+        &mut buf,
+        Input { at: 0, end: 0 },
+        &mut out,
+        &mut space,
+    );
 }

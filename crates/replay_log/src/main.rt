@@ -15,6 +15,7 @@ ghost use Rattle.replay_log.specs.Inside.{lines_with};
 
 use flight_log::{EntryAt, Limits, Step};
 use receiver::Call;
+use std::io::{Stdin, Stdout};
 use stream::All;
 
 // The bytes of the store: each of the eight slots takes a payload of 262,144, in every edition.
@@ -22,6 +23,7 @@ const STORE: usize = 2097152;
 
 // Entry n: its datagram is received from its sender, within the log's limits, and its line goes out. Answers the place after it.
 fn one_more(
+    stdout: Stdout,
     out: &mut [u8],
     at: usize,
     n: u64,
@@ -47,11 +49,12 @@ fn one_more(
     );
     let answer = outcome.answer;
     let emptied = outcome.emptied;
-    replay_lines::pour_line(out, at, n, answer, emptied)
+    replay_lines::pour_line(stdout, out, at, n, answer, emptied)
 }
 
 // One line an entry, and the last line. Answers whether the system took all of them; it stops where it did not.
 fn replayed(
+    stdout: Stdout,
     log: &[u8],
     out: &mut [u8],
     state: &mut [u64],
@@ -69,18 +72,20 @@ fn replayed(
     while at != output::CLOSED {
         let step = flight_log::read_on(log, place);
         let Step::Found(entry) = step else {
-            return log_lines::finish(out, at, n, step);
+            return log_lines::finish(stdout, out, at, n, step);
         };
         n += 1;
         place = entry.next;
-        at = one_more(out, at, n, state, names, store, ledger, limits, log, entry);
+        at = one_more(
+            stdout, out, at, n, state, names, store, ledger, limits, log, entry,
+        );
     }
     false
 }
 
 // Over a fresh receiver. A state of the receiver's own lengths is opened, so the refusal, after which nothing would be replayed, does not
 // come.
-fn afresh(log: &[u8], out: &mut [u8]) -> bool
+fn afresh(stdout: Stdout, log: &[u8], out: &mut [u8]) -> bool
     ensures { Finishes out.old 0 (replay_lines_lem log.now) out.new result }
 {
     let mut state = [0u64; receiver::STATE_WORDS];
@@ -91,23 +96,31 @@ fn afresh(log: &[u8], out: &mut [u8]) -> bool
     let Call::Done = opened else {
         return false;
     };
-    replayed(log, out, &mut state, &mut names, &mut store, &mut ledger)
+    replayed(
+        stdout,
+        log,
+        out,
+        &mut state,
+        &mut names,
+        &mut store,
+        &mut ledger,
+    )
 }
 
 // Replays the whole input, or says that it is longer than the buffer.
-fn run(buf: &mut [u8], out: &mut [u8]) -> bool
+fn run(stdin: Stdin, stdout: Stdout, buf: &mut [u8], out: &mut [u8]) -> bool
     requires { line_limit ≤ length out.old }
     ensures { Tells (length buf.old) replay_lines_lem out.old out.new result }
 {
-    let all = stream::read_all(buf);
+    let all = stream::read_all(stdin, buf);
     match all {
-        All::Whole(n) => afresh(wire::part(buf, 0, n), out),
-        All::Longer => log_lines::finish_longer(out, buf.len() as u64),
+        All::Whole(n) => afresh(stdout, wire::part(buf, 0, n), out),
+        All::Longer => log_lines::finish_longer(stdout, out, buf.len() as u64),
     }
 }
 
-fn main() {
+fn main(rt: HostRuntime) {
     let mut buf = [0u8; log_lines::HOLDS];
     let mut out = [0u8; output::HOLDS];
-    run(&mut buf, &mut out);
+    run(rt.stdin(), rt.stdout(), &mut buf, &mut out);
 }

@@ -13,6 +13,7 @@ ghost use Rattle.replay_run.specs.Lines.{lines, Replayed};
 ghost use Rattle.replay_run.specs.Inside.{lines_with};
 
 use receiver::Call;
+use std::io::{Stdin, Stdout};
 use stream::{Input, Kind, Next};
 
 // The bytes of the store, by the paper.
@@ -23,6 +24,7 @@ pub const HOLDS: usize = 262144;
 
 // Datagram n is received, and its line goes out. Answers the place after it. All are of one sender, 0.
 fn one_more(
+    stdout: Stdout,
     out: &mut [u8],
     at: usize,
     n: u64,
@@ -37,11 +39,13 @@ fn one_more(
     let outcome = receiver::receive(state, names, store, ledger, 0, d);
     let answer = outcome.answer;
     let emptied = outcome.emptied;
-    replay_lines::pour_line(out, at, n, answer, emptied)
+    replay_lines::pour_line(stdout, out, at, n, answer, emptied)
 }
 
 // One line a datagram of the input, and the last line. Answers whether the system took all of them; it stops where it did not.
 fn replayed(
+    stdin: Stdin,
+    stdout: Stdout,
     buf: &mut [u8],
     input: Input,
     out: &mut [u8],
@@ -57,13 +61,14 @@ fn replayed(
     let mut at: usize = 0;
     let mut n: u64 = 0;
     while n < stream::MANY {
-        let next = stream::next_record(buf, rest, Kind::Bytes2);
+        let next = stream::next_record(stdin, buf, rest, Kind::Bytes2);
         let Next::Record(from, len, left) = next else {
-            return output::finish(out, at, n, next);
+            return output::finish(stdout, out, at, n, next);
         };
         n += 1;
         rest = left;
         at = one_more(
+            stdout,
             out,
             at,
             n,
@@ -77,12 +82,12 @@ fn replayed(
             return false;
         }
     }
-    output::finish(out, at, n, Next::Cut)
+    output::finish(stdout, out, at, n, Next::Cut)
 }
 
 // The same over a fresh receiver. A state of the receiver's own lengths is opened, so the refusal, after which nothing would be replayed, does
 // not come.
-fn afresh(buf: &mut [u8], input: Input, out: &mut [u8]) -> bool
+fn afresh(stdin: Stdin, stdout: Stdout, buf: &mut [u8], input: Input, out: &mut [u8]) -> bool
     requires { line_limit ≤ length out.old }
     ensures { Tells Bytes2 lines buf.old input (buffer out) 0 result }
 {
@@ -95,6 +100,8 @@ fn afresh(buf: &mut [u8], input: Input, out: &mut [u8]) -> bool
         return false;
     };
     replayed(
+        stdin,
+        stdout,
         buf,
         input,
         out,
@@ -106,9 +113,9 @@ fn afresh(buf: &mut [u8], input: Input, out: &mut [u8]) -> bool
 }
 
 // Replays standard input over a lent buffer. What is read and written no contract can say; the buffer keeps its length.
-pub fn run(buf: &mut [u8])
+pub fn run(stdin: Stdin, stdout: Stdout, buf: &mut [u8])
     ensures { length buf.new ≡ length buf.old }
 {
     let mut out = [0u8; output::HOLDS];
-    afresh(buf, Input { at: 0, end: 0 }, &mut out);
+    afresh(stdin, stdout, buf, Input { at: 0, end: 0 }, &mut out);
 }

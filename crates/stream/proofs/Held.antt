@@ -1,5 +1,5 @@
 -- The whole input in a buffer. Assumes nothing.
-use Rattle.wire.proofs.Basics.{sym, ◌≡◌, refl, ℕ, List, ◌++◌, length, take, length-append, length-take-le, take_at, arith}
+use Rattle.wire.proofs.Basics.{sym, ◌≡◌, refl, subst, ℕ, ◌≤◌, List, ◌++◌, length, take, length-append, length-take-le, take_at, arith}
 use Rattle.stream.specs.Whole.{Held, Exceeds}
 use Rattle.stream.specs.InsideWindows.{Grown}
 
@@ -15,3 +15,9 @@ exceeds {before} {after} {small} {more} {j} g m z =
       front = sym (take_at after (take j more) (length before) g.same_length);
       more = omega (arith, length-append after (take j more), length-take-le j more m.within, g.same_length);
     }
+
+-- the same, where the last place is told to be the length or more
+pub exceeds_full : {before after small more : List ℕ} {n j : ℕ} → Grown before 0 after n → length before ≤ n → Grown small 0 more j → (j ≡ 0 → ⊥) → Exceeds (length before) after
+exceeds_full {before} {after} {small} {more} {n} {j} f o m z =
+    let e : n ≡ length before = omega (arith, f.within, f.same_length) in
+    exceeds (subst (λ (k : ℕ). Grown before 0 after k) e f) m z

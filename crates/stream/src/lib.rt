@@ -249,6 +249,7 @@ pub fn head(buf: &[u8], at: usize, kind: Kind) -> &[u8]
 }
 
 // The whole input, read to its end or until it is seen to be longer than the buffer.
+#[tactic(auto, using(crate::proofs::Held::held_all_lem))]
 pub fn read_all(stdin: Stdin, buf: &mut [u8]) -> All
     ensures { HoldsAll (length buf.old) buf.new result }
 {

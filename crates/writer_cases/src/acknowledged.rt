@@ -1,5 +1,6 @@
 // Acknowledge blocks. A case is: the first number, how far each lies above the one before it (past the largest it begins anew at 0), how many there
 // are, and the output's length.
+use std::io::Stdout;
 use ack_writer::Written;
 
 // More numbers than any list has whose blocks are singles.
@@ -15,7 +16,7 @@ fn rise(list: &mut [u64], first: u64, step: u64) {
     }
 }
 
-fn written_of(out: &mut [u8], at: usize, case: &[u8], list: &mut [u64], room: &mut [u8]) -> usize {
+fn written_of(stdout: Stdout, out: &mut [u8], at: usize, case: &[u8], list: &mut [u64], room: &mut [u8]) -> usize {
     let count = wire::least(crate::number(case, 16), list.len());
     rise(
         &mut list[..count],
@@ -25,12 +26,12 @@ fn written_of(out: &mut [u8], at: usize, case: &[u8], list: &mut [u64], room: &m
     let size = wire::least(crate::number(case, 24), room.len());
     let w = ack_writer::write_blocks(&list[..count], &mut room[..size]);
     match w {
-        Written::Bytes(n) => crate::pour_bytes(out, at, wire::part(room, 0, n)),
-        Written::Refused(n) => crate::pour_refused(out, at, n),
+        Written::Bytes(n) => crate::pour_bytes(stdout, out, at, wire::part(room, 0, n)),
+        Written::Refused(n) => crate::pour_refused(stdout, out, at, n),
     }
 }
 
-pub(crate) fn written(out: &mut [u8], at: usize, case: &[u8], room: &mut [u8]) -> usize {
+pub(crate) fn written(stdout: Stdout, stdout, out: &mut [u8], at: usize, case: &[u8], room: &mut [u8]) -> usize {
     let mut list = [0u64; NUMBERS];
-    written_of(out, at, case, &mut list, room)
+    written_of(stdout, out, at, case, &mut list, room)
 }

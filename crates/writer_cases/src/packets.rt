@@ -1,9 +1,10 @@
 // Message blocks and packets of MossUDP. Every message is so many letters A.
+use std::io::Stdout;
 use moss::Located;
 use moss_writer::Written;
 
 // A message block at a place of the output. A case is: the message's length, the place, and the output's length.
-pub(crate) fn laid(
+pub(crate) fn laid(stdout: Stdout, stdout, 
     out: &mut [u8],
     at: usize,
     case: &[u8],
@@ -18,8 +19,8 @@ pub(crate) fn laid(
         wire::part(letters, 0, crate::number(case, 0)),
     );
     match w {
-        Written::Bytes(n) => crate::pour_bytes(out, at, wire::part(room, place, n)),
-        Written::Refused(n) => crate::pour_refused(out, at, n),
+        Written::Bytes(n) => crate::pour_bytes(stdout, out, at, wire::part(room, place, n)),
+        Written::Refused(n) => crate::pour_refused(stdout, out, at, n),
     }
 }
 
@@ -39,20 +40,20 @@ fn lay_blocks(blocks: &mut [u8], message: &[u8], count: usize) -> usize {
 }
 
 // Where message n of a packet stands.
-fn pour_place(out: &mut [u8], at: usize, packet: &[u8], n: usize) -> usize {
+fn pour_place(stdout: Stdout, out: &mut [u8], at: usize, packet: &[u8], n: usize) -> usize {
     let l = moss::message_place(packet, n);
     match l {
         Located::At(place, len) => {
-            let next = output::pour_counted(out, at, b"place ", place as u64);
-            output::pour_counted(out, next, b" length ", len as u64)
+            let next = output::pour_counted(stdout, out, at, b"place ", place as u64);
+            output::pour_counted(stdout, out, next, b" length ", len as u64)
         }
-        Located::Refused(e) => crate::pour_refused(out, at, e),
+        Located::Refused(e) => crate::pour_refused(stdout, out, at, e),
     }
 }
 
 // A packet, and a message of its front. A case is: the type, the messages' length and how many there are, the output's length, how much of the
 // packet is read, and which message.
-pub(crate) fn written(
+pub(crate) fn written(stdout: Stdout, stdout, 
     out: &mut [u8],
     at: usize,
     case: &[u8],
@@ -75,8 +76,8 @@ pub(crate) fn written(
     match w {
         Written::Bytes(n) => {
             let front = wire::least(n, crate::number(case, 32));
-            pour_place(out, at, wire::part(room, 0, front), crate::number(case, 40))
+            pour_place(stdout, out, at, wire::part(room, 0, front), crate::number(case, 40))
         }
-        Written::Refused(n) => crate::pour_refused(out, at, n),
+        Written::Refused(n) => crate::pour_refused(stdout, out, at, n),
     }
 }

@@ -1,4 +1,5 @@
 // Survey messages. A case is: 0 to leave the checksum zero, else it is calculated; the output's length; and the list's numbers.
+use std::io::Stdout;
 use lmcp::Made;
 
 // As many numbers as a case may have.
@@ -25,7 +26,7 @@ fn take(list: &mut [i64], case: &[u8]) {
     }
 }
 
-fn written_of(out: &mut [u8], at: usize, case: &[u8], list: &mut [i64], room: &mut [u8]) -> usize {
+fn written_of(stdout: Stdout, out: &mut [u8], at: usize, case: &[u8], list: &mut [i64], room: &mut [u8]) -> usize {
     let count = wire::least(wire::room(case.len() / 8, 2), list.len());
     take(&mut list[..count], case);
     let size = wire::least(crate::number(case, 8), room.len());
@@ -35,12 +36,12 @@ fn written_of(out: &mut [u8], at: usize, case: &[u8], list: &mut [i64], room: &m
         &mut room[..size],
     );
     match made {
-        Made::Bytes(n) => crate::pour_bytes(out, at, wire::part(room, 0, n)),
-        Made::Refused(n) => crate::pour_refused(out, at, n),
+        Made::Bytes(n) => crate::pour_bytes(stdout, out, at, wire::part(room, 0, n)),
+        Made::Refused(n) => crate::pour_refused(stdout, out, at, n),
     }
 }
 
-pub(crate) fn written(out: &mut [u8], at: usize, case: &[u8], room: &mut [u8]) -> usize {
+pub(crate) fn written(stdout: Stdout, stdout, out: &mut [u8], at: usize, case: &[u8], room: &mut [u8]) -> usize {
     let mut list = [0i64; NUMBERS];
-    written_of(out, at, case, &mut list, room)
+    written_of(stdout, out, at, case, &mut list, room)
 }

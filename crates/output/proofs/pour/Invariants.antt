@@ -1,0 +1,10 @@
+-- Bytes of any number, as many at a time as there is room for. The loop's invariant: the i bytes passed went out. Assumes nothing.
+use Rattle.wire.proofs.Basics.{◌≡◌, ◌≤◌, ◌-◌, length, take}
+use Rattle.output.specs.Output.{Pours}
+use Rattle.output.proofs.pour.Given as goal
+
+abbrev pub invariant-loop-i : goal.invariant-loop-i
+invariant-loop-i l = (l.i ≤ length l.bytes) × (length l.out ≡ length l.initial.out) × Pours l.initial.out l.at (take l.i l.bytes) l.out l.next
+
+abbrev pub decreases-loop-i : goal.decreases-loop-i
+decreases-loop-i l = length l.bytes - l.i
