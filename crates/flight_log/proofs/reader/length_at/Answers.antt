@@ -8,12 +8,12 @@ use Rattle.flight_log.proofs.reader.length_at.Goals as goal
 pub datagram_at-requires : goal.datagram_at-requires
 datagram_at-requires c =
     let a = c.args in
-    (number-taken a.log.now a.at _ _ c.type_inv.log _ c.read_seven-read.ensures c.in-Number.is).within
+    (number-taken a.log.now a.at _ _ (λ i. (c.type_inv.log i).fits) _ c.read_seven-read.ensures c.in-Number.is).within
 
 pub returns-in-Number : goal.returns-in-Number
 returns-in-Number c =
     let a = c.args in
-    let f = number-taken a.log.now a.at _ _ c.type_inv.log _ c.read_seven-read.ensures c.in-Number.is in
+    let f = number-taken a.log.now a.at _ _ (λ i. (c.type_inv.log i).fits) _ c.read_seven-read.ensures c.in-Number.is in
     c.datagram_at.ensures ∙ ap (step_of a.log.now) (sym (length-follows _ _ a.sender a.tick _ f.is))
 
 pub returns-in-Refused : goal.returns-in-Refused

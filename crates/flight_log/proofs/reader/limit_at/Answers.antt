@@ -8,12 +8,12 @@ use Rattle.flight_log.proofs.reader.limit_at.Goals as goal
 pub within-requires : goal.within-requires
 within-requires c =
     let a = c.args in
-    (number-taken a.log.now a.at _ _ c.type_inv.log _ c.read_seven-read.ensures c.in-Number.is).within
+    (number-taken a.log.now a.at _ _ (λ i. (c.type_inv.log i).fits) _ c.read_seven-read.ensures c.in-Number.is).within
 
 pub returns-in-Number : goal.returns-in-Number
 returns-in-Number c =
     let a = c.args in
-    let f = number-taken a.log.now a.at _ _ c.type_inv.log _ c.read_seven-read.ensures c.in-Number.is in
+    let f = number-taken a.log.now a.at _ _ (λ i. (c.type_inv.log i).fits) _ c.read_seven-read.ensures c.in-Number.is in
     c.within.ensures ∙ ap (first_of a.log.now) (sym (limit-follows _ _ _ f.is))
 
 pub returns-in-Refused : goal.returns-in-Refused

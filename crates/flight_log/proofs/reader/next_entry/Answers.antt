@@ -13,7 +13,7 @@ returns-then-log-at c =
 pub returns-in-Number : goal.returns-in-Number
 returns-in-Number c =
     let a = c.args in
-    let f = number-taken a.log.now a.at _ _ c.type_inv.log _ c.read_seven-read.ensures c.in-Number.is in
+    let f = number-taken a.log.now a.at _ _ (λ i. (c.type_inv.log i).fits) _ c.read_seven-read.ensures c.in-Number.is in
     c.tick_at.ensures ∙ sym (next_here a.log.now a.at c.if-log-at.false ∙ ap (step_of a.log.now) (entry_follows _ _ _ f.is))
 
 pub returns-in-Refused : goal.returns-in-Refused

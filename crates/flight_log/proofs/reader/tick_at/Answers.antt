@@ -8,7 +8,7 @@ use Rattle.flight_log.proofs.reader.tick_at.Goals as goal
 pub returns-in-Number : goal.returns-in-Number
 returns-in-Number c =
     let a = c.args in
-    let f = number-taken a.log.now a.at _ _ c.type_inv.log _ c.read_seven-read.ensures c.in-Number.is in
+    let f = number-taken a.log.now a.at _ _ (λ i. (c.type_inv.log i).fits) _ c.read_seven-read.ensures c.in-Number.is in
     c.length_at.ensures ∙ ap (step_of a.log.now) (sym (tick-follows _ _ a.sender _ f.is))
 
 pub returns-in-Refused : goal.returns-in-Refused
