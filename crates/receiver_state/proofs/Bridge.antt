@@ -1,5 +1,5 @@
 -- Laws of the bridge: what looking up and changing the lent words comes to in the machine that they show.
-use Rattle.wire.proofs.Basics.{◌∙◌, sym, ◌≡◌, ap, refl, ℕ, ◌≤◌, ◌+◌, ◌<◌, ◌-◌, suc, zero, ◌*◌, min, List, map, true, false, Bool, ◌&&◌, ◌||◌, not, inl, inr, ◌≢◌, none, length, drop, get_or, take}
+use Rattle.wire.proofs.Basics.{◌∙◌, sym, ◌≡◌, ap, refl, ℕ, ◌≤◌, ◌+◌, ◌<◌, ◌-◌, suc, zero, ◌*◌, min, List, map, true, false, Bool, ◌&&◌, ◌||◌, not, inl, inr, ◌≢◌, length, drop, get_or, take}
 use Rattle.wire.proofs.Basics.{length-drop, set, length-set, length-map, take_all, get_or-set_other, get_or-set_same, eqb, eq-eqb, ne_eqb, ℕ_discrete, dec_le, arith}
 use native.Mathlib.Nat.{le_antisymm}
 use lib.ListN.{get_or-map}
