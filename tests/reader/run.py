@@ -2,6 +2,7 @@
 write what a reader written from the paper does (tests/model/log.py): limits, entries, datagrams, and what ended them, also when it is asked again."""
 import os
 import random
+import shutil
 import subprocess
 import tempfile
 
@@ -10,7 +11,7 @@ from model.log import LIMIT, entries_in, first_log_of, limits_in, log_of, seven
 from model.tally import close_with
 
 # what the program stands on, as crates.txt has it
-USED = ["wire", "varint", "names", "forms", "datagram", "log", "log_reader"]
+USED = ["wire", "varint", "names", "forms", "datagram", "flight_log", "log_reader"]
 
 
 def logs():
@@ -43,18 +44,18 @@ def main():
         mine = os.path.join(tmp, "crates", "through_reader")
         os.makedirs(os.path.join(mine, "src"))
         for name in USED:
-            os.symlink(os.path.join(ROOT, "crates", name), os.path.join(tmp, "crates", name))
+            shutil.copytree(os.path.join(ROOT, "crates", name), os.path.join(tmp, "crates", name), ignore=shutil.ignore_patterns("out"))
         with open(os.path.join(ROOT, "crates.txt"), encoding="utf-8") as f:
             edges = [line for line in f if line.split(":")[0] in USED]
         with open(os.path.join(tmp, "crates.txt"), "w", encoding="utf-8") as f:
-            f.writelines(edges + ["through_reader: wire log log_reader io libc\n"])
+            f.writelines(edges + ["through_reader: wire flight_log log_reader\n"])
         put(os.path.join(mine, "src", "main.rt"), bytes_of("tests", "reader", "program"))
-        put(os.path.join(mine, "stdin"), b"".join(len(log).to_bytes(4, "big") + log for log in all_logs))
-        put(os.path.join(mine, "stdout"), want.encode())
-        done = subprocess.run(["rt", "try", "through_reader"], cwd=tmp, capture_output=True, text=True)
-    if done.returncode:
-        print(done.stdout[-3000:] + done.stderr[-3000:])
-    close_with(*((0, len(all_logs)) if done.returncode else (len(all_logs), 0)))
+        stdin = b"".join(len(log).to_bytes(4, "big") + log for log in all_logs)
+        done = subprocess.run(["rt", "try"], cwd=mine, input=stdin, stdout=subprocess.PIPE, stderr=subprocess.PIPE)
+    good = done.returncode == 0 and done.stdout.decode() == want
+    if not good:
+        print(done.stdout.decode()[-3000:] + done.stderr.decode()[-3000:])
+    close_with(*((len(all_logs), 0) if good else (0, len(all_logs))))
 
 
 if __name__ == "__main__":

@@ -8,8 +8,9 @@ import antt
 import items
 from faults import bare, read
 
-# what of the toolchain's library reaches the system, whose contracts are assumed
+# what of the toolchain's library reaches the system, whose contracts are assumed; and the two streams, which any crate may hand on, and not read or write
 SYSTEM = re.compile(r"\bHostRuntime\b|\bstd\s*::\s*(?:\{[^;]*\b)?(?:io|fs|env|time|process|thread|net|os|rt)\b")
+STREAMS = re.compile(r"\bstd::io::(?:(?:Stdin|Stdout)\b|\{(?:Stdin|Stdout)(?:, (?:Stdin|Stdout))*\})")
 
 
 def needs():
@@ -24,7 +25,7 @@ def needs():
 
 def crates(faults, project):
     """Every crate is listed, every listed crate is there, none stands on the toolchain's libc, io and os, and only `stream`, `output` and the programs on what is assumed: what its
-    library says of the system."""
+    library says of the system. The others may hand its two streams on."""
     listed = needs()
     for crate in sorted(os.listdir("crates")):
         faults.rule(crate in listed, f"crates/{crate} is not listed in crates.txt")
@@ -33,7 +34,7 @@ def crates(faults, project):
         assumes = [d for d in on if d in ("libc", "io", "os")]
         faults.rule(not assumes, f"{crate} stands on {' '.join(assumes)}: the toolchain's std reaches the system")
         program = os.path.exists(f"crates/{crate}/src/main.rt")
-        reached = [path for path in project.paths(f"{crate}/src/**/*.rt") if SYSTEM.search(bare(path, read(path)))]
+        reached = [path for path in project.paths(f"{crate}/src/**/*.rt") if SYSTEM.search(STREAMS.sub("", bare(path, read(path))))]
         faults.rule(not reached or program or crate in ("stream", "output"), f"{' '.join(reached)}: {crate} is no program and reaches the system, whose contracts are assumed")
 
 

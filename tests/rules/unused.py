@@ -1,7 +1,7 @@
 """Imported names that nothing uses, in src/, specs/ and proofs/.
 
-A name is used where it stands as a word outside comments and `use` lines: alone, as the first word of a path, or, of an operator, by all its parts. Not where it
-is only a field (`x .name`) or the label of a record. What a file passes on (`pub use`) is used, and what a must-fail edit of the file writes."""
+A name is used where it stands as a word outside comments and `use` lines: alone, as the first word of a path, or, of an operator, by all its parts; a trait of Rattle by a method
+of it. Not where it is only a field (`x.name`) or the label of a record. What a file passes on (`pub use`) is used, and what a must-fail edit of the file writes."""
 import os
 import re
 
@@ -11,6 +11,10 @@ import items
 # a fault once the tree is free of them; until then they are counted
 ENFORCED = True
 USE_LINE = re.compile(r"^(?:unfoldable |pub |ghost )*use [^{\n]*(?:\{[^}]*\})?.*$", re.M)
+
+
+# a trait is used where a method of it is called
+METHODS = {"Read": "read", "Write": "write|write_all|flush"}
 
 
 def labels(toks):
@@ -53,7 +57,7 @@ def unused(project, path):
     if path.endswith(".rt"):
         clauses = words("\n".join(items.CLAUSE.findall(text + "\n" + more)))
         code = set(re.findall(r"\w+", re.sub(r"//.*", "", items.CLAUSE.sub("", text) + more)))
-        out = [x for x in file.types if x not in code and x not in file.passed_on]
+        out = [x for x in file.types if x not in code and x not in file.passed_on and not (x in METHODS and re.search(rf"\.(?:{METHODS[x]})\(", text))]
     else:
         clauses = words(text + "\n" + more)
         out = []
