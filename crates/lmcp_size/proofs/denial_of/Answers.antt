@@ -1,0 +1,9 @@
+-- `lmcp_size::denial_of` meets its contract.
+use Rattle.lmcp_size.proofs.WriteCases.{denial-char, denial-other}
+use Rattle.lmcp_size.proofs.denial_of.Goals as goal
+
+pub returns-then-kind : goal.returns-then-kind
+returns-then-kind c = denial-char _ c.if-kind.true
+
+pub returns : goal.returns
+returns c = denial-other _ c.if-kind.false
