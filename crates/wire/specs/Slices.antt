@@ -1,15 +1,15 @@
 -- LENT SLICES, as a contract has them: what they held at its entry, and what they hold at its exit. Definitions only.
 use Rattle.std.specs.Prelude.{Bool, List, ℕ, ℤ, ltb, length}
-use Rattle.std.specs.Borrow.{Bor}
+use denote.Ref.{MutBor}
 use denote.Triple.Both.{Both}
 
 -- a lent slice of bytes or of other numbers that have no sign
 abbrev pub Slice : Type 0
-Slice = Both (Bor (List ℕ)) (Bor (List ℕ))
+Slice = Both (MutBor (List ℕ)) (MutBor (List ℕ))
 
 -- a lent slice of signed numbers
 abbrev pub SignedSlice : Type 0
-SignedSlice = Both (Bor (List ℤ)) (Bor (List ℤ))
+SignedSlice = Both (MutBor (List ℤ)) (MutBor (List ℤ))
 
 -- both of one slice
 pub record Buffer : Type 0 where
