@@ -7,21 +7,21 @@ ghost use Rattle.flight_log.specs.Said.{first_of, first_in, step_of, next_at, re
 use varint::Seven;
 
 // The limits of a log's fragments: the largest payload, and the most fragments of a message.
-#[derive(Drop)]
+#[derive(Clone, Copy)]
 pub struct Limits {
     pub payload: usize,
     pub fragments: u32,
 }
 
 // Where the first entry begins and the log's limits, or the refusal.
-#[derive(Drop)]
+#[derive(Clone, Copy)]
 pub enum First {
     At(usize, Limits),
     Refused(u32),
 }
 
 // An entry: its numbers, where its datagram lies and how long it is, and the place after it.
-#[derive(Drop)]
+#[derive(Clone, Copy)]
 pub struct EntryAt {
     pub sender: u64,
     pub tick: u64,
@@ -30,7 +30,7 @@ pub struct EntryAt {
     pub next: usize,
 }
 
-#[derive(Drop)]
+#[derive(Clone, Copy)]
 pub enum Step {
     Found(EntryAt),
     End,

@@ -8,7 +8,7 @@ ghost use Rattle.flight_log.specs.Entries.{entry_bytes, entry_of};
 ghost use Rattle.log_append.specs.Writes.{Began, Appended};
 
 // The place after what was written, or the refusal.
-#[derive(Drop)]
+#[derive(Clone, Copy)]
 pub enum Written {
     Next(usize),
     Refused(u32),
