@@ -24,14 +24,14 @@ pub const SMALL_MAGIC: u32 = 0x4c433032;
 pub const FRAGMENT_MAGIC: u32 = 0x4c433033;
 
 // A part of a datagram: where it begins, and its length.
-#[derive(Drop)]
+#[derive(Clone, Copy)]
 pub struct Place {
     pub at: usize,
     pub len: usize,
 }
 
 // What a datagram of good form says. A small message is told as the only fragment of its payload.
-#[derive(Drop)]
+#[derive(Clone, Copy)]
 pub struct Header {
     pub small: bool,
     pub sequence: u32,
