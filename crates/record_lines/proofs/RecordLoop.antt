@@ -1,14 +1,11 @@
 -- The law of a loop over records: the lines of those that were taken went out, and those of all that is left are still to come. Assumes nothing.
-use Rattle.wire.proofs.Basics.{◌∙◌, sym, ◌≡◌, ap, refl, subst, ℕ, ◌≤◌, ◌+◌, ◌<◌, ◌-◌, suc, List, [], ◌∷◌, ◌++◌, append_assoc, false, Bool, inl, inr, length, drop, take, slice, arith}
-use types.Run.{OneOf}
-use denote.Enum.Declared.{tag_of}
+use Rattle.wire.proofs.Basics.{◌∙◌, sym, ◌≡◌, ap, refl, subst, ℕ, ◌≤◌, ◌+◌, ◌<◌, ◌-◌, suc, List, [], ◌++◌, append_assoc, false, Bool, length, drop, take, slice, arith}
 use Rattle.wire.specs.Slices.{◌⇒◌}
 use Rattle.stream.specs.declared.Kind.{Kind}
 use Rattle.stream.specs.declared.Input.{Input}
 use Rattle.stream.specs.declared.Next.{Next}
 use Rattle.stream.specs.declared.Next.TheVariants.{Record, End, Cut}
 use Rattle.stream.specs.Records.{head_of, unread, Took, Gives}
-use Rattle.stream.specs.contracts.Next.{the_type}
 use Rattle.stream.proofs.Slices.{take-drop}
 use Rattle.output.specs.Output.{closed, Pours, Finishes}
 use Rattle.output.proofs.Sending.{pours-none, pours-then, pours-is, pours-stop, finishes-then, finishes-is, finishes-shut}
@@ -103,9 +100,9 @@ module _ {S : Type 0} {p : Says S} {kind : Kind} {b₀ : List ℕ} {i₀ : Input
         said = finishes-is (finishes-then g.poured f) (ap (λ (l : List ℕ). g.text ++ l) (sym e) ∙ sym (g.still more));
       }
 
-  pub going_end : n < many → (next : Next) → OneOf (1 ∷ 2 ∷ []) (tag_of the_type next) → (c : List ℕ) → Gives kind b i c next
+  pub going_end : n < many → (next : Next) → ((from len : ℕ) (left : Input) → next ≡ Record from len left → ⊥) → (c : List ℕ) → Gives kind b i c next
       → {out' : List ℕ} {r : Bool} → Finishes out at (p.last next n) out' r → Tells kind (lines_after p 0 s₀) b₀ i₀ (out₀ ⇒ out') at₀ r
-  going_end few (Record at len left) o c t f = elim o [ inl z ↦ absurd (let w : ⊥ = omega arith in w) | inr z ↦ absurd (let w : ⊥ = omega arith in w) ]
+  going_end few (Record from len left) o c t f = absurd (o from len left refl)
   going_end few End o c t f =
       let e : many - n ≡ suc (many - (n + 1)) = omega arith in
       ends_as End t.came

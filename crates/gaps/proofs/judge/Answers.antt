@@ -6,11 +6,11 @@ use Rattle.gaps.proofs.judge.Goals as goal
 pub returns-in-Good : goal.returns-in-Good
 returns-in-Good c =
     let w = c.args.w in
-    let e = sym c.read-1.given.1 ∙ c.read_datagram-read.ensures.answer in
+    let e = sym c.in-Good.is ∙ c.read_datagram-read.ensures.answer in
     record { answer = c.see.ensures.answer ∙ ap (said_of w) e; watch = c.see.ensures.watch ∙ ap (after_of w) e }
 
 pub returns-in-Refused : goal.returns-in-Refused
 returns-in-Refused c =
     let w = c.args.w in
-    let e = sym c.read-in-Refused-1.given.1 ∙ c.read_datagram-read.ensures.answer in
+    let e = sym c.in-Refused.is ∙ c.read_datagram-read.ensures.answer in
     record { answer = ap (said_of w) e; watch = ap (after_of w) e }

@@ -8,24 +8,24 @@ use Rattle.gaps.proofs.pour_answer.Goals as goal
 
 pub returns-in-First : goal.returns-in-First
 returns-in-First c =
-    pours-is c.pour.ensures (ap (λ (a : Answer). answer_text (notes a)) (sym c.enum_told-1.given.1))
+    pours-is c.pour.ensures (ap (λ (a : Answer). answer_text (notes a)) (sym c.in-First.is))
 
 pub returns-in-Forward : goal.returns-in-Forward
 returns-in-Forward c =
-    pours-is c.pour_counted_line.ensures (ap (λ (a : Answer). answer_text (notes a)) (sym c.answer-1.given.1))
+    pours-is c.pour_counted_line.ensures (ap (λ (a : Answer). answer_text (notes a)) (sym c.in-Forward.is))
 
 pub returns-in-Same : goal.returns-in-Same
 returns-in-Same c =
-    pours-is c.pour-in-Same.ensures (ap (λ (a : Answer). answer_text (notes a)) (sym c.enum_told-in-Same-1.given.1))
+    pours-is c.pour-in-Same.ensures (ap (λ (a : Answer). answer_text (notes a)) (sym c.in-Same.is))
 
 pub returns-in-Late : goal.returns-in-Late
 returns-in-Late c =
-    pours-is c.pour_counted_line-in-Late.ensures (ap (λ (a : Answer). answer_text (notes a)) (sym c.answer-in-Late-1.given.1))
+    pours-is c.pour_counted_line-in-Late.ensures (ap (λ (a : Answer). answer_text (notes a)) (sym c.in-Late.is))
 
 pub returns-in-Restarted : goal.returns-in-Restarted
 returns-in-Restarted c =
-    pours-is c.pour_counted_line-in-Restarted.ensures (ap (λ (a : Answer). answer_text (notes a)) (sym c.answer-in-Restarted-1.given.1))
+    pours-is c.pour_counted_line-in-Restarted.ensures (ap (λ (a : Answer). answer_text (notes a)) (sym c.in-Restarted.is))
 
 pub returns-in-Refused : goal.returns-in-Refused
 returns-in-Refused c =
-    pours-is c.pour_counted_line-in-Refused.ensures (ap (λ (a : Answer). answer_text (notes a)) (sym c.answer-in-Refused-1.given.1))
+    pours-is c.pour_counted_line-in-Refused.ensures (ap (λ (a : Answer). answer_text (notes a)) (sym c.in-Refused.is))

@@ -15,7 +15,7 @@ loop-n-init c =
 
 pub returns-in_default : goal.returns-in_default
 returns-in_default c =
-    going_end c.loop-n.invariant.1 c.loop-n-test.true c.next_record-next.result c.in_default.keys2 _ c.next_record-next.ensures c.finish.ensures
+    going_end c.loop-n.invariant.1 c.loop-n-test.true c.next_record-next.result c.in_default.not-Record _ c.next_record-next.ensures c.finish.ensures
 
 pub returns-then-at : goal.returns-then-at
 returns-then-at c =
@@ -23,7 +23,7 @@ returns-then-at c =
     let d = c.judge-seen.ensures in
     let e = sym (d.watch ∙ ap (λ (b : List ℕ). after_of w (read_datagram_lem max_payload max_fragments b)) c.part.ensures) in
     let q = pours-is c.pour_line-at.ensures (ap (line _) (d.answer ∙ ap (λ (b : List ℕ). said_of w (read_datagram_lem max_payload max_fragments b)) c.part.ensures)) in
-    going-shut (going-to (going_more c.loop-n.invariant.1 c.loop-n-test.true c.next_record-next.ensures c.next-1.given.1 c.next_record-next.auto.0 q) e) c.if-at.true
+    going-shut (going-to (going_more c.loop-n.invariant.1 c.loop-n-test.true c.next_record-next.ensures c.in-Record.is c.next_record-next.auto.buf q) e) c.if-at.true
 
 pub loop-n-preserved : goal.loop-n-preserved
 loop-n-preserved c =
@@ -32,7 +32,7 @@ loop-n-preserved c =
     let e = sym (d.watch ∙ ap (λ (b : List ℕ). after_of w (read_datagram_lem max_payload max_fragments b)) c.part.ensures) in
     let q = pours-is c.pour_line-at.ensures (ap (line _) (d.answer ∙ ap (λ (b : List ℕ). said_of w (read_datagram_lem max_payload max_fragments b)) c.part.ensures)) in (
       search rules,
-      going-to (going_more c.loop-n.invariant.1 c.loop-n-test.true c.next_record-next.ensures c.next-1.given.1 c.next_record-next.auto.0 q) e,
+      going-to (going_more c.loop-n.invariant.1 c.loop-n-test.true c.next_record-next.ensures c.in-Record.is c.next_record-next.auto.buf q) e,
     )
 
 pub returns : goal.returns
