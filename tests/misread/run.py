@@ -9,7 +9,7 @@ tests/misread/run --all --code         runs of the code alone; --definitions wha
 tests/misread/run --find WORD..        looks for what holds those that name nothing, and writes it into their files; with --code or --definitions one of the two
 tests/misread/run --figures            the table of figures, as the files have it; nothing is tried
 
-It needs the proved libraries of target/ (`rt check`). It writes to a folder of its own, which it removes."""
+It needs the proved libraries (`rt ci`, or `tools/prove`). It writes to a folder of its own, which it removes."""
 import hashlib
 import os
 import shutil
@@ -35,7 +35,7 @@ NEAR = {
     "survey-messages": ["lmcp", "marked"],
     "acknowledge-blocks": ["ack_blocks", "ack_writer", "block_laws"],
     "gauge": ["moss", "moss_writer", "gauge_watch", "block_laws"],
-    "log": ["varint", "log", "log_append", "log_reader"],
+    "log": ["varint", "flight_log", "log_append", "log_reader"],
     "names": ["names", "datagram"],
     "watch": ["differences", "watch", "watch_laws", "gauge_watch", "marked"],
     "datagrams": ["forms", "datagram", "parts", "cutter", "marked"],
@@ -244,8 +244,8 @@ def main():
         print("\n".join([figures(some)] + [f"by nothing: {c}" for c in some if not c.held]))
         rows.held(cases.all_cases(os.path.join(here, "cases")))
         return
-    if not os.path.isdir(os.path.join(ROOT, "target", "rlib")):
-        sys.exit("nothing is proved: rt check")
+    if not os.path.isdir(os.path.join(ROOT, "crates", "wire", "out", "rlib", "wire.rlib")):
+        sys.exit("nothing is proved: rt ci")
     with tempfile.TemporaryDirectory() as work:
         trial = Trial(work)
         kinds = ("run", "test") if "--code" in words else ("case", "theorem") if "--definitions" in words else ("run", "test", "case", "theorem")

@@ -1,7 +1,7 @@
 """The theory tree: the crates without any function. Types, constants, definitions and theorem modules stay; of the theorem modules only what a theorem that the pages name, or a
 computed case, rests on. What such a crate refuses is refused by a theorem or by a case, and not because the code is other than its contract.
 
-A crate of it is checked over the proved libraries of target/rlib, so that only the crates from a changed definition up to the one that may refuse it are checked."""
+A crate of it is checked over the proved libraries, crates/NAME/out/rlib, so that only the crates from a changed definition up to the one that may refuse it are checked."""
 import os
 import re
 import shutil
@@ -13,7 +13,7 @@ from specs import Project
 # Crates whose theorems tie definitions to the words of the code: a definition is not held by them. Their definitions stay, and what the theorems of others rest on.
 BRIDGES = set("memory memory_places held_bits fragment_fit slots slot_turns receiver_state verdict receiver open_and_payload receiver_laws pit_marks pit_payloads count stretch host_count".split())
 # Crates of functions alone.
-CODE = set("checksum lmcp_check lmcp_reader lmcp_size lmcp_writer host host_append host_state host_receiver host_flight host_index host_index_file host_season host_pits host_marks host_acks host_gauge host_messages".split())
+CODE = set("checksum lmcp_check lmcp_reader lmcp_size lmcp_writer host host_append host_state host_receiver host_flight host_index host_index_file host_season host_pits host_marks host_acks host_gauge host_messages host_state_c host_receiver_c host_index_c host_count_c".split())
 # Modules of computed cases.
 CASES = set("Worked Works Answered Computed Marks Wide Needed StrangersWork Shown StepCases".split())
 # Theorems that the pages name by one word.
@@ -26,21 +26,35 @@ def without_functions(text):
     """A source file without its functions, and without the imports that only these used."""
     kept, lines, k = [], text.split("\n"), 0
     while k < len(lines):
-        if re.match(r'(pub )?(extern "C" )?fn ', lines[k]):
-            while not lines[k].startswith("}"):
+        line, wide = lines[k], lines[k]
+        # a `use` that goes over lines, as one
+        while re.match(r"(pub |ghost )*use ", wide) and ";" not in wide:
+            k += 1
+            wide += " " + lines[k].strip()
+        if re.match(r'(pub )?(extern "C" )?fn ', line):
+            while not (lines[k].startswith("}") or re.match(r"\S.*\{.*\}$", lines[k])):
                 k += 1
-        elif not re.match(r"(//|#\[|ghost use )", lines[k]):
-            kept.append(lines[k])
+        elif not re.match(r"(//|#\[(?!derive)|ghost use )", line):
+            kept.append(wide)
         k += 1
     body = "\n".join(x for x in kept if not re.match(r"(pub )?use ", x))
     out = []
     for line in kept:
-        use = re.match(r"(pub )?use [\w:]+?(\w+)(?: as (\w+))?;", line)
-        name = use and (use[3] or use[2])
-        if use and not (name[0].isupper() and not name.isupper() if use[1] else re.search(rf"\b{name}\b", body)):
-            continue
-        out.append(line)
+        use = re.match(r"(pub )?use ([\w:]+?)(?:::\{([^{}]*)\}|(?: as (\w+))?);", line)
+        if use:
+            path, _, last = use[2].rpartition("::")
+            all_names = [x.strip() for x in use[3].split(",") if x.strip()] if use[3] is not None else [last + (f" as {use[4]}" if use[4] else "")]
+            names = [x for x in all_names if stays(x.split(" as ")[-1], use[1], body)]
+            path = use[2] if use[3] is not None else path
+            line = f"{use[1] or ''}use {path}::{{{', '.join(names)}}};" if len(names) > 1 else f"{use[1] or ''}use {path}::{names[0]};" if names else None
+        if line is not None:
+            out.append(line)
     return re.sub(r"\n{3,}", "\n\n", "\n".join(out).lstrip("\n"))
+
+
+def stays(name, passed_on, body):
+    """Whether an import is of use where there are no functions: a type that is passed on, or a name that stands in the rest."""
+    return name[0].isupper() and not name.isupper() if passed_on else re.search(rf"\b{name}\b", body)
 
 
 def is_theory(project, crate):
@@ -103,7 +117,7 @@ class Module:
     def __init__(self, path, text):
         self.path, self.crate, self.name = path, path.split("/")[1], os.path.basename(path)[:-5]
         self.chunks = chunks(text.split("\n"))
-        self.imports = set(re.findall(r"(?m)^(?:unfoldable |pub )*use Rattle·(\w+?)(?:·proofs)?\.proofs\.(\w+)", text))
+        self.imports = set(re.findall(r"(?m)^(?:unfoldable |pub )*use Rattle\.(\w+)\.proofs\.(\w+)", text))
         self.by_name = {}
         self.settle(self.chunks, [])
 
@@ -141,7 +155,7 @@ class Tree:
     def named(self):
         """What the pages name between backquotes."""
         text = "".join(self.text(f"docs/{name}") for name in sorted(os.listdir(os.path.join(self.project.root, "docs"))) if name.endswith(".md"))
-        return {x for x in re.findall(r"`([^`\s]+)`", text) if "-" in x or x in WORDS}
+        return {x for x in re.findall(r"`([^`\s]+)`", text) if "-" in x or "_" in x or x in WORDS}
 
     def keep(self):
         """Marks what named theorems and computed cases rest on, those too."""
@@ -169,7 +183,7 @@ class Tree:
             for module in self.modules.values():
                 if module.crate == crate:
                     text = "\n".join(line for chunk in module.chunks for line in chunk.written()) + "\n"
-                    self.put(module.path, re.sub(r"(?m)^((?:unfoldable |pub )*use Rattle·(\w+?)(?:·proofs)?\.proofs\.(\w+))\.\{([^}]*)\}\n", self.use, text))
+                    self.put(module.path, re.sub(r"(?m)^((?:unfoldable |pub )*use Rattle\.(\w+)\.proofs\.(\w+))\.\{([^}]*)\}\n", self.use, text))
             if os.path.exists(os.path.join(self.project.root, "crates", crate, "proofs", "Lib.antt")):
                 self.put(f"crates/{crate}/proofs/Lib.antt", self.text(f"crates/{crate}/proofs/Lib.antt"))
 
@@ -250,12 +264,12 @@ class Theory:
     def build(self, tree, crate, rlib):
         """Checks a crate of a tree over the libraries of a folder, and puts its own there."""
         file = os.path.join(tree, "crates", crate, "src", "lib.rt")
-        words = [os.path.join(self.kit.own, "bin", "rattle"), "build", "--crate-name", crate, file, "--extern", f"std={self.kit.own}/rlib/std.rlib"]
+        words = [os.path.join(self.kit.home, "bin", "rattle"), "build", "--crate-name", crate, file, "--extern", f"std={self.kit.home}/rlibs/std.rlib"]
         for name in self.crates[crate]:
             if name in self.tree.crates:
                 words += ["--extern", f"{name}={rlib}/{name}.rlib"]
-        words += ["-L", f"dependency={rlib}", "-L", f"dependency={self.kit.own}/rlib", "--antt-project", os.path.join(self.kit.home, "logic", "antt-project.json")]
-        words += ["--logic-built", os.path.join(self.kit.own, "logic-built"), "-o", os.path.join(rlib, crate + ".rlib")]
+        words += ["-L", f"dependency={rlib}", "-L", f"dependency={self.kit.home}/rlibs", "--antt-project", os.path.join(self.kit.home, "rattle", "logic", "antt-project.json")]
+        words += ["--logic-built", os.path.join(self.kit.home, "logic_built"), "-o", os.path.join(rlib, crate + ".rlib")]
         done = subprocess.run(words, capture_output=True, text=True)
         return done.returncode, done.stdout + done.stderr
 
@@ -264,10 +278,10 @@ class Theory:
         rlib = os.path.join(self.work, "rlib")
         shutil.rmtree(rlib, ignore_errors=True)
         os.makedirs(rlib)
-        proved = os.path.join(self.root, "target", "rlib")
-        for name in os.listdir(proved) if os.path.isdir(proved) else []:
-            if name[:-5] not in again:
-                os.symlink(os.path.join(os.path.abspath(proved), name), os.path.join(rlib, name))
+        for name in self.crates:
+            proved = os.path.join(os.path.abspath(self.root), "crates", name, "out", "rlib", name + ".rlib")
+            if name not in again and os.path.isdir(proved):
+                os.symlink(proved, os.path.join(rlib, name + ".rlib"))
         return rlib
 
     def tried(self, edits, applied, to):
