@@ -12,14 +12,14 @@ use datagram::Read;
 use flight_log::{First, Limits, Step};
 
 // How many rows the index has now.
-#[derive(Drop)]
+#[derive(Clone, Copy)]
 pub enum Indexed {
     Entries(usize),
     Refused(u32),
 }
 
 // The rows of an index, and those that wait in a batch.
-#[derive(Drop)]
+#[derive(Clone, Copy)]
 struct Held {
     rows: usize,
     waiting: usize,
