@@ -8,7 +8,7 @@
    qm_index_on), libhost_index_file.a (qm_index_file_write, qm_index_file_head, qm_index_file_rows, qm_index_file_find), libhost_count.a (qm_count),
    libhost_season.a (qm_count_on), libhost_pits.a (qm_count_lines, qm_pits), libhost_marks.a (qm_read_message, qm_marks), libhost_acks.a
    (qm_acks_ask, qm_acks_write), libhost_gauge.a (qm_moss_read, qm_moss_message, qm_moss_write, qm_gauge_see) and libhost_messages.a
-   (qm_write_message), or those whose functions are called: the toolchain's `rt staticlib host`, `rt staticlib host_state` and so on write them
+   (qm_write_message), or those whose functions are called: `tools/archive host`, `tools/archive host_state` and so on write them
    (x86-64 Linux). No other header is needed.
 
    What holds for all of them:

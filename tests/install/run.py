@@ -1,10 +1,9 @@
 """tools/install: what it lays down works away from this tree. A host is built in an empty folder with what pkg-config says, examples/van.c, by the command that stands
 in it, and what it prints is held to the models; the header's wrappers are held to the plain calls; the header is C and C++ without a warning; the calls need the stack
-that the header says; one version is told everywhere; the installed qm and page are those of the tree; the man pages have every command. Where the machine is no x86-64
-the toolchain compiles and its emulator runs."""
+that the header says; one version is told everywhere; the installed qm and page are those of the tree; the man pages have every command. Where the machine has no
+compiler the toolchain's compiles."""
 import glob
 import os
-import platform
 import re
 import shutil
 import subprocess
@@ -21,7 +20,7 @@ from model.watch import Watch
 
 HERE = os.path.dirname(os.path.abspath(__file__))
 CLANG = os.path.join(built.TOOLS, "bin", "clang")
-NATIVE = platform.machine() == "x86_64" and shutil.which("cc")
+NATIVE = shutil.which("cc")
 
 
 def ran(words, **how):

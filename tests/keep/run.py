@@ -478,7 +478,7 @@ def killed(folder):
     cuts = []
     begun = time.monotonic()
     qm("keep", path)
-    # how long to start takes here, and under an emulator; then it is found out how long to wait so that it is killed while it writes
+    # how long to start takes here; then it is found out how long to wait so that it is killed while it writes
     wait = time.monotonic() - begun
     # on a busy machine the moment is missed more often
     while kills < KILLS or (inside < ENOUGH and kills < 5 * KILLS):

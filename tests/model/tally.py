@@ -18,7 +18,7 @@ def held(good, what, got="", expected=""):
 
 
 def side_by_side(do, things):
-    """Does something with each thing and its number, as many at a time as there are processors: a program under the emulator takes long to start."""
+    """Does something with each thing and its number, as many at a time as there are processors."""
     with ThreadPoolExecutor(os.cpu_count()) as pool:
         list(pool.map(do, range(len(things)), things))
 

@@ -133,8 +133,8 @@ def full(folder):
 
 def memory(folder):
     """What is long needs no more memory: half a million pits, of which none is told; a million datagrams, each another."""
-    if "QM" in os.environ or len(built.RUN) > 3:
-        return print("the memory of another qm, or of one under the emulator, is not looked at")
+    if "QM" in os.environ:
+        return print("the memory of another qm is not looked at")
     lists = [messages.write([1, 5, 9, 4096] + [n for pit in range(at, at + 4096) for n in (4, pit, 1, 0)], True) for at in range(0, 500_000, 4096)]
     for what, wanted, sent in [("pits", 3, [d for i, p in enumerate(lists) for d in cut(i, b"TILE", p, 60000)]), ("datagrams", 0, [i.to_bytes(4, "big") for i in range(1_100_000)])]:
         path = os.path.join(folder, f"{what}.log")
