@@ -17,7 +17,7 @@ pub const HEAD_LENGTH: usize = 1 + 8 + 8;
 pub const ROW_LENGTH: usize = 8 + 4 + 8;
 
 // A row of an index: the sender and the sequence of an entry, and where it begins in the log.
-#[derive(Drop)]
+#[derive(Clone, Copy)]
 pub struct FileRow {
     pub sender: u64,
     pub sequence: u64,
@@ -25,7 +25,7 @@ pub struct FileRow {
 }
 
 // How many bytes of the log it covers and how many rows it has, or the refusal.
-#[derive(Drop)]
+#[derive(Clone, Copy)]
 pub enum Head {
     Of(u64, usize),
     Refused(u32),

@@ -16,7 +16,7 @@ use index_file::{FileRow, Head};
 use log_index::Found;
 
 // Where the first entry of a key begins in the log, or the refusal.
-#[derive(Drop)]
+#[derive(Clone, Copy)]
 pub enum Looked {
     At(u64),
     Nowhere,
