@@ -2,21 +2,21 @@
 #![tactic(auto)]
 
 // A message's key. The sequence has 64 bits, since a lent state holds it in such a word.
-#[derive(Drop)]
+#[derive(Clone, Copy)]
 pub struct Key {
     pub sender: u64,
     pub sequence: u64,
 }
 
 // Where a delivered payload begins: in the datagram, or in the store.
-#[derive(Drop)]
+#[derive(Clone, Copy)]
 pub enum PayloadAt {
     InDatagram(usize),
     InStore(usize),
 }
 
 // The answer to a datagram.
-#[derive(Drop)]
+#[derive(Clone, Copy)]
 pub enum Answer {
     // by the number of document 01
     Refused(u32),
@@ -27,7 +27,7 @@ pub enum Answer {
 }
 
 // The key of the slot that was emptied for another message.
-#[derive(Drop)]
+#[derive(Clone, Copy)]
 pub enum Emptied {
     Nobody,
     Was(Key),
