@@ -48,14 +48,14 @@ pub enum Call {
 }
 
 // The slot to take, which is free now, and the key that was emptied for it.
-#[derive(Drop)]
+#[derive(Clone, Copy)]
 struct Seat {
     at: usize,
     emptied: Emptied,
 }
 
 // What is to be done once a slot is open: a fragment is held in one place of the code, whether it joins a message or begins one.
-#[derive(Drop)]
+#[derive(Clone, Copy)]
 enum Plan {
     Refuse(u32),
     Again,
