@@ -9,7 +9,7 @@ ghost use Rattle.index_file.specs.Files.{row_said};
 ghost use Rattle.index_writer.specs.Writes.{WritesFile};
 ghost use Rattle.index_writer.specs.Inside.{Holds};
 
-use index_file::file_row;
+use index_file::FileRow;
 
 // The head of n rows.
 fn put_head(file: &mut [u8], covered: u64, n: usize)
