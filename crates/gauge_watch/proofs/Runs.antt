@@ -54,13 +54,16 @@ module _ {g : Gauge} {s : List ℕ} {e : ℕ} (at : Expects g s e) where
 
 -- ---- runs
 
+left-out-by : (s : List ℕ) (e : ℕ) (g : Gauge) (xs : List ℕ) (bs : List (List ℕ)) → Expects g s e → LeavesOut s e xs bs → noted_all g bs ≡ map forward xs
+left-out-by s e g xs bs at done = refl
+left-out-by s e g xs bs at (next {x = x} {xs = ys} {b = b} {bs = cs} f l) =
+    let n = follows-forward at f in
+    let t = left-out-by s (next_after f.packet) (after g (packet_of b)) ys cs (after-forward at b f.packet x f.reads f.session n) l in
+    λ i. n i ∷ t i
+
 -- over a run of packets of one session, what is reported missing before each is what was left out before it
 pub left_out : (g : Gauge) (s : List ℕ) (e : ℕ) (xs : List ℕ) (bs : List (List ℕ)) → Expects g s e → LeavesOut s e xs bs → noted_all g bs ≡ map forward xs
-left_out g s e xs bs at done = refl
-left_out g s e xs bs at (next {x = x} {xs = ys} {b = b} {bs = cs} f l) =
-    let n = follows-forward at f in
-    let t = left_out (after g (packet_of b)) s (next_after f.packet) ys cs (after-forward at b f.packet x f.reads f.session n) l in
-    λ i. n i ∷ t i
+left_out g s e xs bs at l = left-out-by s e g xs bs at l
 
 map-none : (k : ℕ) → map forward (replicate k 0) ≡ replicate k (forward 0)
 map-none zero = refl

@@ -14,7 +14,7 @@ use differences::Answer;
 use moss::{Header, Read};
 
 // The session that goes on, if one was heard, and the number of its last message.
-#[derive(Drop)]
+#[derive(Clone, Copy)]
 pub struct Gauge {
     pub session: [u8; moss::SESSION],
     pub last: u32,
@@ -22,7 +22,7 @@ pub struct Gauge {
 }
 
 // The answer and the gauge afterwards.
-#[derive(Drop)]
+#[derive(Clone, Copy)]
 pub struct Heard {
     pub answer: Answer,
     pub gauge: Gauge,

@@ -34,7 +34,7 @@ pub const H: u8 = b'H';
 pub const E: u8 = b'E';
 
 // A packet's numbers: where its session stands, its sequence, its type, its count of messages.
-#[derive(Drop)]
+#[derive(Clone, Copy)]
 pub struct Header {
     pub session: usize,
     pub sequence: u32,
