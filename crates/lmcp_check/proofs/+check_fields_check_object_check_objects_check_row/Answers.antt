@@ -116,7 +116,7 @@ pub check_object-check_fields-requires : goal.check_object-check_fields-requires
 check_object-check_fields-requires t c =
     let a = c.args in
     let y = object-some a.version a.deep a.declared a.s.now a.at c.requires.short c.head_of-t.result c.head_of-t.ensures c.if-t-eq0.false c.if-t-ge-FAULT.false in
-    (omega (arith, y.0), (record { short = c.requires.short; inside = y.1.1; packed = c.requires.packed }, y.1.0))
+    (omega (arith, y.0), (record { short = c.requires.short; inside = omega (arith, y.1.1); packed = c.requires.packed }, omega (arith, y.1.0)))
 
 pub check_object-returns : goal.check_object-returns
 check_object-returns t c =

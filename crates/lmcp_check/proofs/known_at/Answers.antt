@@ -34,7 +34,7 @@ pub returns-then-two-version : goal.returns-then-two-version
 returns-then-two-version c =
     let a = c.args in
     not-version (pitsurv a.version) a.declared (drop a.at a.s.now)
-    (λ e. c.if-two-version.true (c.two.ensures.0 ∙ ap (be 2) (sym (drop-drop 12 a.at a.s.now)) ∙ e))
+    (λ e. let q = c.two.ensures.0 ∙ ap (be 2) (sym (drop-drop 12 a.at a.s.now)) ∙ e in let y : ⊥ = omega (arith, c.if-two-version.true) in y)
 
 pub returns : goal.returns
 unfolding be
