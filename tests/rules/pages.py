@@ -59,7 +59,7 @@ def defines(text, name):
 def cited(faults, contracts, paper):
     """Every name that CONTRACTS and PAPER cite stands in the crates, outside comments; and where PAPER cites a file of specs/ (`crate/File` sets it for the names
     after it in a row), it is defined there."""
-    sources = {path: bare(path, read(path)) for kind in ("antt", "rt") for path in glob.glob(f"crates/**/*.{kind}", recursive=True)}
+    sources = {path: bare(path, read(path)) for kind in ("antt", "rt") for path in glob.glob(f"crates/**/*.{kind}", recursive=True) if path.split("/")[2] != "out"}
     for row in paper.split("\n"):
         where = None
         for word in re.findall(r"`([^`]+)`", row.rpartition(" | ")[2]):
