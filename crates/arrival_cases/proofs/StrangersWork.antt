@@ -10,7 +10,7 @@ use Rattle.steps.specs.Held.{none_held, is_held, hold}
 use Rattle.steps.specs.Memory.{among, empty_memory, is_remembered_lem, remember, place_for_lem, with_key, memory_ok, forget_keys}
 use Rattle.steps.specs.Slots.{oldest, open_count_lem, lower, release, release_of, seat, opening, filled}
 use Rattle.steps.specs.Receive.{opened, stay, same_fragment_lem, agrees, step3, decide, step5, act, receive, sound, step, forget}
-use Rattle.steps.specs.Runs.{World, Arrival, from, call, run, left_by}
+use Rattle.steps.specs.Runs.{World, world_of, Arrival, from, call, run, left_by}
 use Rattle.steps.specs.Limits.{ledger_length, slot_size_of}
 use Rattle.steps.specs.Answers.{emptied_key}
 use Rattle.steps.specs.Reach.{Reached, opens, receives, forgets, is_open, is_accepted, opens_slot}
@@ -30,7 +30,7 @@ use Rattle.arrival.proofs.Strangers.{strangers}
 run-reached : {n : ℕ} (w : World) → Reached n w.machine → (xs : List Arrival) → Reached n (left_by w (run w xs)).machine
 unfolding run
 run-reached w r [] = r
-run-reached w r (x ∷ xs) = run-reached _ (receives r w.store w.ledger x.sender x.datagram) xs
+run-reached w r (x ∷ xs) = run-reached (world_of (call w x)) (receives r w.store w.ledger x.sender x.datagram) xs
 
 fresh-reached : Reached 32 in_fours.machine
 unfolding in_fours
