@@ -1,0 +1,17 @@
+-- List by list. The loop's invariant: the lists taken have their lines. Assumes nothing.
+use Rattle.wire.proofs.Basics.{◌≡◌, ℕ, ◌-◌, length}
+use Rattle.stream.specs.declared.Kind.TheVariants.{Numbers}
+use Rattle.record_lines.specs.Streams.{many}
+use Rattle.record_lines.specs.Lines.{each, Says}
+use Rattle.record_lines.proofs.RecordLoop.{Going}
+use Rattle.lmcp_bytes.specs.Lines.{line}
+use Rattle.lmcp_bytes.proofs.run.Given as goal
+
+abbrev says : ℕ → ℕ → Says Unit
+says most room = each (line most room)
+
+abbrev pub invariant-loop-n : goal.invariant-loop-n
+invariant-loop-n l = (length l.list ≡ length l.initial.list) × (length l.bytes ≡ length l.initial.bytes) × (length l.out ≡ length l.initial.out) × Going (says (length l.initial.list) (length l.initial.bytes)) Numbers l.initial.buf l.initial.rest tt l.initial.out 0 l.buf l.rest tt l.out l.at l.n
+
+abbrev pub decreases-loop-n : goal.decreases-loop-n
+decreases-loop-n l = many - l.n
