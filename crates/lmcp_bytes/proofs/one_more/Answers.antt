@@ -30,17 +30,17 @@ pub returns : goal.returns
 returns c =
     let a = c.args in
     let vs = numbers_of (length a.body.now / 8) a.body.now in
-    let e : take c.take_list-count.result c.take_list-count.new.1.0 ≡ vs =
+    let e : take c.take_list-count.result c.take_list-count.new.list ≡ vs =
     (λ i. take (c.take_list-count.ensures.0 i) (c.take_list-count.ensures.1 i))
     ∙ ap (λ (k : ℕ). take k (sets a.list.now 0 vs)) (sym (length-numbers (signed 64) (length a.body.now / 8) a.body.now))
     ∙ front_of a.list.now vs (omega (arith, length-numbers (signed 64) (length a.body.now / 8) a.body.now, c.if-list-body.false)) in
-    let u = subst (λ (x : List ℤ). WrittenTo (write_list a.calculate x) a.bytes.now c.write_message-made.result c.write_message-made.new.1.1.0) (c.front.ensures ∙ e)
+    let u = subst (λ (x : List ℤ). WrittenTo (write_list a.calculate x) a.bytes.now c.write_message-made.result c.write_message-made.new.out) (c.front.ensures ∙ e)
     c.write_message-made.ensures in
     record {
       held =
           subst
           (λ (b : Bool). by_length b a.calculate a.body.now (record { list = a.list.now; bytes = a.bytes.now; out = a.out.now })
-          (record { list = c.take_list-count.new.1.0; bytes = c.write_message-made.new.1.1.0; out = c.pour_made.new.out }))
+          (record { list = c.take_list-count.new.list; bytes = c.write_message-made.new.out; out = c.pour_made.new.out }))
           (sym (le-ltb (length a.list.now) (length a.body.now / 8) c.if-list-body.false))
           (record { taken = c.take_list-count.ensures.1; made = c.write_message-made.result; written = u });
       said =

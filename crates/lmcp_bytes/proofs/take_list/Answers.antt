@@ -13,10 +13,9 @@ loop-i-init c = (omega arith, refl, refl)
 
 pub loop-i-preserved : goal.loop-i-preserved
 loop-i-preserved c =
-    let s = c in
     let b = c.args.body.now in
-    let z : ℤ = to_z w64 (of_z w64 s.Signed-of.result) in
-    let e = to_z-of_z w64 s.Signed-of.result (record { sfits = s.Signed-of.type-inv }) ∙ s.Signed-of.ensures ∙ ap (signed 64) c.number.ensures.value in
+    let z : ℤ = to_z w64 (of_z w64 c.signed_of-z.result) in
+    let e = to_z-of_z w64 c.signed_of-z.result (record { sfits = c.signed_of-z.type_inv }) ∙ c.signed_of-z.ensures ∙ ap (signed 64) c.number.ensures.value in
     let q = ap (λ (x : List ℤ). set x c.loop-i.i z) c.loop-i.invariant.2 ∙ taken-one (signed 64) c.args.list.now c.loop-i.i b z e in
     (omega arith, ap length q ∙ length-sets c.args.list.now 0 (numbers_of (c.loop-i.i + 1) b), q)
 

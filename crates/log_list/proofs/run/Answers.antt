@@ -4,8 +4,8 @@ use Rattle.log_list.proofs.run.Goals as goal
 
 pub returns-in-Whole : goal.returns-in-Whole
 returns-in-Whole c =
-    tells-whole c.read_all-all.new.out c.read_all-all.ensures c.in-Whole.is c.part.ensures c.listed.ensures
+    tells-whole c.read_all-all.new.buf c.read_all-all.ensures c.in-Whole.is c.part.ensures c.listed.ensures
 
 pub returns-in-Longer : goal.returns-in-Longer
 returns-in-Longer c =
-    tells_longer c.read_all-all.new.out c.read_all-all.ensures c.in-Longer.is c.read_all-all.auto.out c.finish_longer.ensures
+    tells_longer c.read_all-all.new.buf c.read_all-all.ensures c.in-Longer.is c.read_all-all.auto.buf c.finish_longer.ensures
