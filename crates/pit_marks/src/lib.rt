@@ -7,7 +7,7 @@ ghost use Rattle.wire.specs.Choice.{pick};
 ghost use Rattle.count_rules.specs.Marks.{at, mark_length, mark_at, marks_in};
 ghost use Rattle.count_rules.specs.Keys.{span};
 ghost use Rattle.wire.specs.Slices.{buffer};
-ghost use Rattle.pit_marks.specs.Sets.{sets_before, sets_after};
+ghost use Rattle.pit_marks.specs.Sets.{sets_of, sets_before, sets_after};
 ghost use Rattle.pit_marks.specs.Enters.{key_in, enter_pit_lem, enter_marks, EntersList};
 ghost use Rattle.pit_marks.specs.Inside.{EntersSure, Leaves, Past};
 ghost use Rattle.pit_marks.specs.Lines.{end_of, pits_in, Lays};
@@ -237,7 +237,7 @@ pub fn put_lines(
     sure: &[u64],
     had: Sizes,
 )
-    ensures { Lays (sets_before tiles pits sure) had (buffer tile) (buffer pit) (buffer certain) }
+    ensures { Lays (sets_of tiles.now pits.now sure.now) had (buffer tile) (buffer pit) (buffer certain) }
 {
     let n = had.tiles;
     let mut i: usize = 0;
