@@ -1,7 +1,7 @@
 // Acknowledge blocks. A case is: the first number, how far each lies above the one before it (past the largest it begins anew at 0), how many there
 // are, and the output's length.
-use std::io::Stdout;
 use ack_writer::Written;
+use std::io::Stdout;
 
 // More numbers than any list has whose blocks are singles.
 const NUMBERS: usize = 8192;
@@ -16,7 +16,14 @@ fn rise(list: &mut [u64], first: u64, step: u64) {
     }
 }
 
-fn written_of(stdout: Stdout, out: &mut [u8], at: usize, case: &[u8], list: &mut [u64], room: &mut [u8]) -> usize {
+fn written_of(
+    stdout: Stdout,
+    out: &mut [u8],
+    at: usize,
+    case: &[u8],
+    list: &mut [u64],
+    room: &mut [u8],
+) -> usize {
     let count = wire::least(crate::number(case, 16), list.len());
     rise(
         &mut list[..count],
@@ -31,7 +38,13 @@ fn written_of(stdout: Stdout, out: &mut [u8], at: usize, case: &[u8], list: &mut
     }
 }
 
-pub(crate) fn written(stdout: Stdout, stdout, out: &mut [u8], at: usize, case: &[u8], room: &mut [u8]) -> usize {
+pub(crate) fn written(
+    stdout: Stdout,
+    out: &mut [u8],
+    at: usize,
+    case: &[u8],
+    room: &mut [u8],
+) -> usize {
     let mut list = [0u64; NUMBERS];
     written_of(stdout, out, at, case, &mut list, room)
 }

@@ -1,10 +1,11 @@
 // Message blocks and packets of MossUDP. Every message is so many letters A.
-use std::io::Stdout;
 use moss::Located;
 use moss_writer::Written;
+use std::io::Stdout;
 
 // A message block at a place of the output. A case is: the message's length, the place, and the output's length.
-pub(crate) fn laid(stdout: Stdout, stdout, 
+pub(crate) fn laid(
+    stdout: Stdout,
     out: &mut [u8],
     at: usize,
     case: &[u8],
@@ -53,7 +54,8 @@ fn pour_place(stdout: Stdout, out: &mut [u8], at: usize, packet: &[u8], n: usize
 
 // A packet, and a message of its front. A case is: the type, the messages' length and how many there are, the output's length, how much of the
 // packet is read, and which message.
-pub(crate) fn written(stdout: Stdout, stdout, 
+pub(crate) fn written(
+    stdout: Stdout,
     out: &mut [u8],
     at: usize,
     case: &[u8],
@@ -76,7 +78,13 @@ pub(crate) fn written(stdout: Stdout, stdout,
     match w {
         Written::Bytes(n) => {
             let front = wire::least(n, crate::number(case, 32));
-            pour_place(stdout, out, at, wire::part(room, 0, front), crate::number(case, 40))
+            pour_place(
+                stdout,
+                out,
+                at,
+                wire::part(room, 0, front),
+                crate::number(case, 40),
+            )
         }
         Written::Refused(n) => crate::pour_refused(stdout, out, at, n),
     }

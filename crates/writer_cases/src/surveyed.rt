@@ -1,6 +1,6 @@
 // Survey messages. A case is: 0 to leave the checksum zero, else it is calculated; the output's length; and the list's numbers.
-use std::io::Stdout;
 use lmcp::Made;
+use std::io::Stdout;
 
 // As many numbers as a case may have.
 const NUMBERS: usize = 512;
@@ -26,7 +26,14 @@ fn take(list: &mut [i64], case: &[u8]) {
     }
 }
 
-fn written_of(stdout: Stdout, out: &mut [u8], at: usize, case: &[u8], list: &mut [i64], room: &mut [u8]) -> usize {
+fn written_of(
+    stdout: Stdout,
+    out: &mut [u8],
+    at: usize,
+    case: &[u8],
+    list: &mut [i64],
+    room: &mut [u8],
+) -> usize {
     let count = wire::least(wire::room(case.len() / 8, 2), list.len());
     take(&mut list[..count], case);
     let size = wire::least(crate::number(case, 8), room.len());
@@ -41,7 +48,13 @@ fn written_of(stdout: Stdout, out: &mut [u8], at: usize, case: &[u8], list: &mut
     }
 }
 
-pub(crate) fn written(stdout: Stdout, stdout, out: &mut [u8], at: usize, case: &[u8], room: &mut [u8]) -> usize {
+pub(crate) fn written(
+    stdout: Stdout,
+    out: &mut [u8],
+    at: usize,
+    case: &[u8],
+    room: &mut [u8],
+) -> usize {
     let mut list = [0i64; NUMBERS];
     written_of(stdout, out, at, case, &mut list, room)
 }
