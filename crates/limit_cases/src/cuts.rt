@@ -1,7 +1,7 @@
 // The cutter, and the parts of what it makes. A case is: the letter of the name and its length, the payload's length, M, the datagram asked for,
 // and the length of the output; of the parts, how much of the datagram is read.
-use std::io::Stdout;
 use cutter::Cut;
+use std::io::Stdout;
 
 // The first `room` bytes of d get the datagram that a case asks for.
 fn made(case: &[u8], payload: &[u8], d: &mut [u8], room: usize) -> Cut {
@@ -19,7 +19,14 @@ fn made(case: &[u8], payload: &[u8], d: &mut [u8], room: usize) -> Cut {
 }
 
 // The number of datagrams and the length of the one asked for, or the refusal.
-pub(crate) fn cut(stdout: Stdout, stdout, out: &mut [u8], at: usize, case: &[u8], payload: &[u8], d: &mut [u8]) -> usize {
+pub(crate) fn cut(
+    stdout: Stdout,
+    out: &mut [u8],
+    at: usize,
+    case: &[u8],
+    payload: &[u8],
+    d: &mut [u8],
+) -> usize {
     let cut = made(case, payload, d, crate::number(case, 40));
     match cut {
         Cut::Made { count, len } => {
@@ -46,7 +53,14 @@ fn pour_parts(stdout: Stdout, out: &mut [u8], at: usize, d: &[u8]) -> usize {
 }
 
 // The name part and the payload part of what was made, or of the front of it.
-pub(crate) fn parts(stdout: Stdout, stdout, out: &mut [u8], at: usize, case: &[u8], payload: &[u8], d: &mut [u8]) -> usize {
+pub(crate) fn parts(
+    stdout: Stdout,
+    out: &mut [u8],
+    at: usize,
+    case: &[u8],
+    payload: &[u8],
+    d: &mut [u8],
+) -> usize {
     let cut = made(case, payload, d, d.len());
     pour_parts(stdout, out, at, wire::part(d, 0, front_of(case, cut)))
 }

@@ -3,8 +3,8 @@
 // and two words of a state, each as what it holds and a value.
 ghost use Rattle.std.specs.Prelude.{◌≤◌};
 
-use std::io::Stdout;
 use receiver::Call;
+use std::io::Stdout;
 use steps::Answer;
 
 // The bytes of the store at opening.
@@ -66,7 +66,14 @@ fn pour_call(stdout: Stdout, out: &mut [u8], at: usize, call: Call, done: &[u8])
 }
 
 // The slot size of a store of so many bytes.
-fn opened_in(stdout: Stdout, out: &mut [u8], at: usize, case: &[u8], state: &mut [u64], names: &mut [u8]) -> usize {
+fn opened_in(
+    stdout: Stdout,
+    out: &mut [u8],
+    at: usize,
+    case: &[u8],
+    state: &mut [u64],
+    names: &mut [u8],
+) -> usize {
     let w = wire::least(state_words(case), state.len());
     let b = wire::least(name_bytes(case), names.len());
     let call = open_and_payload::open(&mut state[..w], &mut names[..b], crate::number(case, 16));
@@ -108,7 +115,8 @@ fn pour_answer(stdout: Stdout, out: &mut [u8], at: usize, answer: Answer) -> usi
     }
 }
 
-fn received_in(stdout: Stdout, 
+fn received_in(
+    stdout: Stdout,
     out: &mut [u8],
     at: usize,
     case: &[u8],
@@ -123,7 +131,8 @@ fn received_in(stdout: Stdout,
 }
 
 // What is answered to forgetting sender 0.
-fn forgotten_in(stdout: Stdout, 
+fn forgotten_in(
+    stdout: Stdout,
     out: &mut [u8],
     at: usize,
     case: &[u8],
@@ -138,18 +147,19 @@ fn forgotten_in(stdout: Stdout,
 }
 
 // The same over arrays that are one longer than must be.
-pub(crate) fn opened(stdout: Stdout, stdout, out: &mut [u8], at: usize, case: &[u8]) -> usize {
+pub(crate) fn opened(stdout: Stdout, out: &mut [u8], at: usize, case: &[u8]) -> usize {
     let mut state = [0u64; receiver::STATE_WORDS + 1];
     let mut names = [0u8; receiver::NAME_BYTES + 1];
     opened_in(stdout, out, at, case, &mut state, &mut names)
 }
 
-pub(crate) fn received(stdout: Stdout, stdout, out: &mut [u8], at: usize, case: &[u8]) -> usize {
+pub(crate) fn received(stdout: Stdout, out: &mut [u8], at: usize, case: &[u8]) -> usize {
     let mut state = [0u64; receiver::STATE_WORDS + 1];
     let mut names = [0u8; receiver::NAME_BYTES + 1];
     let mut store = [0u8; 2 * STORE];
     let mut ledger = [0u32; receiver::LEDGER + 1];
-    received_in(stdout, 
+    received_in(
+        stdout,
         out,
         at,
         case,
@@ -160,7 +170,7 @@ pub(crate) fn received(stdout: Stdout, stdout, out: &mut [u8], at: usize, case: 
     )
 }
 
-pub(crate) fn forgotten(stdout: Stdout, stdout, out: &mut [u8], at: usize, case: &[u8]) -> usize {
+pub(crate) fn forgotten(stdout: Stdout, out: &mut [u8], at: usize, case: &[u8]) -> usize {
     let mut state = [0u64; receiver::STATE_WORDS + 1];
     let mut names = [0u8; receiver::NAME_BYTES + 1];
     forgotten_in(stdout, out, at, case, &mut state, &mut names)

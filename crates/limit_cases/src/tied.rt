@@ -4,8 +4,8 @@
 // message comes.
 ghost use Rattle.std.specs.Prelude.{◌≤◌};
 
-use std::io::Stdout;
 use receiver::Outcome;
+use std::io::Stdout;
 use steps::{Answer, Emptied, PayloadAt};
 
 // A small message of one byte, of the name P. Answers its length.
@@ -78,7 +78,13 @@ fn alter(case: &[u8], state: &mut [u64]) {
 fn pour_delivered(stdout: Stdout, out: &mut [u8], at: usize, place: PayloadAt, n: usize) -> usize {
     let next = output::pour_counted(stdout, out, at, b"delivered ", n as u64);
     match place {
-        PayloadAt::InDatagram(p) => output::pour_counted(stdout, out, next, b" datagram ", p as u64),
+        PayloadAt::InDatagram(p) => output::pour_counted(
+            stdout,
+            out,
+            next,
+            b" datagram ",
+            p as u64,
+        ),
         PayloadAt::InStore(p) => output::pour_counted(stdout, out, next, b" store ", p as u64),
     }
 }
@@ -129,7 +135,8 @@ fn received(
 }
 
 // What is answered to it over such a state.
-fn answered_in(stdout: Stdout, 
+fn answered_in(
+    stdout: Stdout,
     out: &mut [u8],
     at: usize,
     case: &[u8],
@@ -145,13 +152,14 @@ fn answered_in(stdout: Stdout,
     pour_outcome(stdout, out, at, outcome)
 }
 
-pub(crate) fn answered(stdout: Stdout, stdout, out: &mut [u8], at: usize, case: &[u8]) -> usize {
+pub(crate) fn answered(stdout: Stdout, out: &mut [u8], at: usize, case: &[u8]) -> usize {
     let mut state = [0u64; receiver::STATE_WORDS];
     let mut names = [0u8; receiver::NAME_BYTES];
     let mut store = [0u8; 64];
     let mut ledger = [0u32; receiver::LEDGER];
     let mut d = [0u8; 23];
-    answered_in(stdout, 
+    answered_in(
+        stdout,
         out,
         at,
         case,

@@ -1,7 +1,7 @@
 // The sequence watch. A case is: how many senders the watch claims, of 1 to 16 in order; the last number of the first; the sender and the number;
 // and how far the last number of each lies above that of the one before it, 0 where the case does not say.
-use std::io::Stdout;
 use differences::Answer;
+use std::io::Stdout;
 use watch::Watch;
 
 // The low 32 bits of a number of a case.
@@ -22,7 +22,7 @@ fn lasts_from(first: u32, step: u32) -> [u32; watch::SENDERS] {
     lasts
 }
 
-pub(crate) fn seen(stdout: Stdout, stdout, out: &mut [u8], at: usize, case: &[u8]) -> usize {
+pub(crate) fn seen(stdout: Stdout, out: &mut [u8], at: usize, case: &[u8]) -> usize {
     let lasts = lasts_from(word(case, 8), word(case, 32));
     let w = Watch {
         senders: [1, 2, 3, 4, 5, 6, 7, 8, 9, 10, 11, 12, 13, 14, 15, 16],
