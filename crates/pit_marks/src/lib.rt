@@ -18,7 +18,7 @@ use sorted_set::Entered;
 const SPAN: u64 = 4294967296;
 
 // How many numbers each set has.
-#[derive(Drop)]
+#[derive(Clone, Copy)]
 pub struct Sizes {
     pub tiles: usize,
     pub pits: usize,

@@ -4,7 +4,7 @@
 ghost use Rattle.std.specs.Prelude.{◌≡◌, ℕ, ◌+◌, ◌<◌, ◌^◌, get_or};
 ghost use Rattle.flight_log.specs.Said.{entry_said};
 ghost use Rattle.receiver.specs.Lent.{lent_before, lent_after};
-ghost use Rattle.pit_marks.specs.Sets.{sets_before, held_in};
+ghost use Rattle.pit_marks.specs.Sets.{held_in, sets_of};
 ghost use Rattle.pit_payloads.specs.Looks.{book_before, book_after};
 ghost use Rattle.stretch.specs.Stretch.{desk, CountsOn};
 ghost use Rattle.stretch.specs.Inside.{Few, one_more_lem, told_of, ran, ran_by_lem, no_totals, stop_of_lem, stopped_at, TakesPayload, TakesEntry};
@@ -27,7 +27,7 @@ pub enum Stop {
 }
 
 // The answers of a stretch (refused[k]: by number k), and the lists entered.
-#[derive(Drop)]
+#[derive(Clone, Copy)]
 pub struct Totals {
     pub kept: u64,
     pub repeated: u64,
@@ -187,7 +187,7 @@ fn one_entry(
 
 // Sizes above what is lent count as what is lent.
 fn held(sizes: Sizes, tiles: &[u64], pits: &[u64], sure: &[u64]) -> Sizes
-    ensures { result ≡ held_in (sets_before tiles pits sure) sizes }
+    ensures { result ≡ held_in (sets_of tiles.now pits.now sure.now) sizes }
 {
     Sizes {
         tiles: wire::least(sizes.tiles, tiles.len()),
