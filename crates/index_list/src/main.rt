@@ -78,9 +78,14 @@ fn run(stdin: Stdin, stdout: Stdout, buf: &mut [u8], index: &mut [u64], out: &mu
     }
 }
 
-fn main(rt: HostRuntime) {
-    let mut buf = [0u8; log_lines::HOLDS];
+// The same over an index and an output of its own.
+fn run_over(stdin: Stdin, stdout: Stdout, buf: &mut [u8]) {
     let mut index = [0u64; index_lines::WORDS];
     let mut out = [0u8; output::HOLDS];
-    run(rt.stdin(), rt.stdout(), &mut buf, &mut index, &mut out);
+    run(stdin, stdout, buf, &mut index, &mut out);
+}
+
+fn main(rt: HostRuntime) {
+    let mut buf = [0u8; log_lines::HOLDS];
+    run_over(rt.stdin(), rt.stdout(), &mut buf);
 }
