@@ -6,7 +6,7 @@ ghost use Rattle.flight_log.specs.Listed.{entries_in};
 ghost use Rattle.count_rules.specs.Count.{max_tiles, no_report, reported};
 ghost use Rattle.count_rules.specs.Marks.{PitList};
 ghost use Rattle.count_rules.specs.Report.{report};
-ghost use Rattle.pit_marks.specs.Sets.{sets_before, Has};
+ghost use Rattle.pit_marks.specs.Sets.{sets_of, Has};
 ghost use Rattle.count.specs.Counts.{counted, loan_before, loan_after, Counts};
 ghost use Rattle.count.specs.Inside.{many, survey_of, Whole, report_with};
 
@@ -123,7 +123,7 @@ fn given(
     pits: &[u64],
     sure: &[u64],
 ) -> Counted
-    ensures { (seen : List PitList) → Has (sets_before tiles pits sure) sizes seen → sizes.tiles ≤ max_tiles → result ≡ counted (reported (report_with entries totals (report seen))) }
+    ensures { (seen : List PitList) → Has (sets_of tiles.now pits.now sure.now) sizes seen → sizes.tiles ≤ max_tiles → result ≡ counted (reported (report_with entries totals (report seen))) }
 {
     let mut tile = [0u64; MAX_TILES];
     let mut pit = [0u64; MAX_TILES];

@@ -8,7 +8,7 @@ ghost use Rattle.log_reader.specs.Reader.{reader_at, step_now, onward};
 
 use flight_log::{Limits, Step};
 
-#[derive(Drop)]
+#[derive(Clone, Copy)]
 pub struct LogReader<'a> {
     pub log: &'a [u8],
     pub at: usize,

@@ -1,0 +1,44 @@
+-- The stretch through a fresh receiver, into empty sets, and then its answer. Assumes nothing.
+use Rattle.wire.proofs.Basics.{◌≡◌, ap, ℕ, [], ◌∷◌, inl, inr, replicate, length-replicate, arith}
+use types.Run.{OneOf}
+use denote.Enum.Declared.{tag_of}
+use Rattle.stretch.specs.contracts.Stop.{the_type}
+use Rattle.wire.specs.Bytes.{Bytes}
+use Rattle.receiver_state.specs.View.{state_words_lem, name_bytes_lem}
+use Rattle.count_rules.specs.Count.{max_tiles, max_pits}
+use Rattle.receiver.specs.Lent.{lent}
+use Rattle.pit_marks.specs.Sets.{sets_of, rooms}
+use Rattle.pit_payloads.specs.Looks.{book}
+use Rattle.stretch.specs.Stretch.{desk}
+use Rattle.count.specs.Inside.{own}
+use Rattle.count.proofs.Ends.{refused-then, given-then}
+use Rattle.count.proofs.afresh.Goals as goal
+use Rattle.count.proofs.afresh.Goals.{After-open}
+
+-- the fourth variant is none of the first three
+
+not_three : (n : ℕ) → n ≡ 3 → OneOf (0 ∷ 1 ∷ 2 ∷ []) n → ⊥
+not_three n e (inl q) = let z : ⊥ = omega arith in z
+not_three n e (inr (inl q)) = let z : ⊥ = omega arith in z
+not_three n e (inr (inr q)) = let z : ⊥ = omega arith in z
+
+empty-rooms : rooms (sets_of (replicate max_tiles 0) (replicate max_pits 0) (replicate max_pits 0)) ≡ own
+empty-rooms = λ i. record { tiles = length-replicate {A = ℕ} max_tiles 0 i; pits = length-replicate {A = ℕ} max_pits 0 i; sure = length-replicate {A = ℕ} max_pits 0 i }
+
+pub returns-in-Refused : goal.returns-in-Refused
+returns-in-Refused c =
+    let o = (goal.at.returns-in-Refused c).After-open in
+    let a = c.args in
+    let b : Bytes a.log.now = λ i. (c.shared_slice_known-1.given i).fits in
+    refused-then a.log.now b a.entries c.requires (desk (lent _ _ _ _) (book _ (sets_of _ _ _))) _ _ o.«open».result o.«open».ensures (length-replicate {A = ℕ} state_words_lem 0)
+    (length-replicate {A = ℕ} name_bytes_lem 0) empty-rooms c.count_on-done.result (desk (lent _ _ _ _) (book _ (sets_of _ _ _))) c.count_on-done.ensures c.in-Refused.e
+    c.in-Refused.is _ c.refused.ensures
+
+pub returns : goal.returns
+returns c =
+    let o = (goal.at.returns c).After-open in
+    let a = c.args in
+    let b : Bytes a.log.now = λ i. (c.shared_slice_known-1.given i).fits in
+    given-then a.log.now b a.entries c.requires (desk (lent _ _ _ _) (book _ (sets_of _ _ _))) _ _ o.«open».result o.«open».ensures (length-replicate {A = ℕ} state_words_lem 0)
+    (length-replicate {A = ℕ} name_bytes_lem 0) empty-rooms c.count_on-done.result (desk (lent _ _ _ _) (book _ (sets_of _ _ _))) c.count_on-done.ensures
+    c.in_default.not-Refused _ c.given.ensures
