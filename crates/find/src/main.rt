@@ -9,7 +9,8 @@ ghost use Rattle.find.specs.Numbers.{with_digit_lem, number_in, says};
 ghost use Rattle.find.specs.Said.{key_line};
 
 use index_builder::Indexed;
-use std::io::{Stdin, Stdout};
+use std::env::{Env, FillError};
+use std::io::{Stderr, Stdin, Stdout, Write};
 use stream::All;
 
 // The largest sender and the largest sequence.
@@ -121,37 +122,57 @@ fn run(
     }
 }
 
-fn looked_up(stdin: Stdin, stdout: Stdout, sender: u64, sequence: u64) {
-    let mut buf = [0u8; log_lines::HOLDS];
+// The same over an index and an output of its own.
+fn run_over(stdin: Stdin, stdout: Stdout, buf: &mut [u8], sender: u64, sequence: u64) {
     let mut index = [0u64; index_lines::WORDS];
     let mut out = [0u8; 4096];
-    run(
-        stdin, stdout, &mut buf, &mut index, &mut out, sender, sequence,
-    );
+    run(stdin, stdout, buf, &mut index, &mut out, sender, sequence);
 }
 
-fn usage() {
-    io::write_all(libc::STDERR_FILENO, b"usage: find SENDER SEQUENCE < LOG\n");
+fn looked_up(stdin: Stdin, stdout: Stdout, sender: u64, sequence: u64) {
+    let mut buf = [0u8; log_lines::HOLDS];
+    run_over(stdin, stdout, &mut buf, sender, sequence);
+}
+
+fn usage(stderr: Stderr) {
+    let mut writer = stderr;
+    let _ = writer.write_all(b"usage: find SENDER SEQUENCE < LOG\n");
+}
+
+// Whether there is an argument i.
+fn given<R: Env>(rt: &R, i: usize) -> bool {
+    let mut text = [0u8; 64];
+    match rt.arg(i, &mut text) {
+        Err(FillError::NotPresent) => false,
+        _ => true,
+    }
 }
 
 // Argument i as a number.
-fn argument(i: usize, most: u64) -> Number {
+fn argument<R: Env>(rt: &R, i: usize, most: u64) -> Number {
     let mut text = [0u8; 64];
-    let n = os::arg(i, &mut text);
+    let n = match rt.arg(i, &mut text) {
+        Ok(n) => n,
+        Err(_) => 0,
+    };
     number_in(wire::part(&text, 0, n), most)
 }
 
 fn main(rt: HostRuntime) {
-    if os::arg_count() != 3 {
-        usage();
+    if !given(&rt, 2) {
+        usage(rt.stderr());
         return;
     }
-    let Number::Is(sender) = argument(1, MAX_SENDER) else {
-        usage();
+    if given(&rt, 3) {
+        usage(rt.stderr());
+        return;
+    }
+    let Number::Is(sender) = argument(&rt, 1, MAX_SENDER) else {
+        usage(rt.stderr());
         return;
     };
-    let Number::Is(sequence) = argument(2, MAX_SEQUENCE) else {
-        usage();
+    let Number::Is(sequence) = argument(&rt, 2, MAX_SEQUENCE) else {
+        usage(rt.stderr());
         return;
     };
     looked_up(rt.stdin(), rt.stdout(), sender, sequence);
