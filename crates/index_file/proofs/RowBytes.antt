@@ -9,10 +9,7 @@ use Rattle.index_file.specs.File.{Fits, row_bytes, rows_bytes, row_in}
 -- ---- one row
 
 pub row-length : (r : Row) → length (row_bytes r) ≡ 20
-row-length r =
-    length-append (bytes 8 r.sender) (bytes 4 r.sequence ++ bytes 8 r.place)
-    ∙ (λ j. length-bytes 8 r.sender j + length-append (bytes 4 r.sequence) (bytes 8 r.place) j)
-    ∙ (λ j. 8 + (length-bytes 4 r.sequence j + length-bytes 8 r.place j))
+row-length r = simp (length-append, length-bytes)
 
 module _ (r : Row) (t : List ℕ) where
   abbrev a : List ℕ
