@@ -140,7 +140,7 @@ fn usage(stderr: Stderr) {
 }
 
 // Whether there is an argument i.
-fn given<R: Env>(rt: &R, i: usize) -> bool {
+fn given(rt: &HostRuntime, i: usize) -> bool {
     let mut text = [0u8; 64];
     match rt.arg(i, &mut text) {
         Err(FillError::NotPresent) => false,
@@ -149,7 +149,7 @@ fn given<R: Env>(rt: &R, i: usize) -> bool {
 }
 
 // Argument i as a number.
-fn argument<R: Env>(rt: &R, i: usize, most: u64) -> Number {
+fn argument(rt: &HostRuntime, i: usize, most: u64) -> Number {
     let mut text = [0u8; 64];
     let n = match rt.arg(i, &mut text) {
         Ok(n) => n,
