@@ -6,16 +6,16 @@ use Rattle.replay_lines.proofs.pour_answer.Goals as goal
 
 pub returns-in-Refused : goal.returns-in-Refused
 returns-in-Refused c =
-    pours-is c.pour_counted.ensures (ap answer_text (sym c.answer-1.given.1))
+    pours-is c.pour_counted.ensures (ap answer_text (sym c.in-Refused.is))
 
 pub returns-in-Kept : goal.returns-in-Kept
 returns-in-Kept c =
-    pours-is c.pour.ensures (ap answer_text (sym c.enum_told-1.given.1))
+    pours-is c.pour.ensures (ap answer_text (sym c.in-Kept.is))
 
 pub returns-in-Repeat : goal.returns-in-Repeat
 returns-in-Repeat c =
-    pours-is c.pour-in-Repeat.ensures (ap answer_text (sym c.enum_told-in-Repeat-1.given.1))
+    pours-is c.pour-in-Repeat.ensures (ap answer_text (sym c.in-Repeat.is))
 
 pub returns-in-Delivered : goal.returns-in-Delivered
 returns-in-Delivered c =
-    pours-is c.pour_counted-in-Delivered.ensures (ap answer_text (sym c.answer-in-Delivered-1.given.1))
+    pours-is c.pour_counted-in-Delivered.ensures (ap answer_text (sym c.in-Delivered.is))

@@ -6,8 +6,8 @@ use Rattle.replay_lines.proofs.pour_emptied.Goals as goal
 
 pub returns-in-Nobody : goal.returns-in-Nobody
 returns-in-Nobody c =
-    pours-is c.pour.ensures (ap emptied_text (sym c.enum_told-1.given.1))
+    pours-is c.pour.ensures (ap emptied_text (sym c.in-Nobody.is))
 
 pub returns-in-Was : goal.returns-in-Was
 returns-in-Was c =
-    pours-is (pours-then c.pour_counted-next.ensures c.pour_counted_line.ensures) (ap emptied_text (sym c.emptied-1.given.1))
+    pours-is (pours-then c.pour_counted-next.ensures c.pour_counted_line.ensures) (ap emptied_text (sym c.in-Was.is))
