@@ -3,7 +3,7 @@
 
 ghost use Rattle.std.specs.Prelude.{◌≡◌, ◌||◌, ltb, length};
 ghost use Rattle.wire.specs.Slices.{buffer};
-ghost use Rattle.pit_marks.specs.Sets.{sets_before};
+ghost use Rattle.pit_marks.specs.Sets.{sets_of};
 ghost use Rattle.tile_pits.specs.Pits.{map_of};
 ghost use Rattle.host_pits.specs.Lines.{LinesTold};
 ghost use Rattle.host_pits.specs.Told.{PitsTold};
@@ -37,7 +37,7 @@ pub extern "C" fn qm_count_lines(
     had_pits: usize,
     had_sure: usize,
 ) -> u32
-    ensures { LinesTold (sets_before tiles pits sure) (record { tiles = had_tiles; pits = had_pits; sure = had_sure }) (buffer tile) (buffer pit) (buffer certain) result }
+    ensures { LinesTold (sets_of tiles.now pits.now sure.now) (record { tiles = had_tiles; pits = had_pits; sure = had_sure }) (buffer tile) (buffer pit) (buffer certain) result }
 {
     let had = Sizes {
         tiles: wire::least(had_tiles, tiles.len()),
