@@ -16,7 +16,7 @@ fn lasts_from(first: u32, step: u32) -> [u32; watch::SENDERS] {
     let mut i: usize = 0;
     while i < watch::SENDERS {
         lasts[i] = last;
-        last = std::num::wrapping_add_u32(last, step);
+        last = last.wrapping_add(step);
         i += 1;
     }
     lasts

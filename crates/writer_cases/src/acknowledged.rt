@@ -11,7 +11,7 @@ fn rise(list: &mut [u64], first: u64, step: u64) {
     let mut i: usize = 0;
     while i < list.len() {
         list[i] = x;
-        x = std::num::wrapping_add_u64(x, step);
+        x = x.wrapping_add(step);
         i += 1;
     }
 }

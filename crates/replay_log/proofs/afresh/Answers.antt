@@ -12,21 +12,17 @@ use Rattle.replay_log.proofs.afresh.Goals as goal
 
 pub returns-in_default : goal.returns-in_default
 returns-in_default c =
-    absurd (opened-done _ _ _ _ _ _ zeros-shaped o.«open».ensures _ c.enum_told-in_default-1.given.1)
+    absurd (opened-done _ _ _ _ _ _ zeros-shaped c.open-opened.ensures _ c.in_default.is)
 
 pub slice_bounds-replayed-end-3 : goal.slice_bounds-replayed-end-3
 slice_bounds-replayed-end-3 c = zeros 2_097_152
 
 pub replayed-requires : goal.replayed-requires
 replayed-requires c =
-    opened-shaped _ _ _ _ _ _ zeros-shaped m.before.before.before.before.«open».ensures
-
-pub shape_of-out : goal.shape_of-out
-shape_of-out c =
-    c.out-1.given
+    opened-shaped _ _ _ _ _ _ zeros-shaped c.open-opened.ensures
 
 pub returns : goal.returns
 unfolding begun
 returns c =
     let log = c.args.log.now in
-    finishes-from log (opened-world _ _ _ _ _ _ zeros-shaped o.«open».ensures (replicate store_bytes 0) (replicate ledger_length 0)) c.replayed.ensures
+    finishes-from log (opened-world _ _ _ _ _ _ zeros-shaped c.open-opened.ensures (replicate store_bytes 0) (replicate ledger_length 0)) c.replayed.ensures

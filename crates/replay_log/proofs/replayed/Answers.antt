@@ -48,13 +48,12 @@ loop-at-preserved c =
     let i = c.loop-at.invariant in
     let q = sym c.read_on-step.ensures ∙ c.in-Found.is in
     let y = shaped-still c.args.state.now c.args.names.now c.loop-at.state c.loop-at.names i.1 i.2 c.requires in
-    let u = c.one_more-at.auto in
-    let v = u.1.1.1 in (
-      u.0 ∙ i.0,
-      v.0 ∙ i.1,
-      v.1.0 ∙ i.2,
-      v.1.1.0 ∙ i.3,
-      v.1.1.1.0 ∙ i.4,
+    let u = c.one_more-at.auto in (
+      u.out ∙ i.0,
+      u.state ∙ i.1,
+      u.names ∙ i.2,
+      u.store ∙ i.3,
+      u.ledger ∙ i.4,
       going_more (λ j. (c.type_inv.log j).fits) i.5 _ q (replayed-left y c.one_more-at.ensures) (replayed-said y c.one_more-at.ensures),
     )
 
