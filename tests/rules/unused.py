@@ -14,7 +14,18 @@ USE_LINE = re.compile(r"^(?:unfoldable |pub |ghost )*use [^{\n]*(?:\{[^}]*\})?.*
 
 
 # a trait is used where a method of it is called
-METHODS = {"Read": "read", "Write": "write|write_all|flush"}
+METHODS = {"Read": "read", "Write": "write|write_all|flush", "Env": "arg|var|var_at"}
+
+# what the port to today's toolchain left: proofs of crates that others stand on. These are all proved again for each edit, so a name waits for the next change of its file:
+# CRATE/FILE and the very names, no others
+PORTED = {
+    "count/proofs/afresh/Answers.antt": "ap tag_of the_type After-open",
+    "count/proofs/survey/Answers.antt": "List Entry Passed Counted",
+    "lmcp_reader/proofs/+put_fields_put_object_put_objects_put_row/Answers.antt": "put_row-Start",
+    "stretch/proofs/count_on/Answers.antt": "ℕ List ℤ lent sets_of book Desk desk step",
+    "stretch/proofs/count_on/Invariants.antt": "step",
+    "wire/proofs/same_at/Answers.antt": "same",
+}
 
 
 def labels(toks):
@@ -76,6 +87,10 @@ def left(project):
 
 def check(faults, project):
     found = left(project)
+    ported = {f"{path} {name}" for path, names in PORTED.items() for name in names.split()}
+    faults.table(ported, {f"{path.partition('/')[2]} {name}" for path, names in found.items() for name in names}, "names that the port left unused")
+    found = {path: [x for x in names if f"{path.partition('/')[2]} {x}" not in ported] for path, names in found.items()}
+    found = {path: names for path, names in found.items() if names}
     for path, names in found.items() if ENFORCED else ():
         faults.rule(False, f"{path} brings in what it does not use: {' '.join(names)}")
     if found and not ENFORCED:
