@@ -153,8 +153,8 @@ class Tree:
             return f.read()
 
     def named(self):
-        """What the pages name between backquotes."""
-        text = "".join(self.text(f"docs/{name}") for name in sorted(os.listdir(os.path.join(self.project.root, "docs"))) if name.endswith(".md"))
+        """What the pages name between backquotes, but for the one that lists what the port renamed: it has private lemmas too."""
+        text = "".join(self.text(f"docs/{name}") for name in sorted(os.listdir(os.path.join(self.project.root, "docs"))) if name.endswith(".md") and name != "PORT.md")
         return {x for x in re.findall(r"`([^`\s]+)`", text) if "-" in x or "_" in x or x in WORDS}
 
     def keep(self):
