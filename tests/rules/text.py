@@ -15,15 +15,6 @@ OVER = set()
 NOT_INSIDE = set()
 # the most characters of a line
 LONGEST = {"src": 200, "specs": 200, "proofs": 300}
-# proofs that the port to today's toolchain left with a longer line, each a line of `use`, a type or one term. A crate that others stand on is proved again with all of
-# these for each edit, so the lines wait for the next change of the file: CRATE/FILE
-PORTED_LONG = {
-    "lmcp_reader/proofs/+put_fields_put_object_put_objects_put_row/Answers.antt",
-    "lmcp_writer/proofs/+put_fields_put_object_put_objects_put_row/Answers.antt",
-    "receiver_state/proofs/Bridge.antt",
-    "receiver_state/proofs/is_ready/Answers.antt",
-    "tile_pits/proofs/put_pits/Invariants.antt",
-}
 OPERATORS = set("→ × ≡ ≢ λ ≤ < + * : ∷ ++ = == ⊎ - / % ^ && || +ℤ -ℤ *ℤ ≤ℤ <ℤ ⇒ when else if then in let".split())
 # a word that hands on the number of a refusal
 REFUSES = r"(?:\w+\.)?(?:\w*[rR]efus\w*|bad|broken|no_report|Unread|Unwritten)"
@@ -196,14 +187,10 @@ def long_chains(faults, project):
 
 def short_lines(faults, project):
     """No line over 200 characters, of a proof none over 300: a reader's window ends before that."""
-    met = set()
     for path in project.paths("*/src/*.rt") + project.paths("*/specs/*.antt") + project.paths("*/proofs/**/*.antt"):
         most = LONGEST[path.split("/")[2]]
         longest = max(map(len, read(path).split("\n")))
-        if longest > most:
-            met.add(path.partition("/")[2])
-        faults.rule(longest <= most or path.partition("/")[2] in PORTED_LONG, f"{path}: a line has {longest} characters, more than {most}")
-    faults.table(PORTED_LONG, met, "proofs with a long line")
+        faults.rule(longest <= most, f"{path}: a line has {longest} characters, more than {most}")
 
 
 def check(faults, project):

@@ -16,17 +16,6 @@ USE_LINE = re.compile(r"^(?:unfoldable |pub |ghost )*use [^{\n]*(?:\{[^}]*\})?.*
 # a trait is used where a method of it is called
 METHODS = {"Read": "read", "Write": "write|write_all|flush", "Env": "arg|var|var_at"}
 
-# what the port to today's toolchain left: proofs of crates that others stand on. These are all proved again for each edit, so a name waits for the next change of its file:
-# CRATE/FILE and the very names, no others
-PORTED = {
-    "count/proofs/afresh/Answers.antt": "ap tag_of the_type After-open",
-    "count/proofs/survey/Answers.antt": "List Entry Passed Counted",
-    "lmcp_reader/proofs/+put_fields_put_object_put_objects_put_row/Answers.antt": "put_row-Start",
-    "stretch/proofs/count_on/Answers.antt": "ℕ List ℤ lent sets_of book Desk desk step",
-    "stretch/proofs/count_on/Invariants.antt": "step",
-    "wire/proofs/same_at/Answers.antt": "same",
-}
-
 
 def labels(toks):
     """The places of tokens that are labels of a record or name an implicit argument: behind a brace or a `;`, before `=`."""
@@ -74,7 +63,9 @@ def unused(project, path):
         out = []
     names = file.names
     through = {m.split(".")[0] for m, _ in names.imports.values()}
-    out += [x for x in names.imports if x not in names.passed_on and not stands(x, clauses)]
+    # a place of a proof, brought in from its Goals, is read as a field: (goal.at.returns c).After-open
+    places = {x for x, (m, _) in names.imports.items() if m.endswith(".Goals") and f").{x}" in text}
+    out += [x for x in names.imports if x not in names.passed_on and x not in places and not stands(x, clauses)]
     return out + [x for x in names.aliases if x not in clauses and x not in through]
 
 
@@ -87,10 +78,6 @@ def left(project):
 
 def check(faults, project):
     found = left(project)
-    ported = {f"{path} {name}" for path, names in PORTED.items() for name in names.split()}
-    faults.table(ported, {f"{path.partition('/')[2]} {name}" for path, names in found.items() for name in names}, "names that the port left unused")
-    found = {path: [x for x in names if f"{path.partition('/')[2]} {x}" not in ported] for path, names in found.items()}
-    found = {path: names for path, names in found.items() if names}
     for path, names in found.items() if ENFORCED else ():
         faults.rule(False, f"{path} brings in what it does not use: {' '.join(names)}")
     if found and not ENFORCED:

@@ -33,7 +33,7 @@ use Rattle.count.specs.declared.Counted.{Counted}
 use Rattle.count.specs.declared.Surveyed.{Surveyed}
 use Rattle.count.specs.declared.Surveyed.TheVariants as surveyed
 use Rattle.count.specs.Counts.{counted, loan, Counts}
-use Rattle.count.specs.Inside.{many, survey_of, Whole, own, report_with}
+use Rattle.count.specs.Inside.{survey_of, Whole, own, report_with}
 use Rattle.count.proofs.Walking.{Walks, held_of, stretch-walks, as-many-entries}
 
 -- ---- by what the survey found

@@ -237,7 +237,14 @@ lower_in : (b m : List ℕ) (t : ℕ) → length b ≡ block_words → slot_in (
 unfolding lower
 lower_in b m t e =
     let x = lower_rank_lem (get_or b count_word 0) t (get_or b turn_word 0) in
-    rw (get_or-set_other b turn_word 0 x 0 (omega arith), get_or-set_other b turn_word 1 x 0 (omega arith), get_or-set_other b turn_word 2 x 0 (omega arith), get_or-set_other b turn_word 3 x 0 (omega arith), get_or-set_same b turn_word x 0 (omega arith), drop-set-lt held_word b turn_word x (omega arith))
+    rw (
+      get_or-set_other b turn_word 0 x 0 (omega arith),
+      get_or-set_other b turn_word 1 x 0 (omega arith),
+      get_or-set_other b turn_word 2 x 0 (omega arith),
+      get_or-set_other b turn_word 3 x 0 (omega arith),
+      get_or-set_same b turn_word x 0 (omega arith),
+      drop-set-lt held_word b turn_word x (omega arith),
+    )
 
 lowered-rest : (w : List ℕ) (t n i : ℕ) → n ≤ i → block (ranks_lowered w turns t n) i ≡ block w i
 unfolding ranks_lowered

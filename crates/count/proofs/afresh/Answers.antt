@@ -1,8 +1,6 @@
 -- The stretch through a fresh receiver, into empty sets, and then its answer. Assumes nothing.
-use Rattle.wire.proofs.Basics.{◌≡◌, ap, ℕ, [], ◌∷◌, inl, inr, replicate, length-replicate, arith}
+use Rattle.wire.proofs.Basics.{◌≡◌, ℕ, [], ◌∷◌, inl, inr, replicate, length-replicate, arith}
 use types.Run.{OneOf}
-use denote.Enum.Declared.{tag_of}
-use Rattle.stretch.specs.contracts.Stop.{the_type}
 use Rattle.wire.specs.Bytes.{Bytes}
 use Rattle.receiver_state.specs.View.{state_words_lem, name_bytes_lem}
 use Rattle.count_rules.specs.Count.{max_tiles, max_pits}

@@ -1,10 +1,8 @@
-use Rattle.wire.proofs.Basics.{◌∙◌, sym, ◌≡◌, ap, refl, ℕ, ◌+◌, List, [], ◌∷◌, ◌++◌, length, length-append, arith}
+use Rattle.wire.proofs.Basics.{◌∙◌, sym, ◌≡◌, ap, refl, ℕ, ◌+◌, [], ◌∷◌, ◌++◌, length, length-append, arith}
 use Rattle.wire.specs.Bytes.{Bytes}
-use Rattle.flight_log.specs.Entries.{Entry}
 use Rattle.flight_log.specs.Said.{entry_said}
 use Rattle.count.specs.Inside.{many, survey_of}
-use Rattle.flight_log.proofs.EntriesPassed.{Passed, passed_none, passed-more, passed-all, passed-broken, ahead}
-use Rattle.count.proofs.survey.Invariants.{Counted}
+use Rattle.flight_log.proofs.EntriesPassed.{passed_none, passed-more, passed-all, passed-broken, ahead}
 use Rattle.count.proofs.survey.Goals as goal
 
 pub loop-entry-init : goal.loop-entry-init

@@ -21,7 +21,7 @@ use Rattle.lmcp_reader.proofs.Puts.{Placed, object-ahead, object-laid, values-ro
 use Rattle.lmcp_reader.proofs.Puts.{few, count-inside, count_room, objects-ahead, objects-laid, chars-room, chars-laid}
 use Rattle.lmcp_reader.proofs.Puts.{Object, first-inside, null-room, null-laid, some-inside, some-deep, some-typed, some-ahead, some-laid}
 use Rattle.lmcp_reader.proofs.+put_fields_put_object_put_objects_put_row.Goals as goal
-use Rattle.lmcp_reader.proofs.+put_fields_put_object_put_objects_put_row.Goals.{put_object-After-put-2, put_object-After-wide-exists, put_objects-In-loop-k, put_row-After-entry-arg, put_row-After-entry-n, put_row-After-put-2, put_row-Start}
+use Rattle.lmcp_reader.proofs.+put_fields_put_object_put_objects_put_row.Goals.{put_object-After-put-2, put_object-After-wide-exists, put_objects-In-loop-k, put_row-After-entry-arg, put_row-After-entry-n, put_row-After-put-2}
 
 -- ---- fields
 
@@ -268,7 +268,12 @@ put_row-returns-then-code-eq6 t c =
 
 pub put_row-value_of-requires : goal.put_row-value_of-requires
 put_row-value_of-requires t c =
-    omega (arith, (single-room (row_here t (goal.at.put_row-value_of-requires t c).After-entry-arg) c.if-code-eq6.false c.if-w-eq0.true _ (row-fixed t (goal.at.put_row-value_of-requires t c).After-entry-n) c.if-n-eq1.true).0, width_is (row_here t (goal.at.put_row-value_of-requires t c).After-entry-arg).row c.if-code-eq6.false)
+    omega (
+      arith,
+      (single-room (row_here t (goal.at.put_row-value_of-requires t c).After-entry-arg) c.if-code-eq6.false c.if-w-eq0.true _
+          (row-fixed t (goal.at.put_row-value_of-requires t c).After-entry-n) c.if-n-eq1.true).0,
+      width_is (row_here t (goal.at.put_row-value_of-requires t c).After-entry-arg).row c.if-code-eq6.false,
+    )
 
 pub put_row-overflow_add-result : goal.put_row-overflow_add-result
 put_row-overflow_add-result t c =

@@ -282,7 +282,8 @@ put_row-overflow_add-result t c =
 
 pub put_row-overflow_add-result-then-n-eq1 : goal.put_row-overflow_add-result-then-n-eq1
 put_row-overflow_add-result-then-n-eq1 t c =
-    let l = (single-room (row_here t (goal.at.put_row-overflow_add-result-then-n-eq1 t c).After-entry-arg) c.if-w-eq0.true c.if-code-eq6.false _ (row-fixed t (goal.at.put_row-overflow_add-result-then-n-eq1 t c).After-entry-n) c.if-n-eq1.true).1 in record { fits = omega (arith, l, c.requires.1.1.small) }
+    let l = (single-room (row_here t (goal.at.put_row-overflow_add-result-then-n-eq1 t c).After-entry-arg) c.if-w-eq0.true c.if-code-eq6.false _
+    (row-fixed t (goal.at.put_row-overflow_add-result-then-n-eq1 t c).After-entry-n) c.if-n-eq1.true).1 in record { fits = omega (arith, l, c.requires.1.1.small) }
 
 pub put_row-returns-then-n-eq1 : goal.put_row-returns-then-n-eq1
 put_row-returns-then-n-eq1 t c =

@@ -39,7 +39,8 @@ returns-then-not-all_sound c =
     let if6 = c.if-not-all_sound in
     let args = c.args in
     let t = sym c.all_sound.ensures ∙ if6.true in
-    tests-are args.state.now args.names.now args.store args.ledger false (rw (eq-eqb _ _ c.if-state-ne-STATE_WORDS.false, eq-eqb _ _ c.if-names-ne-NAME_BYTES.false, eq-eqb _ _ c.if-store-state.false, eq-eqb _ _ c.if-ledger-ne-LEDGER.false, eq-eqb _ _ (c.if-room-slot_size.false ∙ c.slot_size.ensures), t))
+    tests-are args.state.now args.names.now args.store args.ledger false
+    (rw (eq-eqb _ _ c.if-state-ne-STATE_WORDS.false, eq-eqb _ _ c.if-names-ne-NAME_BYTES.false, eq-eqb _ _ c.if-store-state.false, eq-eqb _ _ c.if-ledger-ne-LEDGER.false, eq-eqb _ _ (c.if-room-slot_size.false ∙ c.slot_size.ensures), t))
 
 pub returns : goal.returns
 returns c =
@@ -47,4 +48,5 @@ returns c =
     let args = c.args in
     let t = sym c.all_sound.ensures ∙ c.if-not-all_sound.false in
     let m = in-order-is args.state.now c.if-state-ne-STATE_WORDS.false _ in_order.ensures in
-    tests-are args.state.now args.names.now args.store args.ledger _ (rw (eq-eqb _ _ c.if-state-ne-STATE_WORDS.false, eq-eqb _ _ c.if-names-ne-NAME_BYTES.false, eq-eqb _ _ c.if-store-state.false, eq-eqb _ _ c.if-ledger-ne-LEDGER.false, eq-eqb _ _ (c.if-room-slot_size.false ∙ c.slot_size.ensures), t) (sym m))
+    tests-are args.state.now args.names.now args.store args.ledger _
+    (rw (eq-eqb _ _ c.if-state-ne-STATE_WORDS.false, eq-eqb _ _ c.if-names-ne-NAME_BYTES.false, eq-eqb _ _ c.if-store-state.false, eq-eqb _ _ c.if-ledger-ne-LEDGER.false, eq-eqb _ _ (c.if-room-slot_size.false ∙ c.slot_size.ensures), t) (sym m))

@@ -1,13 +1,8 @@
-use Rattle.wire.proofs.Basics.{◌∙◌, sym, ap, refl, ℕ, List, ℤ, arith, rules}
-use Rattle.flight_log.specs.declared.reader.Step.TheVariants as step
-use Rattle.receiver.specs.Lent.{lent}
+use Rattle.wire.proofs.Basics.{◌∙◌, sym, ap, refl, arith, rules}
 use Rattle.pit_marks.specs.declared.Sizes.{Sizes}
-use Rattle.pit_marks.specs.Sets.{sets_of}
-use Rattle.pit_payloads.specs.Looks.{book}
 use Rattle.stretch.specs.declared.Stop.{Stop}
 use Rattle.stretch.specs.declared.Ran.{Ran}
 use Rattle.stretch.specs.Inside.{ran, no_totals, stopped_at}
-use Rattle.stretch.specs.Stretch.{Desk, desk}
 use Rattle.stretch.proofs.MidStretch.{going-first, going-few, all-taken, log-stops, going_more, going-ends, as-told}
 use Rattle.stretch.proofs.count_on.Invariants.{lent_of}
 use Rattle.stretch.proofs.count_on.Goals as goal

@@ -1,6 +1,5 @@
 -- The loop's invariant: the whole stretch is what was taken so far, and then the rest of it. Assumes nothing.
 use Rattle.wire.proofs.Basics.{◌≡◌, ◌-◌, List, ℕ, ℤ, length}
-use Rattle.flight_log.specs.declared.reader.Step.TheVariants as step
 use Rattle.stretch.proofs.MidStretch.{Going}
 use Rattle.receiver.specs.Lent.{lent}
 use Rattle.pit_marks.specs.Sets.{sets_of}

@@ -1,5 +1,4 @@
 use Rattle.wire.proofs.Basics.{◌∙◌, sym, ap, refl, Bool, ◌&&◌, length-drop, length-take, eq-eqb, ne_eqb, arith}
-use Rattle.wire.specs.Same.{same}
 use Rattle.wire.proofs.Choices.{and-false, and-true}
 use Rattle.wire.proofs.Parts.{window, same-short, same_step, same_end}
 use Rattle.wire.proofs.same_at.Goals as goal
