@@ -28,7 +28,7 @@ pub const RUN_LENGTH: usize = 1 + 8 + 8;
 const MAP_HEAD: usize = 1 + 8 + 2;
 
 // Whether a number is acknowledged.
-#[derive(Drop)]
+#[derive(Clone, Copy)]
 pub enum Answer {
     Yes,
     No,

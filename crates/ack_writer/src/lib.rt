@@ -9,7 +9,7 @@ ghost use Rattle.ack_writer.specs.Write.{one_block, room_for, writes, WritesBloc
 ghost use Rattle.ack_writer.specs.InsideWalk.{RunFrom, PutNext, Lays};
 
 // How many bytes were written.
-#[derive(Drop)]
+#[derive(Clone, Copy)]
 pub enum Written {
     Bytes(usize),
     Refused(u32),

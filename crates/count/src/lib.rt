@@ -25,7 +25,7 @@ pub const MAX_PITS: usize = 8192;
 pub const REFUSALS: usize = 10;
 
 // The report is given, or the number of the refusal.
-#[derive(Drop)]
+#[derive(Clone, Copy)]
 pub enum Answer {
     Given,
     Refused(u32),
@@ -33,7 +33,7 @@ pub enum Answer {
 
 // What is counted of a log: its entries by their answers (refused[k]: by number k), the lists read, and for each tile, in rising number, its
 // number, its distinct pits and how many of them are sure. Past the last tile there are zeros.
-#[derive(Drop)]
+#[derive(Clone, Copy)]
 pub struct Report {
     pub entries: u64,
     pub kept: u64,
@@ -48,7 +48,7 @@ pub struct Report {
 }
 
 // With a refusal the report is all zeros.
-#[derive(Drop)]
+#[derive(Clone, Copy)]
 pub struct Counted {
     pub answer: Answer,
     pub report: Report,

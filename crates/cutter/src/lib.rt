@@ -14,7 +14,7 @@ pub const LEAST_SIZE: usize = 96;
 pub const MOST_SIZE: usize = 65507;
 
 // The number of datagrams and the length of the one that was asked for; or the number of the refusal.
-#[derive(Drop)]
+#[derive(Clone, Copy)]
 pub enum Cut {
     Made { count: usize, len: usize },
     Refused(u32),

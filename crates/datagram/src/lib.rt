@@ -43,14 +43,14 @@ pub struct Header {
     pub payload: Place,
 }
 
-#[derive(Drop)]
+#[derive(Clone, Copy)]
 pub enum Read {
     Good(Header),
     Refused(u32),
 }
 
 // The length of a name, or no name.
-#[derive(Drop)]
+#[derive(Clone, Copy)]
 pub enum Named {
     Nameless,
     Long(usize),

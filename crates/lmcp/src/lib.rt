@@ -22,7 +22,7 @@ pub const SERIES: u64 = 0x5049545355525600;
 
 // One field of a type: the bytes of its count (0: it has none, but `fixed` elements), the kind of its elements, and their bytes
 // or, of objects, the declared type (0: any).
-#[derive(Drop)]
+#[derive(Clone, Copy)]
 pub struct Row {
     pub count: usize,
     pub fixed: usize,
@@ -41,28 +41,28 @@ pub const CHAR_KIND: u8 = 3;
 pub const OBJECT_KIND: u8 = 4;
 
 // Where a walk stands: its place in what it reads and in what it writes; or the number of the refusal.
-#[derive(Drop)]
+#[derive(Clone, Copy)]
 pub enum Went {
     To(usize, usize),
     Stopped(u32),
 }
 
 // A count or a type on the way, and the two places after it; or the number of the refusal.
-#[derive(Drop)]
+#[derive(Clone, Copy)]
 pub enum Mark {
     Of(usize, usize, usize),
     Bad(u32),
 }
 
 // What the reader answers: how many numbers the list now begins with, or the number of the refusal.
-#[derive(Drop)]
+#[derive(Clone, Copy)]
 pub enum Found {
     Numbers(usize),
     Refused(u32),
 }
 
 // What the writer answers: how many bytes the output now begins with, or the number of the refusal.
-#[derive(Drop)]
+#[derive(Clone, Copy)]
 pub enum Made {
     Bytes(usize),
     Refused(u32),

@@ -17,7 +17,7 @@ pub const BATCH: usize = 64;
 pub const LARGE_BATCH: usize = 1024;
 
 // Where the first entry of a key begins in the log.
-#[derive(Drop)]
+#[derive(Clone, Copy)]
 pub enum Found {
     At(u64),
     Nowhere,

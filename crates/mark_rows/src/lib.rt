@@ -17,7 +17,7 @@ const SPAN: u64 = 4294967296;
 pub const ROW: usize = 8;
 
 // The tile of the list and how many rows there are; that the numbers are not those of a PitList; or the number of the refusal.
-#[derive(Drop)]
+#[derive(Clone, Copy)]
 pub enum Rows {
     Of(u64, usize),
     Other,

@@ -42,14 +42,14 @@ pub struct Header {
     pub count: usize,
 }
 
-#[derive(Drop)]
+#[derive(Clone, Copy)]
 pub enum Read {
     Good(Header),
     Refused(u32),
 }
 
 // Where a message begins, and its length.
-#[derive(Drop)]
+#[derive(Clone, Copy)]
 pub enum Located {
     At(usize, usize),
     Refused(u32),

@@ -10,7 +10,7 @@ ghost use Rattle.moss_writer.specs.Write.{packet_bytes, written_of, writes, Writ
 pub const MAX_MESSAGE: usize = 65535;
 
 // How many bytes were written.
-#[derive(Drop)]
+#[derive(Clone, Copy)]
 pub enum Written {
     Bytes(usize),
     Refused(u32),

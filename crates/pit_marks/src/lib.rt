@@ -26,7 +26,7 @@ pub struct Sizes {
 }
 
 // How many they have with one list more; or how many they have by then, and the number of the refusal.
-#[derive(Drop)]
+#[derive(Clone, Copy)]
 pub enum Taken {
     Now(Sizes),
     Refused(Sizes, u32),

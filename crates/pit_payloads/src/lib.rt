@@ -10,7 +10,7 @@ use lmcp::Found;
 use pit_marks::{Sizes, Taken};
 
 // What a payload is: no PitList, or one, with how many numbers the sets then have; or how many they have by then, and the number of the refusal.
-#[derive(Drop)]
+#[derive(Clone, Copy)]
 pub enum Looked {
     Other,
     Listed(Sizes),

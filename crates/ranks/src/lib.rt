@@ -8,7 +8,7 @@ ghost use Rattle.ranks.specs.Ranks.{lower_rank_lem, ranks_lowered, lowest_ranked
 
 // Where the places of a run keep their ranks: where the first place begins, how many words each has, which of them says whether the place is
 // in use (it is not 0), and which is its rank.
-#[derive(Drop)]
+#[derive(Clone, Copy)]
 pub struct Ranked {
     pub first: usize,
     pub stride: usize,

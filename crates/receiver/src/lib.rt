@@ -32,7 +32,7 @@ pub const NAME_BYTES: usize = receiver_state::NAME_BYTES;
 pub const LEDGER: usize = receiver_state::LEDGER;
 
 // What is answered to a datagram: the answer, the key of the slot that was emptied for it, and for Delivered the name, with zeros after it.
-#[derive(Drop)]
+#[derive(Clone, Copy)]
 pub struct Outcome {
     pub answer: Answer,
     pub emptied: Emptied,
@@ -40,7 +40,7 @@ pub struct Outcome {
 }
 
 // What is answered to the other calls.
-#[derive(Drop)]
+#[derive(Clone, Copy)]
 pub enum Call {
     Done,
     // by the number of document 01

@@ -29,7 +29,7 @@ pub const HELD_WORDS: usize = held_bits::WORDS;
 // The words of a slot.
 pub const BLOCK: usize = HELD + HELD_WORDS;
 
-#[derive(Drop)]
+#[derive(Clone, Copy)]
 pub enum Found {
     At(usize),
     Nothing,

@@ -6,7 +6,7 @@ ghost use Rattle.wire.specs.Overlay.{overlay};
 ghost use Rattle.sorted_set.specs.Halving.{rank_in, inserted, Enters};
 
 // How many numbers there are now, or that there is no room for one more.
-#[derive(Drop)]
+#[derive(Clone, Copy)]
 pub enum Entered {
     Now(usize),
     Full,

@@ -28,7 +28,7 @@ pub enum Kind {
 }
 
 // The unread bytes of the buffer: from `at` up to `end`.
-#[derive(Drop)]
+#[derive(Clone, Copy)]
 pub struct Input {
     pub at: usize,
     pub end: usize,
@@ -36,7 +36,7 @@ pub struct Input {
 
 // A record's body: where it stands in the buffer, with its head before it, and how much of it; and the input after it. Or the input ended, or
 // was cut inside a record.
-#[derive(Drop)]
+#[derive(Clone, Copy)]
 pub enum Next {
     Record(usize, usize, Input),
     End,
@@ -44,7 +44,7 @@ pub enum Next {
 }
 
 // The whole input stands at the front of a buffer, so many bytes; or it is longer than the buffer.
-#[derive(Drop)]
+#[derive(Clone, Copy)]
 pub enum All {
     Whole(usize),
     Longer,

@@ -18,7 +18,7 @@ use steps::Answer;
 pub const REFUSALS: usize = 10;
 
 // Why it stopped: as many entries were taken as were asked for, or the log ended, or the log's own refusal, or 13, 60 or 61 by what is lent.
-#[derive(Drop)]
+#[derive(Clone, Copy)]
 pub enum Stop {
     Taken,
     End,
@@ -37,7 +37,7 @@ pub struct Totals {
 }
 
 // Why and where it stopped, how many entries were taken, their answers, and how many numbers the sets have now.
-#[derive(Drop)]
+#[derive(Clone, Copy)]
 pub struct Stretch {
     pub stop: Stop,
     pub place: usize,

@@ -14,7 +14,7 @@ ghost use Rattle.tile_pits.specs.InsidePits.{LaysPits};
 const SPAN: u64 = 4294967296;
 
 // How many pits the tile has, or the number of the refusal.
-#[derive(Drop)]
+#[derive(Clone, Copy)]
 pub enum Pits {
     Many(usize),
     Refused(u32),

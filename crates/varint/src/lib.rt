@@ -9,7 +9,7 @@ ghost use Rattle.varint.specs.Seven.{groups_after, groups, seven, groups_in, pla
 const GROUPS_AFTER: usize = 9;
 
 // A number and the place after it, or the refusal: 43 where it is cut, 41 where it is not in its shortest form or its tenth byte is above 1.
-#[derive(Drop)]
+#[derive(Clone, Copy)]
 pub enum Seven {
     Number(u64, usize),
     Refused(u32),

@@ -18,7 +18,7 @@ use datagram::{Header, Read};
 use slots::Found;
 
 // What is to be done, with the header that was read.
-#[derive(Drop)]
+#[derive(Clone, Copy)]
 pub enum Verdict {
     // by the number of document 01
     Refuse(u32),
