@@ -17,11 +17,14 @@ USE = re.compile(r"^(?:unfoldable )?(?P<pub>pub )?(?:ghost )?use (?P<module>[^\s
 CLAUSE = re.compile(r"^\s*(?:requires|ensures)\*?(?: \w+)? \{(.*?)\}\s*$", re.M | re.S)
 CLAUSES = r"\s*(?:requires|ensures)\*?(?: \w+)? \{"
 RT_ITEM = re.compile(r'^(?P<pub>pub )?(?:extern "C" )?(?P<kind>struct|enum|const|fn) (?P<name>\w+)')
+# a block of methods: of a type, or of a trait, whose ghost members are facts too
+RT_BLOCK = re.compile(r"^(?:pub )?(?P<kind>impl|trait)\b(?:<[^{]*?>)?\s*(?P<first>[\w:]+)[^{]*?(?: for (?P<second>[\w:]+)[^{]*)?\{$")
+GHOST = re.compile(r"^\s*(?:pub )?ghost \w+(?: =|:) \{(.*?)\}[;,]?(?: = \{(.*?)\};)?\s*$", re.M | re.S)
 RT_USE = re.compile(r"^(?P<pub>pub )?use (?P<path>[\w:]+?)(?:::\{(?P<names>[^{}]*)\}|(?: as (?P<alias>\w+))?);")
 # what the prelude of antt, which is open in every file, and a contract's own words give
 PRELUDE = set("Unit tt ⊥ ¬ absurd Dec yes no IsProp IsSet refl result".split())
 # what no text need define: the fields of lent memory and of a pair
-LIBRARY_FIELDS = {"entry", "exit", "now", "old", "new", "0", "1", "2", "3", "4"}
+LIBRARY_FIELDS = {"entry", "exit", "now", "old", "new", "ghost_name", "0", "1", "2", "3", "4"}
 
 
 def indent_of(line):
@@ -330,6 +333,12 @@ class AnttFile(File):
         return env
 
 
+def self_named(line):
+    """A method's own value, written as any other parameter."""
+    line = re.sub(r"&('\w+ )?(mut )?self\b", r"self: &\1\2Self", line)
+    return re.sub(r"(^\s*|\()(?:mut )?self(?=[,)])", r"\1self: Self", line)
+
+
 def parameters(signature):
     """The parameters of a function, and what its clauses call its answer."""
     return {"result", *re.findall(r"(\w+):", signature)}
@@ -359,6 +368,7 @@ class RattleFile(File):
                 number += 1
             rattle = RT_USE.match(begun)
             found = RT_ITEM.match(line)
+            block = RT_BLOCK.match(line)
             if line.startswith("//"):
                 comment.append(line)
                 continue
@@ -376,9 +386,38 @@ class RattleFile(File):
                         self.passed_on.add(alias or name)
             elif found:
                 number = self.begin(found, comment, number)
+            elif block:
+                number = self.block(block, comment, number)
             else:
                 self.names.read(line)
             comment = []
+
+    def block(self, found, comment, number):
+        """The methods of a type, each an item by the type's name and its own; of a trait, and of a type's `impl` of one, the ghost members and clauses as one item."""
+        end = number
+        while self.lines[end] != "}":
+            end += 1
+        inside = [line[4:] for line in self.lines[number:end]]
+        owner = (found["second"] or found["first"]).rpartition("::")[2]
+        clauses = [f"    ensures {{ {part} }}" for ghost in GHOST.findall("\n".join(inside)) for part in ghost if part.strip()]
+        clauses += [f"    ensures {{ {part} }}" for part in CLAUSE.findall("\n".join(inside))] if found["kind"] == "trait" or found["second"] else []
+        if clauses:
+            item = Item(self, "ghost", owner, number)
+            item.public, item.comment, item.text = True, comment, [self.lines[number - 1].rstrip("{ "), *clauses]
+            self.items.append(item)
+        above = []
+        for k, line in enumerate(inside) if found["kind"] == "impl" and not found["second"] else ():
+            method = re.match(r"(pub )?fn (\w+)", line)
+            if method:
+                stop = next(i for i in range(k, len(inside)) if re.match(r"^(\{|\S.*\{|\S.*\{.*\})$", inside[i]))
+                item = Item(self, "fn", f"{owner}::{method[2]}", number + k + 1)
+                item.public, item.comment = bool(method[1]), above
+                text = inside[k:stop] + [x for x in [inside[stop].partition("{")[0].rstrip()] if x]
+                item.text = [self_named(x) if i == 0 or re.match(r"\s*(&|self,|mut self,)", x) else x for i, x in enumerate(text)]
+                self.items.append(item)
+                self.functions[item.name] = item
+            above = above + [line] if line.startswith("//") else []
+        return end + 1
 
     def begin(self, found, comment, number):
         item = Item(self, found["kind"], found["name"], number)

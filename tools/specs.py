@@ -118,6 +118,12 @@ class Project:
         return [i for f in files for i in f.items if i.kind == "fn" and i.public]
 
     @cached_property
+    def ghosts(self):
+        """What the types and traits of the libraries say by ghost members."""
+        files = [self.file(path) for c in self.crates for path in self.paths(f"{c}/src/*.rt")]
+        return [i for f in files for i in f.items if i.kind == "ghost" or (i.kind == "struct" and "ghost " in "\n".join(i.text))]
+
+    @cached_property
     def theorems(self):
         """The public theorems of proofs/ by name: {name: [item]}. Of each only the statement is kept."""
         out = {}

@@ -93,7 +93,7 @@ with tempfile.TemporaryDirectory() as folder:
     # crate by crate
     afresh(folder)
     status, out, said, asked = called(folder, "tools/prove", "steps")
-    held(status == 0 and out == "" and re.match(r"proving (\d+) of \1 crates, about 1 minute on two processors; later only what has changed\n", said) and re.search(r"^  1 of (\d+): wire proved \(\d+ s\)\n  2 of \1: names proved \(\d+ s\)\n(.*\n)*  \1 of \1: steps proved \(\d+ s\)$", said, re.M), "tools/prove", str((status, out, said)))
+    held(status == 0 and out == "" and re.match(r"proving (\d+) of \1 crates, about 1 minute on two processors; later only what has changed\n", said) and re.search(r"^  1 of (\d+): wire proved \(\d+ s\)\n  2 of \1: refusals proved \(\d+ s\)\n(.*\n)*  \1 of \1: steps proved \(\d+ s\)$", said, re.M), "tools/prove", str((status, out, said)))
     held(asked == under("steps") + ["lib steps"], "tools/prove asks", str(asked))
     # what is proved is not asked for again; what has changed is, and what was asked for stands on it
     status, out, said, asked = called(folder, "tools/prove", "steps")

@@ -2,6 +2,7 @@
 before it, is the toolchain's, or is bound in it, and each field is one of a record printed before it. It reads what is printed and not how that was found;
 only what a name stands for in a file is taken from tools/specs.py. The books of demand 3 and of the count stay short enough to be read."""
 import importlib.machinery
+import itertools
 import os
 import re
 import subprocess
@@ -18,6 +19,20 @@ project = specs.Project(ROOT)
 MOST = {"demand3": 650, "count_promise": 950}
 
 
+def squeezed(text):
+    return re.sub(r",?\s*\)", ")", re.sub(r"\s+", "", text))
+
+
+def function_of(file, line):
+    """The function or method of a file whose signature begins a line."""
+    begun = squeezed(line)
+    for item in file.functions.values():
+        whole = squeezed("".join(item.text))
+        if whole.startswith(begun) or begun.startswith(squeezed("".join(itertools.takewhile(lambda x: not re.match(items.CLAUSES, x), item.text)))):
+            return item
+    return None
+
+
 def items_in(lines):
     """What a book prints, in order: (file, item, lines of its text)."""
     file, out, heading = None, [], False
@@ -30,8 +45,8 @@ def items_in(lines):
             file = project.file(line.split()[1].rstrip(":"))
         elif line.strip() and not re.match(r"\s*(--|//|module _|infix)", line):
             found = items.RT_ITEM.match(line) if file.path.endswith(".rt") else items.TYPE.match(line.lstrip()) or items.SIGNATURE.match(line.lstrip())
-            item = found and (file.functions if found.groupdict().get("kind") == "fn" else file.by_name).get(found["name"])
-            if item and found["name"] == item.name and items.indent_of(line) == 2 * len(item.blocks):
+            item = found and (function_of(file, line) if found.groupdict().get("kind") == "fn" else file.by_name.get(found["name"]))
+            if item and found["name"] == item.name.rpartition("::")[2] and items.indent_of(line) == 2 * len(item.blocks):
                 out.append((file, item, []))
             out[-1][2].append(line)
     return out
@@ -116,7 +131,7 @@ def check_book(name, lines):
             check_words(name, file, item, toks, printed)
             check_fields(name, file, item, toks, fields)
         printed[item.key] = item
-    held(printed and list(printed.values())[-1].name == name.rpartition("::")[2], f"{name}: it is not the last that is printed")
+    held(printed and list(printed.values())[-1].name.rpartition("::")[2] == name.rpartition("::")[2], f"{name}: it is not the last that is printed")
 
 
 def said(*args):

@@ -11,7 +11,7 @@ from model.log import LIMIT, entries_in, first_log_of, limits_in, log_of, seven
 from model.tally import close_with
 
 # what the program stands on, as crates.txt has it
-USED = ["wire", "varint", "names", "forms", "datagram", "flight_log", "log_reader"]
+USED = ["wire", "refusals", "varint", "names", "forms", "datagram", "flight_log", "log_reader"]
 
 
 def logs():
@@ -48,7 +48,7 @@ def main():
         with open(os.path.join(ROOT, "crates.txt"), encoding="utf-8") as f:
             edges = [line for line in f if line.split(":")[0] in USED]
         with open(os.path.join(tmp, "crates.txt"), "w", encoding="utf-8") as f:
-            f.writelines(edges + ["through_reader: wire flight_log log_reader\n"])
+            f.writelines(edges + ["through_reader: wire refusals flight_log log_reader\n"])
         put(os.path.join(mine, "src", "main.rt"), bytes_of("tests", "reader", "program"))
         stdin = b"".join(len(log).to_bytes(4, "big") + log for log in all_logs)
         done = subprocess.run(["rt", "try"], cwd=mine, input=stdin, stdout=subprocess.PIPE, stderr=subprocess.PIPE)

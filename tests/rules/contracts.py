@@ -8,6 +8,10 @@ import antt
 import items
 from faults import bare, read
 
+# Of code that is handed in, by a closure or a type of the caller's own, a public function may ask what the language asks of such a call: {crate function}. And a program's own memory
+# that only passes through: the window onto its input, and what it works in, {crate function: what}. docs/CONTRACTS.md says each.
+HANDED_IN = {"halving partition_point", "record_lines records", "record_lines tell"}
+PASSES = {"record_lines records": {"buf", "teller"}, "record_lines tell": {"buf", "teller"}, "log_lines tell": {"buf", "teller"}}
 # what of the toolchain's library reaches the system, whose contracts are assumed; and the two streams, which any crate may hand on, and not read or write
 SYSTEM = re.compile(r"\bHostRuntime\b|\bstd\s*::\s*(?:\{[^;]*\b)?(?:io|fs|env|time|process|thread|net|os|rt)\b")
 STREAMS = re.compile(r"\bstd::io::(?:(?:Stdin|Stdout)\b|\{(?:Stdin|Stdout)(?:, (?:Stdin|Stdout))*\})")
@@ -127,12 +131,15 @@ def public_functions(faults, project):
         where = f"{item.file.path}:{item.line}: public {item.name}"
         text = bare(item.file.path, "\n".join(item.text))
         said, signature = ensures_of(item), re.split(r"^\s*(?:requires|ensures)", text, flags=re.M)[0]
-        faults.rule(not re.search(r"^\s*requires", text, re.M), f"{where} has a requires")
+        called = f"{item.file.crate} {item.name}"
+        faults.rule(called in HANDED_IN or not re.search(r"^\s*requires", text, re.M), f"{where} has a requires")
         if "->" in signature:
             faults.rule(re.search(r"\bresult\b", said), f"{where} says nothing of what it gives")
         shown = {x.split()[k] for name, after in shows.items() for x in re.findall(rf"\b{name}((?: \w+)+)", said) for k in after if k < len(x.split())}
         lent = re.findall(r"(\w+): &(?:'\w+ )?mut ", signature)
-        for one in lent:
+        # what the answer goes on holding is the answer's
+        held = {name for name, life in re.findall(r"(\w+): &'(\w+) mut ", signature) if re.search(rf"'{life}\b", signature.partition("->")[2])}
+        for one in [x for x in lent if x not in held | PASSES.get(called, set())]:
             faults.rule(one in shown or re.search(rf"\b{one}\.(?:new|exit)\b", said), f"{where} says nothing of {one} afterwards")
         says_something(faults, where, item, said, {"result", *lent})
 

@@ -21,10 +21,11 @@ def rows(faults, project, contracts):
         functions[item.file.crate, item.name] = item
     rowed = set()
     for crates, text in sections(contracts):
-        for row in re.findall(r"^\| `\w+`.*$", text, re.M):
+        for row in re.findall(r"^\| `[\w:]+`.*$", text, re.M):
             cells = [c.strip() for c in row.split(" | ")]
-            for name in re.findall(r"`(\w+)`", cells[0]):
-                found = [functions[c, name] for c in crates if (c, name) in functions]
+            for name in re.findall(r"`([\w:]+)`", cells[0]):
+                # a method by its type's name and its own, or by its own
+                found = [item for (c, called), item in functions.items() if c in crates and (called == name or called.endswith("::" + name))]
                 rowed |= {(i.file.crate, i.name) for i in found}
                 if len(cells) >= 3 and "`one-answer`" in cells[2]:
                     faults.rule(found, f"docs/CONTRACTS.md has {' '.join(crates)} {name}, which is no public function there")

@@ -117,7 +117,7 @@ def told_of(project):
 
 def unreached(project):
     """The definitions of specs/ that nothing public reaches, outside Inside files and worked cases: {crate/File: names}."""
-    reached = project.reached(told_of(project))
+    reached = project.reached(told_of(project) + project.ghosts)
     out = {}
     for path in project.paths("*/specs/*.antt"):
         name = os.path.basename(path)

@@ -55,7 +55,8 @@ def unused(project, path):
     text = USE_LINE.sub("", "\n".join(file.lines))
     more = edits(project, path)
     if path.endswith(".rt"):
-        clauses = words("\n".join(items.CLAUSE.findall(text + "\n" + more)))
+        ghosts = [part for ghost in items.GHOST.findall(text + "\n" + more) for part in ghost]
+        clauses = words("\n".join(items.CLAUSE.findall(text + "\n" + more) + ghosts))
         code = set(re.findall(r"\w+", re.sub(r"//.*", "", items.CLAUSE.sub("", text) + more)))
         out = [x for x in file.types if x not in code and x not in file.passed_on and not (x in METHODS and re.search(rf"\.(?:{METHODS[x]})\(", text))]
     else:

@@ -4,6 +4,9 @@ use Rattle.wire.proofs.Basics.{lt-leb, one-mul, arith}
 use lib.Pow.{shl_exact, pow_pos}
 use Rattle.wire.specs.Bytes.{be}
 use Rattle.wire.proofs.Choices.{pick_all}
+use Rattle.ack_blocks.specs.declared.Kind.{Kind}
+use Rattle.ack_blocks.specs.declared.Kind.TheVariants.{Single, Run, Bitmap}
+use Rattle.ack_blocks.specs.Kinds.{byte_of}
 use Rattle.ack_blocks.specs.Limits.{largest, kind_single, kind_run, kind_map, single_length, run_length_lem, map_head}
 use Rattle.ack_blocks.specs.Blocks.{single, run, map, bit_of, in_map}
 use Rattle.ack_blocks.specs.Read.{kind_in, first_in, last_in, bits_in, map_bytes_lem, map_in, size_in, block_in, run_fault_lem, padding, map_fault_lem, fault_in}
@@ -124,3 +127,9 @@ padding-is b x m k step ex em ek es =
     let e : x ≡ be 1 (drop (10 + map_bytes_lem (bits_in b)) b) = ex ∙ ap (λ (n : ℕ). be 1 (drop (10 + n) b)) em in
     let f : step ≡ 2 ^ (8 * map_bytes_lem (bits_in b) - bits_in b) = es ∙ (λ i. 2 ^ (8 * em i - ek i)) in
     (λ i. e i % f i)
+
+-- the kinds are known ones
+pub byte-known : (b : List ℕ) (kind : Kind) → byte_of kind ≡ kind_in b → kind_in b ≤ kind_map
+byte-known b Single e = omega (arith, e)
+byte-known b Run e = omega (arith, e)
+byte-known b Bitmap e = omega (arith, e)

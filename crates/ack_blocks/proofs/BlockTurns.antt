@@ -5,7 +5,9 @@ use Rattle.wire.proofs.Choices.{or-false}
 use Rattle.ack_blocks.specs.Limits.{max_blocks}
 use Rattle.ack_blocks.specs.Blocks.{Block, has, acknowledges}
 use Rattle.ack_blocks.specs.Read.{Given, gives, refuses, size_in, block_in, fault_in, before, first_then, blocks_within, blocks_in, told, asked}
-use Rattle.ack_blocks.specs.InsideWalk.{also}
+use Rattle.wire.specs.Choice.{pick}
+use Rattle.wire.proofs.Basics.{eqb, eqb-true, eqb-false}
+use Rattle.ack_blocks.specs.InsideWalk.{judged, also}
 use Rattle.ack_blocks.proofs.BlockCases.{size-some}
 
 -- any number of turns that is enough gives the same
@@ -84,3 +86,19 @@ asked-long b n h = rw (lt-ltb max_blocks (length b) h)
 pub asked-fits : (b : List ℕ) (n : ℕ) → length b ≤ max_blocks → asked b n ≡ told n (blocks_in b)
 unfolding asked
 asked-fits b n h = rw (le-ltb max_blocks (length b) h)
+
+-- ---- what is wrong with a block, or nothing
+
+pub judged-good : (fault : ℕ) → gives tt ≡ judged fault → fault ≡ 0
+judged-good fault e = by-test (eqb fault 0) refl e
+  where
+    by-test : (b : Bool) → eqb fault 0 ≡ b → ◌≡◌ {A = Given (Unit {0})} (gives tt) (pick b (gives tt) (refuses fault)) → fault ≡ 0
+    by-test true h q = eqb-true fault 0 h
+    by-test false h q = absurd (let z : ◌≡◌ {A = ℕ} 0 1 = cc in omega arith)
+
+pub judged-bad : (number fault : ℕ) → refuses number ≡ judged fault → (number ≡ fault) × (fault ≡ 0 → ⊥)
+judged-bad number fault e = by-test (eqb fault 0) refl e
+  where
+    by-test : (b : Bool) → eqb fault 0 ≡ b → ◌≡◌ {A = Given (Unit {0})} (refuses number) (pick b (gives tt) (refuses fault)) → (number ≡ fault) × (fault ≡ 0 → ⊥)
+    by-test true h q = absurd (let z : ◌≡◌ {A = ℕ} 0 1 = cc in omega arith)
+    by-test false h q = (cc, eqb-false fault 0 h)

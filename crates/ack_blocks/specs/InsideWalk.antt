@@ -1,5 +1,6 @@
 -- What the walk over the blocks hands on: for the contracts of private functions only. Definitions only.
-use Rattle.std.specs.Prelude.{Bool, ◌||◌, List, ℕ, ◌≤◌, length}
+use Rattle.std.specs.Prelude.{Bool, ◌||◌, List, ℕ, ◌≤◌, eqb, length}
+use Rattle.wire.specs.Choice.{pick}
 use Rattle.ack_blocks.specs.Limits.{max_blocks}
 use Rattle.ack_blocks.specs.Read.{Given, gives, refuses}
 
@@ -12,3 +13,7 @@ pub record Inside (b : List ℕ) (at : ℕ) : Type 0 where
 abbrev pub also : Bool → Given Bool → Given Bool
 also found (refuses number) = refuses number
 also found (gives more) = gives (found || more)
+
+-- what is wrong with a block, by its number: 0 where nothing is
+abbrev pub judged : ℕ → Given (Unit {0})
+judged fault = pick (eqb fault 0) (gives tt) (refuses fault)

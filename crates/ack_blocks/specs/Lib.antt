@@ -1,4 +1,5 @@
 pub mod Limits
 pub mod Blocks
 pub mod Read
+pub mod Kinds
 pub mod InsideWalk

@@ -1,13 +1,13 @@
 -- The blocks in some bytes, and whether they acknowledge a number: refusal 77 first, then at each block 71, 70, 72, 73, 74 in that order.
 -- Definitions only.
-use Rattle.std.specs.Prelude.{Bool, true, false, ◌||◌, List, [], ◌∷◌, ℕ, zero, suc, ◌+◌, ◌-◌, ◌*◌, ◌/◌, ◌%◌, ◌^◌, eqb, ltb, length, take, drop}
+use Rattle.std.specs.Prelude.{Bool, ◌||◌, List, [], ◌∷◌, ℕ, zero, suc, ◌+◌, ◌-◌, ◌*◌, ◌/◌, ◌%◌, ◌^◌, eqb, ltb, length, take, drop, Result}
 use Rattle.wire.specs.Choice.{pick, ◌when◌else◌}
 use Rattle.wire.specs.Bytes.{be}
 pub use Rattle.wire.specs.Given.{Given, gives, refuses}
 use Rattle.ack_blocks.specs.Limits.{max_blocks, largest, kind_single, kind_run, kind_map, single_length, run_length_lem, map_head}
 use Rattle.ack_blocks.specs.Blocks.{Block, single, run, map, acknowledges}
-use Rattle.ack_blocks.specs.declared.Answer.{Answer}
-use Rattle.ack_blocks.specs.declared.Answer.TheVariants.{Yes, No, Refused}
+use Rattle.refusals.specs.declared.Refusal.{Refusal}
+use Rattle.refusals.specs.Answers.{given}
 
 -- ---- the block at the front of b, by its offsets
 
@@ -93,7 +93,5 @@ unfoldable pub asked : List ℕ → ℕ → Given Bool
 asked b n = pick (ltb max_blocks (length b)) (refuses 77) (told n (blocks_in b))
 
 -- the code's answer, in the paper's values
-abbrev pub answers : Answer → Given Bool
-answers Yes = gives true
-answers No = gives false
-answers (Refused number) = refuses number
+abbrev pub answers : Result Bool Refusal → Given Bool
+answers r = given r

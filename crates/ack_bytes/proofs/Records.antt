@@ -1,14 +1,14 @@
 -- The line of a record by its cases. Assumes nothing.
-use Rattle.wire.proofs.Basics.{◌∙◌, sym, ◌≡◌, ap, refl, subst, ℕ, ◌≤◌, ◌<◌, ◌%◌, ◌/◌, List, [], ◌∷◌, ◌++◌, length, eq-eqb, le-ltb, ne_eqb, lt-ltb, arith}
+use Rattle.wire.proofs.Basics.{◌∙◌, sym, ◌≡◌, ap, refl, subst, ℕ, ◌≤◌, ◌<◌, ◌%◌, ◌/◌, List, [], ◌∷◌, ◌++◌, length, take, eq-eqb, le-ltb, ne_eqb, lt-ltb, arith}
 use Rattle.ack_blocks.specs.Limits.{max_blocks}
 use Rattle.ack_blocks.specs.Read.{Given, refuses}
 use Rattle.ack_writer.specs.Write.{bytes_of, written_of, writes, WritesBlocks}
-use Rattle.ack_writer.specs.declared.Written.{Written}
-use Rattle.ack_writer.specs.declared.Written.TheVariants as written
+use Rattle.std.proofs.Common.{Result, Ok, Err}
+use Rattle.refusals.specs.declared.Refusal.{Refusal}
+use Rattle.refusals.specs.Numbers.{number_of}
 use Rattle.ack_writer.proofs.Trips.{write_bytes}
 use Rattle.text.specs.Text.{decimal, hex}
 use Rattle.ack_bytes.specs.Lines.{list_limit, record_list, record_answer, bytes_text, answer_text, longer_text, line}
-use Rattle.ack_bytes.specs.InsideLines.{written_text}
 
 -- ---- the blocks as text
 
@@ -44,16 +44,18 @@ module _ (n : ℕ) (b : List ℕ) where
     line-cut h = sym (line-is ∙ ap (λ (g : Given ℕ). decimal n ++ answer_text g (bytes_of (record_list b))) (answer-cut h))
 
     module _ (whole : length b % 8 ≡ 0) (out out' : List ℕ) (room : length out ≡ max_blocks) where
-      answered : (w : Written) → WritesBlocks (record_list b) out w out' → record_answer b ≡ writes w
+      answered : (w : Result ℕ Refusal) → WritesBlocks (record_list b) out w out' → record_answer b ≡ writes w
       answered w p = answer-whole whole ∙ ap (written_of (record_list b)) (sym room) ∙ sym p.answer
 
-      said : (w : Written) → WritesBlocks (record_list b) out w out' → decimal n ++ written_text out' w ≡ line n b
-      said (written.Bytes k) p =
-          ap (λ (x : List ℕ). decimal n ++ bytes_text x) (write_bytes (record_list b) out k out' p)
-          ∙ sym (line-is ∙ ap (λ (g : Given ℕ). decimal n ++ answer_text g (bytes_of (record_list b))) (answered (written.Bytes k) p))
-      said (written.Refused number) p =
-          sym (line-is ∙ ap (λ (g : Given ℕ). decimal n ++ answer_text g (bytes_of (record_list b))) (answered (written.Refused number) p))
-
       -- of the list that was taken
-      pub line-written : (l : List ℕ) (w : Written) → l ≡ record_list b → WritesBlocks l out w out' → decimal n ++ written_text out' w ≡ line n b
-      line-written l w e p = said w (subst (λ (x : List ℕ). WritesBlocks x out w out') e p)
+      module _ (l : List ℕ) (e : l ≡ record_list b) where
+        pub line-bytes : (k : ℕ) → WritesBlocks l out (Ok k) out' → decimal n ++ bytes_text (take k out') ≡ line n b
+        line-bytes k q =
+            let p = subst (λ (x : List ℕ). WritesBlocks x out (Ok k) out') e q in
+            ap (λ (x : List ℕ). decimal n ++ bytes_text x) (write_bytes (record_list b) out k out' p)
+            ∙ sym (line-is ∙ ap (λ (g : Given ℕ). decimal n ++ answer_text g (bytes_of (record_list b))) (answered (Ok k) p))
+
+        pub line_refused : (r : Refusal) → WritesBlocks l out (Err r) out' → decimal n ++ answer_text (refuses (number_of r)) (bytes_of (record_list b)) ≡ line n b
+        line_refused r q =
+            let p = subst (λ (x : List ℕ). WritesBlocks x out (Err r) out') e q in
+            sym (line-is ∙ ap (λ (g : Given ℕ). decimal n ++ answer_text g (bytes_of (record_list b))) (answered (Err r) p))

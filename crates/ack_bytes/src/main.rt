@@ -1,20 +1,24 @@
 // Acknowledge blocks of lists of numbers. Standard input holds records, each after a 4-byte big-endian length: 8-byte big-endian numbers; a line
 // gives the bytes of the blocks of each list, or its refusal, or says that the list is longer than the program holds.
-#![tactic(auto)]
+#![tactic(auto, using(output::proofs::Adding::adds_then))]
 
-ghost use Rattle.std.specs.Prelude.{◌≡◌, ◌/◌, ◌≤◌, length, take};
+ghost use Rattle.std.specs.Prelude.{◌≡◌, ◌/◌, ◌≤◌, ◌++◌, length};
 ghost use Rattle.std.proofs.lemmas.List.Edits.{sets};
 ghost use Rattle.wire.specs.Slices.{buffer};
+ghost use Rattle.wire.specs.Text.{ascii};
+ghost use Rattle.text.specs.Text.{decimal};
+ghost use Rattle.refusals.specs.Numbers.{number_of};
 ghost use Rattle.ack_blocks.specs.Limits.{max_blocks};
 ghost use Rattle.stream.specs.declared.Kind.TheVariants.{Bytes4};
-ghost use Rattle.output.specs.Output.{Pours, line_limit};
-ghost use Rattle.record_lines.specs.Lines.{Tells};
+ghost use Rattle.output.specs.Output.{Adds, line_limit};
+ghost use Rattle.record_lines.specs.Lines.{Tells, each};
 ghost use Rattle.ack_bytes.specs.Lines.{numbers_of, list_limit, bytes_text, longer_text, line, lines};
-ghost use Rattle.ack_bytes.specs.InsideLines.{written_text};
 
-use ack_writer::Written;
+use output::Output;
+use record_lines::Teller;
+use refusals::Refusal;
 use std::io::{Stdin, Stdout};
-use stream::{Input, Kind, Next};
+use stream::{Input, Kind};
 
 // The numbers that the program holds.
 const NUMBERS: usize = 65536;
@@ -31,81 +35,78 @@ fn take_list(body: &[u8], list: &mut [u64]) -> usize
     ensures { (result ≡ length body.now / 8) × (list.new ≡ sets list.old 0 (numbers_of (length body.now / 8) body.now)) }
 {
     let n = body.len() / WIDTH;
-    let mut i: usize = 0;
-    while i < n {
-        let x = wire::number(body, WIDTH * i, WIDTH);
-        list[i] = x;
-        i += 1;
+    for i in 0..n {
+        list[i] = wire::number(body, WIDTH * i, WIDTH);
     }
     n
 }
 
-// The first n numbers of a list.
-fn front(list: &[u64], n: usize) -> &[u64]
-    ensures { result.now ≡ take n list.now }
+fn pour_longer(out: &mut Output)
+    ensures { Adds out.old longer_text out.new }
 {
-    let k = wire::least(n, list.len());
-    &list[..k]
-}
-
-fn pour_longer(stdout: Stdout, out: &mut [u8], at: usize) -> usize
-    ensures { Pours out.old at longer_text out.new result }
-{
-    let next = output::pour_counted(stdout, out, at, b" longer than ", NUMBERS as u64);
-    output::pour(stdout, out, next, b" numbers\n")
+    out.pour_counted(b" longer than ", NUMBERS as u64);
+    out.pour(b" numbers\n");
 }
 
 // The blocks in hexadecimal; nothing after the word where there are none.
-fn pour_bytes(stdout: Stdout, out: &mut [u8], at: usize, blocks: &[u8]) -> usize
-    ensures { Pours out.old at (bytes_text blocks.now) out.new result }
+fn pour_bytes(out: &mut Output, blocks: &[u8])
+    ensures { Adds out.old (bytes_text blocks.now) out.new }
 {
     if blocks.len() == 0 {
-        return output::pour(stdout, out, at, b" bytes\n");
+        out.pour(b" bytes\n");
+        return;
     }
-    let a = output::pour(stdout, out, at, b" bytes ");
-    let b = output::pour_hex(stdout, out, a, blocks);
-    output::pour(stdout, out, b, b"\n")
+    out.pour(b" bytes ");
+    out.pour_hex(blocks);
+    out.pour(b"\n");
 }
 
-// What the writer answered: the first bytes of the output, or the refusal.
-fn pour_written(stdout: Stdout, out: &mut [u8], at: usize, blocks: &[u8], w: Written) -> usize
-    ensures { Pours out.old at (written_text blocks.now w) out.new result }
+fn pour_refused(out: &mut Output, refusal: Refusal)
+    ensures { Adds out.old (ascii " refused " ++ decimal (number_of refusal) ++ ascii "\n") out.new }
 {
-    match w {
-        Written::Bytes(k) => pour_bytes(stdout, out, at, wire::part(blocks, 0, k)),
-        Written::Refused(number) => output::pour_counted_line(
-            stdout,
-            out,
-            at,
-            b" refused ",
-            number as u64,
-        ),
-    }
+    out.pour_counted_line(b" refused ", u64::from(refusal.number()));
 }
 
-// The blocks of a record's numbers are written, and its line goes out. Answers the place after it.
-fn one_more(
-    stdout: Stdout,
-    out: &mut [u8],
-    at: usize,
-    n: u64,
-    list: &mut [u64],
-    blocks: &mut [u8],
-    body: &[u8],
-) -> usize
+// The blocks of a record's numbers are written, and its line goes out.
+fn one_more(out: &mut Output, n: u64, list: &mut [u64], blocks: &mut [u8], body: &[u8])
     requires { (length list.old ≡ list_limit) × (length blocks.old ≡ max_blocks) }
-    ensures { Pours out.old at (line n body.now) out.new result }
+    ensures { Adds out.old (line n body.now) out.new }
 {
-    let next = output::pour_decimal(stdout, out, at, n);
+    out.pour_decimal(n);
     if NUMBERS < body.len() / WIDTH {
-        return pour_longer(stdout, out, next);
+        pour_longer(out);
+        return;
     }
     if body.len() % WIDTH != 0 {
-        return output::pour_counted_line(stdout, out, next, b" refused ", 70);
+        pour_refused(out, Refusal::BlockCut);
+        return;
     }
     let count = take_list(body, list);
-    let w = ack_writer::write_blocks(front(list, count), blocks);
-    pour_written(stdout, out, next, blocks, w)
+    match ack_writer::write_blocks(&list[..count], blocks) {
+        Ok(len) => pour_bytes(out, wire::part(blocks, 0, len)),
+        Err(refusal) => pour_refused(out, refusal),
+    }
+}
+
+// The memory of a list of numbers and of its blocks.
+#[derive(Drop)]
+struct Writes<'a> {
+    list: &'a mut [u64],
+    blocks: &'a mut [u8],
+}
+
+impl<'a> Teller for Writes<'a> {
+    ghost Known = { Unit {0} };
+
+    ghost says = { each (λ n x. line n x.body) };
+
+    ghost known = { λ _. tt };
+
+    ghost sound = { λ w. (length w.list.now ≡ list_limit) × (length w.blocks.now ≡ max_blocks) };
+
+    fn line(&mut self, out: &mut Output, n: u64, _head: &[u8], body: &[u8]) {
+        one_more(out, n, self.list, self.blocks, body);
+    }
 }
 
 // One line a record of the input, and the last line. Answers whether the system took all of them; it stops where it did not.
@@ -121,22 +122,9 @@ fn run(
     requires { ((length list.old ≡ list_limit) × (length blocks.old ≡ max_blocks)) × (line_limit ≤ length out.old) }
     ensures { Tells Bytes4 lines buf.old input (buffer out) 0 result }
 {
-    let mut rest = input;
-    let mut at: usize = 0;
-    let mut n: u64 = 0;
-    while n < stream::MANY {
-        let next = stream::next_record(stdin, buf, rest, Kind::Bytes4);
-        let Next::Record(from, len, left) = next else {
-            return output::finish(stdout, out, at, n, next);
-        };
-        n += 1;
-        rest = left;
-        at = one_more(stdout, out, at, n, list, blocks, wire::part(buf, from, len));
-        if at == output::CLOSED {
-            return false;
-        }
-    }
-    output::finish(stdout, out, at, n, Next::Cut)
+    let mut out = Output::new(stdout, out);
+    let mut writes = Writes { list, blocks };
+    record_lines::tell(stdin, buf, input, Kind::Bytes4, &mut out, &mut writes)
 }
 
 fn main(rt: HostRuntime) {

@@ -7,8 +7,8 @@ use Rattle.ack_blocks.specs.Blocks.{block_bytes}
 use Rattle.ack_blocks.specs.Read.{Given, gives, refuses}
 use Rattle.ack_writer.specs.Write.{rising, one_block, bytes_of, room_for, written_of, writes, output_of, WritesBlocks}
 use Rattle.ack_writer.specs.InsideWalk.{RunFrom, PutNext, Lays}
-use Rattle.ack_writer.specs.declared.Written.{Written}
-use Rattle.ack_writer.specs.declared.Written.TheVariants as written
+use Rattle.std.proofs.Common.{Result, Ok, Err}
+use Rattle.refusals.specs.declared.Refusal.{Refusal}
 use Rattle.ack_writer.proofs.Runs.{length-turn, put-turn, bytes-end, room-long, written-not, written-rising, written_makes}
 
 -- at a place of the list: the bytes so far stand in the block space, unless they are already too many
@@ -77,7 +77,7 @@ module _ (l d₀ d : List ℕ) (at i : ℕ) (f : Sofar l d₀ d at i) (end : len
   sofar-laid h = sym (overlay-nil d at) ∙ ap (overlay d at) (sym (bytes-end l i end)) ∙ f.laid h
 
 -- the front of the block space is the bytes
-pub front_of : (l d d' : List ℕ) (room n : ℕ) (r : Written) → Lays l room d r d' → writes r ≡ gives n → length d ≡ max_blocks
+pub front_of : (l d d' : List ℕ) (room n : ℕ) (r : Result ℕ Refusal) → Lays l room d r d' → writes r ≡ gives n → length d ≡ max_blocks
     → (n ≤ length d') × (take n d' ≡ bytes_of l)
 front_of l d d' room n r f e z =
     let m = written_makes l room n (sym f.answer ∙ e) in
@@ -91,16 +91,14 @@ pub front-size : (n : ℕ) (d : List ℕ) → n ≤ length d → n ≡ length (t
 front-size n d h = simp length-take (omega arith)
 
 -- a refusal leaves the output
-pub leaves : (l d d' out : List ℕ) (r : Written) (k : ℕ) → Lays l (length out) d r d' → r ≡ written.Refused k → WritesBlocks l out r out
-leaves l d d' out r k f e =
-    record { answer = f.answer; output = ap (λ (g : Given ℕ). output_of g (bytes_of l) out) (sym (ap writes e) ∙ f.answer) }
+pub leaves : (l d d' out : List ℕ) (r : Refusal) → Lays l (length out) d (Err r) d' → WritesBlocks l out (Err r) out
+leaves l d d' out r f = record { answer = f.answer; output = ap (λ (g : Given ℕ). output_of g (bytes_of l) out) f.answer }
 
 -- else the bytes stand at its start
-pub puts : (l d d' out out' : List ℕ) (r : Written) (n : ℕ) → Lays l (length out) d r d' → r ≡ written.Bytes n → length d ≡ max_blocks
-    → out' ≡ overlay out 0 (take n d') → WritesBlocks l out (written.Bytes n) out'
-puts l d d' out out' r n f e z o =
-    let a : gives n ≡ written_of l (length out) = sym (ap writes e) ∙ f.answer in
+pub puts : (l d d' out out' : List ℕ) (n : ℕ) → Lays l (length out) d (Ok n) d' → length d ≡ max_blocks
+    → out' ≡ overlay out 0 (take n d') → WritesBlocks l out (Ok n) out'
+puts l d d' out out' n f z o =
     record {
-      answer = a;
-      output = o ∙ ap (overlay out 0) (front_of l d d' (length out) n r f (ap writes e) z).1 ∙ ap (λ (g : Given ℕ). output_of g (bytes_of l) out) a;
+      answer = f.answer;
+      output = o ∙ ap (overlay out 0) (front_of l d d' (length out) n (Ok n) f refl z).1 ∙ ap (λ (g : Given ℕ). output_of g (bytes_of l) out) f.answer;
     }

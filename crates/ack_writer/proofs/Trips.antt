@@ -10,7 +10,7 @@ use Rattle.ack_blocks.specs.Limits.{max_blocks, largest, kind_single, kind_run, 
 use Rattle.ack_blocks.specs.Blocks.{Block, single, run, map, between, has, acknowledges, block_bytes, laid}
 use Rattle.ack_blocks.specs.Read.{Given, gives, kind_in, first_in, last_in, size_in, block_in, run_fault_lem, fault_in, before, blocks_in, told, asked}
 use Rattle.ack_writer.specs.Write.{member, one_block, blocks_from, blocks_of, bytes_of, output_of, WritesBlocks}
-use Rattle.ack_writer.specs.declared.Written.TheVariants as written
+use Rattle.std.proofs.Common.{Ok}
 use Rattle.ack_blocks.proofs.BlockCases.{size-single, block-single, size-run, block_run, fault-run, fault-none}
 use Rattle.ack_writer.proofs.BlockOfRun.{single-length, run_length}
 use Rattle.ack_blocks.proofs.BlockTurns.{blocks-next, blocks_end, asked-fits}
@@ -190,7 +190,7 @@ pub bytes-ask : (l : List ℕ) (n : ℕ) → Numbers l → length (bytes_of l) �
 unfolding bytes_of
 bytes-ask l n a h = asked-fits (laid (blocks_of l)) n h ∙ ap (told n) (laid-blocks (blocks_of l) (blocks-good l a)) ∙ ap gives (blocks_members l n)
 
-pub write_bytes : (l out : List ℕ) (k : ℕ) (out' : List ℕ) → WritesBlocks l out (written.Bytes k) out' → take k out' ≡ bytes_of l
+pub write_bytes : (l out : List ℕ) (k : ℕ) (out' : List ℕ) → WritesBlocks l out (Ok k) out' → take k out' ≡ bytes_of l
 write_bytes l out k out' w =
     let m = written_makes l (length out) k (sym w.answer) in
     let b : List ℕ = bytes_of l in
@@ -198,6 +198,6 @@ write_bytes l out k out' w =
     w.output ∙ ap (λ (g : Given ℕ). output_of g b out) (sym w.answer) ∙ overlay-eq out 0 b (omega (arith, m.enough)) in
     ap (take k) o ∙ take_at b (drop (0 + length b) out) k (sym m.is)
 
-pub written_asks : (l out : List ℕ) (k : ℕ) (out' : List ℕ) → Numbers l → WritesBlocks l out (written.Bytes k) out' → (n : ℕ) → asked (take k out') n ≡ gives (member l n)
+pub written_asks : (l out : List ℕ) (k : ℕ) (out' : List ℕ) → Numbers l → WritesBlocks l out (Ok k) out' → (n : ℕ) → asked (take k out') n ≡ gives (member l n)
 written_asks l out k out' a w n =
     ap (λ (b : List ℕ). asked b n) (write_bytes l out k out' w) ∙ bytes-ask l n a (written_makes l (length out) k (sym w.answer)).fits

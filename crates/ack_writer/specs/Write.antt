@@ -1,12 +1,12 @@
 -- The blocks of a list of numbers, and what the writer answers and writes: refusals 75, 77, 76 in that order. Definitions only.
-use Rattle.std.specs.Prelude.{◌≡◌, Bool, true, false, ◌&&◌, ◌||◌, List, [], ◌∷◌, ℕ, ◌+◌, eqb, ltb, length}
+use Rattle.std.specs.Prelude.{◌≡◌, Bool, true, false, ◌&&◌, ◌||◌, List, [], ◌∷◌, ℕ, ◌+◌, eqb, ltb, length, Result}
 use Rattle.wire.specs.Choice.{pick}
 use Rattle.wire.specs.Overlay.{overlay}
 use Rattle.ack_blocks.specs.Limits.{max_blocks}
 use Rattle.ack_blocks.specs.Blocks.{Block, single, run, laid}
 use Rattle.ack_blocks.specs.Read.{Given, gives, refuses}
-use Rattle.ack_writer.specs.declared.Written.{Written}
-use Rattle.ack_writer.specs.declared.Written.TheVariants as written
+use Rattle.refusals.specs.declared.Refusal.{Refusal}
+use Rattle.refusals.specs.Answers.{given}
 
 -- n is in the list
 abbrev pub member : List ℕ → ℕ → Bool
@@ -46,9 +46,8 @@ unfoldable pub written_of : List ℕ → ℕ → Given ℕ
 written_of l room = pick (rising l) (room_for (length (bytes_of l)) room) (refuses 75)
 
 -- the code's answer, in the paper's values
-abbrev pub writes : Written → Given ℕ
-writes (written.Bytes n) = gives n
-writes (written.Refused number) = refuses number
+abbrev pub writes : Result ℕ Refusal → Given ℕ
+writes r = given r
 
 -- a refusal leaves the output; else the bytes stand at its start
 abbrev pub output_of : Given ℕ → List ℕ → List ℕ → List ℕ
@@ -56,6 +55,6 @@ output_of (refuses number) b out = out
 output_of (gives n) b out = overlay out 0 b
 
 -- the answer, and every byte of the lent output
-pub record WritesBlocks (l out : List ℕ) (r : Written) (out' : List ℕ) : Type 0 where
+pub record WritesBlocks (l out : List ℕ) (r : Result ℕ Refusal) (out' : List ℕ) : Type 0 where
   pub answer : writes r ≡ written_of l (length out)
   pub output : out' ≡ output_of (written_of l (length out)) (bytes_of l) out

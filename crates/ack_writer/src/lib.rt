@@ -8,12 +8,8 @@ ghost use Rattle.ack_blocks.specs.Blocks.{block_bytes};
 ghost use Rattle.ack_writer.specs.Write.{one_block, room_for, writes, WritesBlocks};
 ghost use Rattle.ack_writer.specs.InsideWalk.{RunFrom, PutNext, Lays};
 
-// How many bytes were written.
-#[derive(Clone, Copy)]
-pub enum Written {
-    Bytes(usize),
-    Refused(u32),
-}
+use ack_blocks::Kind;
+use refusals::Refusal;
 
 // An unbroken run of a list: its last number, the place after it, and whether the number there, if any, is above.
 #[derive(Drop)]
@@ -39,22 +35,20 @@ fn run_from(list: &[u64], from: usize) -> Run
     ensures { RunFrom list.now from result.last result.next result.rises }
 {
     let mut last = list[from];
-    let mut i = from + 1;
-    while i < list.len() {
+    for i in from + 1..list.len() {
         let x = list[i];
         if !follows(last, x) {
             return Run {
-                last: last,
+                last,
                 next: i,
                 rises: last < x,
             };
         }
         last = x;
-        i += 1;
     }
     Run {
-        last: last,
-        next: i,
+        last,
+        next: list.len(),
         rises: true,
     }
 }
@@ -75,11 +69,11 @@ fn put_block(out: &mut [u8], at: usize, first: u64, last: u64)
     ensures { out.new ≡ overlay out.old at (block_bytes (one_block first last)) }
 {
     if first == last {
-        wire::put_number(&mut *out, at, 1, ack_blocks::SINGLE);
+        wire::put_number(&mut *out, at, 1, u64::from(Kind::Single));
         wire::put_number(&mut *out, at + 1, 8, first);
         return;
     }
-    wire::put_number(&mut *out, at, 1, ack_blocks::RUN);
+    wire::put_number(&mut *out, at, 1, u64::from(Kind::Run));
     wire::put_number(&mut *out, at + 1, 8, first);
     wire::put_number(&mut *out, at + 9, 8, last);
 }
@@ -96,21 +90,21 @@ fn put_next(blocks: &mut [u8], at: usize, first: u64, last: u64) -> usize
 }
 
 // So many bytes, or why they are not written.
-fn room_for(n: usize, room: usize) -> Written
+fn room_for(n: usize, room: usize) -> Result<usize, Refusal>
     ensures { writes result ≡ room_for n room }
 {
     if ack_blocks::MAX_BLOCKS < n {
-        return Written::Refused(77);
+        return Err(Refusal::BlocksTooLong);
     }
     if room < n {
-        return Written::Refused(76);
+        return Err(Refusal::NoRoomForBlocks);
     }
-    Written::Bytes(n)
+    Ok(n)
 }
 
 // Goes over the list once: its blocks at the start of the block space, and how many bytes they take, or why they are not written. That it
 // does not rise may be seen at its end, so nothing goes to the output here.
-fn lay(list: &[u64], room: usize, blocks: &mut [u8]) -> Written
+fn lay(list: &[u64], room: usize, blocks: &mut [u8]) -> Result<usize, Refusal>
     ensures { Lays list.now room blocks.old result blocks.new }
 {
     let mut at: usize = 0;
@@ -118,7 +112,7 @@ fn lay(list: &[u64], room: usize, blocks: &mut [u8]) -> Written
     while i < list.len() {
         let run = run_from(list, i);
         if !run.rises {
-            return Written::Refused(75);
+            return Err(Refusal::DoesNotRise);
         }
         at = put_next(&mut *blocks, at, list[i], run.last);
         i = run.next;
@@ -127,15 +121,12 @@ fn lay(list: &[u64], room: usize, blocks: &mut [u8]) -> Written
 }
 
 // Writes the blocks of a list of numbers, sorted and distinct, at the start of the output: a lone number as a single, each longer unbroken
-// run as first to last.
-pub fn write_blocks(list: &[u64], out: &mut [u8]) -> Written
+// run as first to last. Answers how many bytes they take.
+pub fn write_blocks(list: &[u64], out: &mut [u8]) -> Result<usize, Refusal>
     ensures { WritesBlocks list.now out.old result out.new }
 {
     let mut blocks = [0u8; ack_blocks::MAX_BLOCKS];
-    let r = lay(list, out.len(), &mut blocks);
-    let Written::Bytes(n) = r else {
-        return r;
-    };
+    let n = lay(list, out.len(), &mut blocks)?;
     wire::put_bytes(&mut *out, 0, &blocks[..n]);
-    r
+    Ok(n)
 }

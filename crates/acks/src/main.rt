@@ -1,49 +1,60 @@
 // Is a packet acknowledged? Standard input holds records, each after a 4-byte big-endian length: an 8-byte number and then acknowledge blocks;
 // a line says whether the blocks acknowledge the number, or why they are refused.
-#![tactic(auto)]
+#![tactic(auto, using(output::proofs::Adding::adds_then))]
 
-ghost use Rattle.std.specs.Prelude.{◌≤◌, length};
+ghost use Rattle.std.specs.Prelude.{◌≡◌, ◌≤◌, length};
 ghost use Rattle.wire.specs.Slices.{buffer};
 ghost use Rattle.ack_blocks.specs.Read.{answers};
 ghost use Rattle.stream.specs.declared.Kind.TheVariants.{Bytes4};
-ghost use Rattle.output.specs.Output.{Pours, line_limit};
-ghost use Rattle.record_lines.specs.Lines.{Tells};
-ghost use Rattle.acks.specs.Lines.{answer_text, line, lines};
+ghost use Rattle.output.specs.Output.{Adds, line_limit};
+ghost use Rattle.record_lines.specs.Lines.{Tells, each};
+ghost use Rattle.acks.specs.Lines.{record_answer, answer_text, line, lines};
 
-use ack_blocks::Answer;
+use output::Output;
+use record_lines::Teller;
+use refusals::Refusal;
 use std::io::{Stdin, Stdout};
-use stream::{Input, Kind, Next};
+use stream::{Input, Kind};
 
 // The bytes of a record before its blocks.
 const NUMBER: usize = 8;
 
-fn pour_answer(stdout: Stdout, out: &mut [u8], at: usize, a: Answer) -> usize
-    ensures { Pours out.old at (answer_text (answers a)) out.new result }
+// What a record is answered.
+fn answer(b: &[u8]) -> Result<bool, Refusal>
+    ensures { answers result ≡ record_answer b.now }
 {
-    match a {
-        Answer::Yes => output::pour(stdout, out, at, b" yes\n"),
-        Answer::No => output::pour(stdout, out, at, b" no\n"),
-        Answer::Refused(number) => output::pour_counted_line(
-            stdout,
-            out,
-            at,
-            b" refused ",
-            number as u64,
-        ),
+    if b.len() < NUMBER {
+        return Err(Refusal::BlockCut);
+    }
+    let number = wire::number(b, 0, NUMBER);
+    ack_blocks::ask(&b[NUMBER..], number)
+}
+
+fn pour_answer(out: &mut Output, answer: Result<bool, Refusal>)
+    ensures { Adds out.old (answer_text (answers answer)) out.new }
+{
+    match answer {
+        Ok(true) => out.pour(b" yes\n"),
+        Ok(false) => out.pour(b" no\n"),
+        Err(refusal) => out.pour_counted_line(b" refused ", u64::from(refusal.number())),
     }
 }
 
-// The line of a record. Answers the place after it.
-fn one_more(stdout: Stdout, out: &mut [u8], at: usize, n: u64, b: &[u8]) -> usize
-    ensures { Pours out.old at (line n b.now) out.new result }
-{
-    let next = output::pour_decimal(stdout, out, at, n);
-    if b.len() < NUMBER {
-        return output::pour_counted_line(stdout, out, next, b" refused ", 70);
+// Nothing is known from record to record.
+#[derive(Drop)]
+struct Acks;
+
+impl Teller for Acks {
+    ghost Known = { Unit {0} };
+
+    ghost says = { each (λ n x. line n x.body) };
+
+    ghost known = { λ _. tt };
+
+    fn line(&mut self, out: &mut Output, n: u64, _head: &[u8], body: &[u8]) {
+        out.pour_decimal(n);
+        pour_answer(out, answer(body));
     }
-    let number = wire::number(b, 0, NUMBER);
-    let a = ack_blocks::ask(wire::part(b, NUMBER, b.len()), number);
-    pour_answer(stdout, out, next, a)
 }
 
 // One line a record of the input, and the last line. Answers whether the system took all of them; it stops where it did not. The buffer holds
@@ -52,22 +63,8 @@ fn run(stdin: Stdin, stdout: Stdout, buf: &mut [u8], input: Input, out: &mut [u8
     requires { line_limit ≤ length out.old }
     ensures { Tells Bytes4 lines buf.old input (buffer out) 0 result }
 {
-    let mut rest = input;
-    let mut at: usize = 0;
-    let mut n: u64 = 0;
-    while n < stream::MANY {
-        let next = stream::next_record(stdin, buf, rest, Kind::Bytes4);
-        let Next::Record(from, len, left) = next else {
-            return output::finish(stdout, out, at, n, next);
-        };
-        n += 1;
-        rest = left;
-        at = one_more(stdout, out, at, n, wire::part(buf, from, len));
-        if at == output::CLOSED {
-            return false;
-        }
-    }
-    output::finish(stdout, out, at, n, Next::Cut)
+    let mut out = Output::new(stdout, out);
+    record_lines::tell(stdin, buf, input, Kind::Bytes4, &mut out, &mut Acks)
 }
 
 fn main(rt: HostRuntime) {

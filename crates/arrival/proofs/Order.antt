@@ -12,7 +12,7 @@ use Rattle.datagram.proofs.Names.{name-no-zero}
 use Rattle.datagram.proofs.Saids.{SmallRead, small-read}
 use Rattle.steps.specs.declared.Key.{Key}
 use Rattle.steps.specs.declared.Emptied.TheVariants.{Nobody}
-use Rattle.steps.specs.declared.Answer.TheVariants.{Refused, Repeat}
+use Rattle.steps.specs.Receive.{Refused, Repeat}
 use Rattle.steps.specs.Limits.{slot_count, ledger_length, slot_size_of}
 use Rattle.steps.specs.Search.{all_below, count}
 use Rattle.steps.specs.Memory.{key_of, Memory, is_remembered_lem, remember, remember_all, memory_ok}

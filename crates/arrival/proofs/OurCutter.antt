@@ -3,7 +3,7 @@ use Rattle.wire.proofs.Basics.{◌∙◌, sym, ◌≡◌, ap, refl, subst, ℕ, 
 use Rattle.wire.specs.Choice.{pick}
 use Rattle.datagram.specs.Limits.{max_payload, max_fragments}
 use Rattle.datagram.specs.Said.{fragment, said}
-use Rattle.cutter.specs.declared.Cut.TheVariants.{Made}
+use Rattle.std.proofs.Common.{Ok}
 use Rattle.cutter.specs.Cut.{CutTo, is_small, count_of, begins_at_lem, datagram_of, piece_of}
 use Rattle.cutter.specs.Trip.{Cuttable, cut_fragment, joined}
 use Rattle.cutter.proofs.Counts.{begins-next, count-some, piece-full, joined-all}
@@ -87,7 +87,7 @@ module _ (C sender q : ℕ) (name payload : List ℕ) (m : ℕ) (w : Cuttable ma
 
 -- what a call of the cutter that made a datagram left
 pub one-of-ours : (C sender : ℕ) (name payload : List ℕ) (q m index : ℕ) (out : List ℕ) (n l : ℕ) (out' : List ℕ)
-    → q < 2 ^ 32 → CutTo name payload q m index out (Made n l) out' → OneOfOurs C (cut_message sender q name payload m) index n l out'
+    → q < 2 ^ 32 → CutTo name payload q m index out (Ok (record { count = n; len = l })) out' → OneOfOurs C (cut_message sender q name payload m) index n l out'
 one-of-ours C sender name payload q m index out n l out' fits k =
     let w : Cuttable max_payload max_fragments q name payload m = cuttable name payload q m index out n l out' fits k in
     let d : Done name payload m index (length out) n l = made name payload m index (length out) n l (sym k.answer) in

@@ -7,7 +7,7 @@ use Rattle.steps.specs.Answers.{reply}
 use Rattle.steps.specs.Runs.{World, key_in, run, heard}
 use Rattle.receiver_state.proofs.Unique.{shaped-still}
 use Rattle.receiver.specs.declared.Outcome.{Outcome}
-use Rattle.receiver.specs.declared.Call.{Call}
+use Rattle.receiver.specs.Calls.{Call}
 use Rattle.receiver_state.specs.View.{view, shaped}
 use Rattle.receiver.specs.Lent.{Lent, lent}
 use Rattle.receiver.specs.Calls.{refusal_of, Receives, received, told}

@@ -6,7 +6,7 @@ use Rattle.wire.proofs.Overlays.{length-overlay}
 use Rattle.datagram.specs.Limits.{max_fragments}
 use Rattle.datagram.specs.Said.{Fragment}
 use Rattle.steps.specs.declared.Emptied.{Emptied}
-use Rattle.steps.specs.declared.Answer.TheVariants.{Delivered}
+use Rattle.steps.specs.Receive.{Delivered}
 use Rattle.steps.specs.declared.PayloadAt.TheVariants.{InStore}
 use Rattle.steps.specs.Limits.{slot_count, slot_size_of}
 use Rattle.steps.specs.Search.{all_below}

@@ -3,12 +3,12 @@ use Rattle.wire.proofs.Basics.{◌∙◌, sym, ◌≡◌, ap, refl, subst, ℕ, 
 use Rattle.wire.specs.Choice.{pick}
 use Rattle.steps.specs.Receive.{After, opened, step, step_within, forget}
 use Rattle.steps.proofs.Limited.{within-reached}
-use Rattle.steps.specs.Answers.{reply}
+use Rattle.steps.specs.Answers.{answer_told, reply}
 use Rattle.steps.specs.Runs.{World, lending, world_of, Arrival, key_in, call}
 use Rattle.steps.specs.Reach.{Reached, opens, receives, forgets, is_accepted}
 use Rattle.receiver_state.proofs.Unique.{shaped-still}
 use Rattle.receiver.specs.declared.Outcome.{Outcome}
-use Rattle.receiver.specs.declared.Call.{Call}
+use Rattle.receiver.specs.Calls.{Call}
 use Rattle.receiver_state.specs.View.{view, shaped}
 use Rattle.receiver.specs.Lent.{Lent, lent, world_in}
 use Rattle.receiver.specs.Calls.{Receives, received, Forgets, forgotten}
@@ -75,13 +75,13 @@ module _ (w : World) (l : Lent) (h : Shows w l) (x : Arrival) (r : Outcome) (l' 
       machine = (k.leaves.machine ∙ ap (λ (a : After). a.machine) received_is) i;
       store = (k.leaves.store ∙ ap (λ (a : After). a.store) received_is) i;
       ledger = (k.leaves.ledger ∙ ap (λ (a : After). a.ledger) received_is) i;
-      answer = r.answer;
+      answer = answer_told r.answer;
       emptied = r.emptied;
       name = r.name;
     });
   }
 
-  takes-answers : r.answer ≡ (call w x).answer
+  takes-answers : answer_told r.answer ≡ (call w x).answer
   takes-answers = k.leaves.answer ∙ ap (λ (a : After). a.answer) received_is
 
   takes-hands : hands l x r l' ≡ strange.hands_over w x

@@ -9,8 +9,8 @@ use Rattle.names.specs.Name.{good_name_lem}
 use Rattle.datagram.specs.Said.{Fragment, Said, fragment, said}
 use Rattle.datagram.proofs.Saids.{Formed}
 use Rattle.steps.specs.declared.Key.{Key}
-use Rattle.steps.specs.declared.Answer.{Answer}
-use Rattle.steps.specs.declared.Answer.TheVariants.{Refused, Kept, Repeat, Delivered}
+use Rattle.steps.specs.Receive.{Answer}
+use Rattle.steps.specs.Receive.{Refused, Kept, Repeat, Delivered}
 use Rattle.steps.specs.declared.Emptied.{Emptied}
 use Rattle.steps.specs.declared.Emptied.TheVariants.{Nobody}
 use Rattle.steps.specs.Limits.{slot_count, ledger_length, slot_size_of}

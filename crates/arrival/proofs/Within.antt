@@ -6,12 +6,11 @@ use Rattle.datagram.specs.Limits.{max_datagram}
 use Rattle.datagram.specs.Name.{name_length_lem}
 use Rattle.datagram.specs.Read.{magic_in, small_magic, fragment_magic, size_in, number_in, count_in, place, part_of, good_form, fragment_header, formed, zero_to, read_small_lem, read_fragment_lem, read_datagram_lem}
 use Rattle.datagram.specs.Said.{Fragment, Said, refused, small, fragment, fragment_in, says, said}
-use Rattle.datagram.specs.declared.Named.{Named}
-use Rattle.datagram.specs.declared.Named.TheVariants.{Nameless, Long}
+use Rattle.std.proofs.Common.{Option as Maybe, Some, None}
 use Rattle.datagram.specs.declared.Place.{Place}
 use Rattle.datagram.specs.declared.Header.{Header}
-use Rattle.datagram.specs.declared.Read.{Read}
-use Rattle.datagram.specs.declared.Read.TheVariants.{Good, Refused}
+use Rattle.datagram.specs.Read.{Read}
+use Rattle.datagram.specs.Read.{Good, Refused}
 
 module _ (d : List ℕ) where
   -- a header that is read as a fragment's has the size that the datagram names
@@ -29,9 +28,9 @@ module _ (d : List ℕ) where
       (sym (ap (λ (x : Header). x.small) z), sym (ap (λ (x : Header). x.size) z)))
       (λ e. none-good 7)
 
-  zero-size : (r : Named) → OfFragment (zero_to d r)
-  zero-size Nameless = none-good 4
-  zero-size (Long c) = formed-size (place 20 c) (21 + c)
+  zero-size : (r : Maybe ℕ) → OfFragment (zero_to d r)
+  zero-size None = none-good 4
+  zero-size (Some c) = formed-size (place 20 c) (21 + c)
 
   -- what the reader says of a fragment past refusal 6
   abbrev body : Read

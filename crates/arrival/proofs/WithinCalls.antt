@@ -1,7 +1,7 @@
 -- A call of `receive_within` whose limits let the datagram through is a call of `receive`; one that refuses leaves all as it was.
 use Rattle.wire.proofs.Basics.{◌≡◌, ap, subst, ℕ}
 use Rattle.wire.specs.Choice.{pick}
-use Rattle.steps.specs.declared.Answer.TheVariants.{Refused}
+use Rattle.steps.specs.Receive.{Refused}
 use Rattle.steps.specs.Receive.{After, stay}
 use Rattle.steps.specs.Runs.{Arrival}
 use Rattle.steps.proofs.Limited.{let_through_lem}

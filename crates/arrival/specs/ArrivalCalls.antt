@@ -3,9 +3,10 @@ use Rattle.std.specs.Prelude.{◌≡◌, ℕ, min}
 use Rattle.wire.specs.Choice.{pick}
 use Rattle.datagram.specs.Limits.{max_fragments}
 use Rattle.datagram.specs.Said.{said}
-use Rattle.steps.specs.declared.Answer.TheVariants.{Refused}
+use Rattle.steps.specs.Receive.{Refused}
 use Rattle.steps.specs.Receive.{After, stay, step_within}
 use Rattle.steps.specs.Runs.{Arrival}
+use Rattle.steps.specs.Answers.{answer_told}
 use Rattle.receiver.specs.declared.Outcome.{Outcome}
 use Rattle.receiver_state.specs.View.{view, shaped}
 use Rattle.receiver.specs.Lent.{Lent}
@@ -39,4 +40,4 @@ pub record TurnsAway (l : Lent) (r : Outcome) (l' : Lent) : Type 0 where
   pub came : Arrival
   pub call : TakesWithin payload fragments l came r l'
   pub number : ℕ
-  pub refuses : r.answer ≡ Refused number
+  pub refuses : answer_told r.answer ≡ Refused number

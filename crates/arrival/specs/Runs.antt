@@ -1,10 +1,10 @@
 -- What demand 3 gives for the code: calls of `open`, `receive` and `receive_within`, one after another, over lent memory that nobody else changes. Definitions only.
 use Rattle.std.specs.Prelude.{◌≡◌, List, [], map, ℕ, length}
 use Rattle.std.proofs.Math.Option.{Option, none}
-use Rattle.steps.specs.Answers.{reply}
+use Rattle.steps.specs.Answers.{answer_told, reply}
 use Rattle.steps.specs.Runs.{Arrival, key_in}
 use Rattle.receiver.specs.declared.Outcome.{Outcome}
-use Rattle.receiver.specs.declared.Call.{Call}
+use Rattle.receiver.specs.Calls.{Call}
 use Rattle.receiver_state.specs.View.{view}
 use Rattle.receiver.specs.Lent.{Lent, lent}
 use Rattle.receiver.specs.Calls.{refusal_of, told}
@@ -24,7 +24,7 @@ pub data Calls (σ : Scene) : Feed → Lent → Type 0 where
 
 -- what a call handed over to that arrival, with slots of C bytes, by its outcome and the store that it left
 abbrev pub hands_over : ℕ → Arrival → Outcome → List ℕ → Option Delivery
-hands_over C x r store = handed_by (key_in C x) (name_in r.name) (reply x.datagram store r.answer)
+hands_over C x r store = handed_by (key_in C x) (name_in r.name) (reply x.datagram store (answer_told r.answer))
 
 -- all that the calls handed over, the latest first
 abbrev pub handed_over : {σ : Scene} {f : Feed} {l : Lent} → Calls σ f l → List Delivery

@@ -4,8 +4,9 @@ use Rattle.std.specs.Prelude.{◌≡◌, true, false, List, ℕ, ◌<◌}
 use Rattle.std.proofs.Math.Option.{Option, none, some}
 use Rattle.steps.specs.Runs.{Arrival}
 use Rattle.steps.specs.Reach.{is_open, is_accepted}
+use Rattle.steps.specs.Answers.{answer_told}
 use Rattle.receiver.specs.declared.Outcome.{Outcome}
-use Rattle.receiver.specs.declared.Call.{Call}
+use Rattle.receiver.specs.Calls.{Call}
 use Rattle.receiver_state.specs.View.{view}
 use Rattle.receiver.specs.Lent.{Lent, lent, world_in}
 use Rattle.receiver.specs.Calls.{refusal_of, Receives, Forgets}
@@ -50,7 +51,7 @@ pub record CodeBegins (m : Message) (l₀ : Lent) (k₀ : ℕ) (r₀ : Outcome) 
   pub its_own : k₀ < parts m
   pub not-open : is_open (view l₀.state l₀.names) (key m) ≡ false
   pub taken : Takes l₀ (part m k₀) r₀ l₁
-  pub accepted : is_accepted r₀.answer ≡ true
+  pub accepted : is_accepted (answer_told r₀.answer) ≡ true
 
 pub record CodePromised (m : Message) (l₀ : Lent) (k₀ : ℕ) (r₀ : Outcome) (l₁ : Lent) : Type 0 where
   pub at_once : complete (start_of m l₀ k₀) begun ≡ true → hands l₀ (part m k₀) r₀ l₁ ≡ some (its m)

@@ -7,8 +7,8 @@ use Rattle.steps.specs.Held.{none_held, hold}
 use Rattle.steps.specs.declared.Key.{Key}
 use Rattle.steps.specs.declared.PayloadAt.{PayloadAt}
 use Rattle.steps.specs.declared.PayloadAt.TheVariants.{InDatagram, InStore}
-use Rattle.steps.specs.declared.Answer.{Answer}
-use Rattle.steps.specs.declared.Answer.TheVariants.{Kept, Delivered}
+use Rattle.steps.specs.Receive.{Answer}
+use Rattle.steps.specs.Receive.{Kept, Delivered}
 use Rattle.steps.specs.Memory.{key_of, Place, empty_memory, is_remembered_lem, remember, remember_all, forget_keys}
 use Rattle.steps.specs.Slots.{Slot, no_slot, no_name_lem, padded}
 use Rattle.steps.specs.Receive.{After, offset_of, length_of}

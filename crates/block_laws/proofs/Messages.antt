@@ -9,7 +9,7 @@ use Rattle.moss.specs.Limits.{max_message}
 use Rattle.moss.specs.Blocks.{block, laid, messages_in}
 use Rattle.moss.specs.Packet.{gives, refuses}
 use Rattle.moss_writer.specs.Write.{laid_of, output_of, LaysBlock}
-use Rattle.moss_writer.specs.declared.Written.TheVariants as written
+use Rattle.std.proofs.Common.{Ok}
 use Rattle.moss_writer.proofs.Laying.{Short, laid-messages}
 use Rattle.block_laws.specs.Messages.{Laid, no_more, lays, InARow}
 
@@ -21,7 +21,7 @@ record One (m : List ℕ) (at : ℕ) (out : List ℕ) (n : ℕ) (out₁ : List �
   is : n ≡ 2 + length m
   output : out₁ ≡ overlay out at (block m)
 
-one : (m : List ℕ) (at : ℕ) (out : List ℕ) (n : ℕ) (out₁ : List ℕ) → LaysBlock m at out (written.Bytes n) out₁ → One m at out n out₁
+one : (m : List ℕ) (at : ℕ) (out : List ℕ) (n : ℕ) (out₁ : List ℕ) → LaysBlock m at out (Ok n) out₁ → One m at out n out₁
 unfolding laid_of
 one m at out n out₁ w = go (ltb max_message (length m)) refl (ltb (length out) (at + (2 + length m))) refl w.answer w.output
   where

@@ -4,12 +4,12 @@ use Rattle.std.proofs.Math.Option.{some}
 use Rattle.wire.specs.Overlay.{overlay}
 use Rattle.moss.specs.Blocks.{laid, messages_in}
 use Rattle.moss_writer.specs.Write.{LaysBlock}
-use Rattle.moss_writer.specs.declared.Written.TheVariants as written
+use Rattle.std.specs.Prelude.{Ok}
 
 -- none of the calls was refused; of each only its contract is known. From a place of an output to the place behind the last block, and the output then
 pub data Laid : List (List ℕ) → ℕ → List ℕ → ℕ → List ℕ → Type 0 where
   no_more : {at : ℕ} {out : List ℕ} → Laid [] at out at out
-  lays : {ms : List (List ℕ)} {at end : ℕ} {out out₁ out' : List ℕ} (m : List ℕ) (n : ℕ) → LaysBlock m at out (written.Bytes n) out₁ → Laid ms (at + n) out₁ end out'
+  lays : {ms : List (List ℕ)} {at end : ℕ} {out out₁ out' : List ℕ} (m : List ℕ) (n : ℕ) → LaysBlock m at out (Ok n) out₁ → Laid ms (at + n) out₁ end out'
       → Laid (m ∷ ms) at out end out'
 
 pub record LeavesBlocks (ms : List (List ℕ)) (at : ℕ) (out : List ℕ) (end : ℕ) (out' : List ℕ) : Type 0 where

@@ -6,7 +6,7 @@ use Rattle.steps.specs.Answers.{Reply}
 use Rattle.steps.specs.Receive.{opened}
 use Rattle.steps.specs.Runs.{lending, fresh}
 use Rattle.receiver_state.specs.View.{state_words_lem, name_bytes_lem, view, shaped}
-use Rattle.receiver.specs.declared.Call.{Call}
+use Rattle.receiver.specs.Calls.{Call}
 use Rattle.open_and_payload.specs.Ends.{Opens}
 use Rattle.flight_log.specs.declared.reader.Limits.{Limits}
 use Rattle.flight_log.specs.Editions.{limits_in_lem}
@@ -25,13 +25,13 @@ use Rattle.count_rules.proofs.EntryByEntry.{walk-agrees}
 use Rattle.pit_marks.specs.declared.Sizes.{Sizes}
 use Rattle.pit_marks.specs.Sets.{Sets, rooms, held_in, Has}
 use Rattle.pit_marks.proofs.Told.{has-none}
-use Rattle.stretch.specs.declared.Stop.TheVariants as stop
-use Rattle.stretch.specs.declared.Stretch.{Stretch}
+use Rattle.stretch.specs.Stop as stop
+use Rattle.stretch.specs.Stop.{Stretch}
 use Rattle.stretch.specs.Stretch.{Desk, Kit, kit_of, in_shape, Stretched, stretch, Clean, stop_fault, entries_of, totals_of, stretch_of, CountsOn}
 use Rattle.stretch.proofs.StretchAnswers.{clean-zero, clean-answers, refused-some}
-use Rattle.count.specs.declared.Counted.{Counted}
-use Rattle.count.specs.declared.Surveyed.{Surveyed}
-use Rattle.count.specs.declared.Surveyed.TheVariants as surveyed
+use Rattle.count.specs.Answer.{Counted}
+use Rattle.count.specs.Inside as surveyed
+use Rattle.count.specs.Inside.{Surveyed}
 use Rattle.count.specs.Counts.{counted, loan, Counts}
 use Rattle.count.specs.Inside.{survey_of, Whole, own, report_with}
 use Rattle.count.proofs.Walking.{Walks, held_of, stretch-walks, as-many-entries}

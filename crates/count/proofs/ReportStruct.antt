@@ -14,8 +14,8 @@ use Rattle.wire.specs.Slices.{◌⇒◌}
 use Rattle.pit_marks.specs.Lines.{Lays}
 use Rattle.pit_marks.specs.Sets.{Sets, Has}
 use Rattle.pit_marks.proofs.Told.{tiles-told, pits-told, sure-told}
-use Rattle.count.specs.declared.Answer.TheVariants.{Given}
-use Rattle.count.specs.declared.Counted.{Counted}
+use Rattle.count.specs.Answer.{Given}
+use Rattle.count.specs.Answer.{Counted}
 use Rattle.stretch.specs.declared.Totals.{Totals}
 use Rattle.count.specs.Counts.{zeros, padded, column_of, counted}
 use Rattle.count.specs.Inside.{report_with}

@@ -5,8 +5,8 @@ use Rattle.wire.specs.Choice.{pick}
 use Rattle.steps.specs.Answers.{Reply, refused_by, kept, repeat, delivered}
 use Rattle.steps.specs.Runs.{World}
 use Rattle.flight_log.specs.declared.reader.Limits.{Limits}
-use Rattle.flight_log.specs.declared.reader.Step.{Step}
-use Rattle.flight_log.specs.declared.reader.Step.TheVariants as step
+use Rattle.flight_log.specs.Step.{Step}
+use Rattle.flight_log.specs.Step as step
 use Rattle.flight_log.specs.Entries.{Entry}
 use Rattle.flight_log.specs.Listed.{Listed, whole, broken, after}
 use Rattle.flight_log.specs.Said.{entry_said, read_at, onward, read_on}
@@ -19,7 +19,7 @@ use Rattle.pit_marks.specs.Sets.{rooms, Has}
 use Rattle.pit_payloads.specs.Took.{fault_in, lists_in, fault_over}
 use Rattle.pit_payloads.specs.Inside.{Took}
 use Rattle.pit_payloads.proofs.PayloadTaken.{takes}
-use Rattle.stretch.specs.declared.Stop.TheVariants as stop
+use Rattle.stretch.specs.Stop as stop
 use Rattle.stretch.specs.Stretch.{Kit, called_on, looked_at, kit_with, enter_on, Stretched, here, by_step, stretch, Clean, stop_fault, entries_of}
 use Rattle.stretch.proofs.StretchAnswers.{list-long, seen-then, lists-both, clean-ok, entries-after}
 use Rattle.count.specs.Inside.{own}

@@ -21,8 +21,8 @@ use Rattle.count_rules.specs.Walk.{seen_after}
 use Rattle.count_rules.proofs.Seen.{seen-report}
 use Rattle.count_rules.specs.Promise.{payloads_of, Shown, shown_of, shown}
 use Rattle.count_rules.proofs.Shows.{shown_promise}
-use Rattle.count.specs.declared.Answer.TheVariants.{Given, Refused}
-use Rattle.count.specs.declared.Counted.{Counted}
+use Rattle.count.specs.Answer.{Given, Refused}
+use Rattle.count.specs.Answer.{Counted}
 use Rattle.count.specs.Counts.{counted, given, zeros, column_of, Loan, Counts}
 use Rattle.host_count.specs.Numbers.{report_length, numbers_of}
 use Rattle.host_count.specs.Told.{code_of, report_left}

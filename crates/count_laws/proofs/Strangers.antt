@@ -2,8 +2,7 @@
 use Rattle.wire.proofs.Basics.{◌∙◌, sym, ◌≡◌, ap, refl, subst, ℕ, List, [], ◌∷◌, ◌++◌, append_assoc, true, inl, inr, some, length, arith}
 use Rattle.wire.specs.Choice.{pick}
 use Rattle.datagram.specs.declared.Header.{Header}
-use Rattle.datagram.specs.declared.Read.{Read}
-use Rattle.datagram.specs.declared.Read.TheVariants.{Good, Refused}
+use Rattle.datagram.specs.Read.{Read, Good, Refused}
 use Rattle.steps.specs.Limits.{slot_size_of}
 use Rattle.steps.specs.declared.Key.{Key}
 use Rattle.steps.specs.Answers.{Reply, refused_by, kept, repeat, delivered, reply}

@@ -9,7 +9,7 @@ use Rattle.names.specs.Name.{good_name_lem}
 use Rattle.datagram.specs.Name.{until_zero_lem, name_length_lem}
 use Rattle.datagram.specs.Read.{read_small_lem, good_form, formed, read_fragment_lem, read_datagram_lem}
 use Rattle.datagram.specs.Said.{said}
-use Rattle.datagram.specs.declared.Read.TheVariants.{Refused}
+use Rattle.datagram.specs.Read.{Refused}
 use Rattle.cutter.specs.Trip.{joined}
 use Rattle.steps.specs.Held.{none_held, is_held, hold}
 use Rattle.steps.specs.Memory.{since, among, empty_memory, is_remembered_lem, remember, place_for_lem, with_key, memory_ok}

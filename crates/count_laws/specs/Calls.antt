@@ -9,10 +9,9 @@ use Rattle.count_rules.specs.Count.{max_entries, first_fault}
 use Rattle.count_rules.specs.Count as counting
 use Rattle.count_rules.specs.Promise.{LogOf, payloads_of, Shown}
 use Rattle.season.specs.Losses.{Arrives, came_whole}
-use Rattle.count.specs.declared.Answer.{Answer}
-use Rattle.count.specs.declared.Answer.TheVariants.{Given, Refused}
+use Rattle.count.specs.Answer.{Answer, Given, Refused}
 use Rattle.count.specs.declared.Report.{Report}
-use Rattle.count.specs.declared.Counted.{Counted}
+use Rattle.count.specs.Answer.{Counted}
 use Rattle.count.specs.Counts.{Loan, column_of, given, Counts}
 use Rattle.host_count.specs.Numbers.{report_length}
 use Rattle.host_count.specs.Told.{CountTold}

@@ -2,8 +2,7 @@
 -- proofs/Strangers. Definitions only.
 use Rattle.std.specs.Prelude.{◌≡◌, ◌↔◌, ◌⊎◌, Bool, true, false, List, [], ◌∷◌, ◌++◌, ℕ, length}
 use Rattle.wire.specs.Choice.{pick}
-use Rattle.datagram.specs.declared.Read.{Read}
-use Rattle.datagram.specs.declared.Read.TheVariants.{Good, Refused}
+use Rattle.datagram.specs.Read.{Read, Good, Refused}
 use Rattle.steps.specs.Limits.{slot_size_of}
 use Rattle.steps.specs.Answers.{delivered}
 use Rattle.steps.specs.Runs.{World, Arrival, fresh, run, left_by}

@@ -2,9 +2,8 @@
 use Rattle.std.specs.Prelude.{List, ◌++◌, map, ℕ, length}
 use Rattle.count_rules.specs.Count.{Outcome, reported, no_report, count_log_lem}
 use Rattle.count_rules.specs.Count as counting
-use Rattle.count.specs.declared.Answer.{Answer}
-use Rattle.count.specs.declared.Answer.TheVariants.{Given, Refused}
-use Rattle.count.specs.declared.Counted.{Counted}
+use Rattle.count.specs.Answer.{Answer, Given, Refused}
+use Rattle.count.specs.Answer.{Counted}
 use Rattle.count.specs.declared.Report.{Report}
 use Rattle.count_lines.specs.Lines.{total_lines, refused_lines, lists_line, tile_lines, refusal_line}
 

@@ -3,13 +3,16 @@
 #![tactic(auto)]
 
 ghost use Rattle.std.specs.Prelude.{◌≤◌, length};
-ghost use Rattle.output.specs.Output.{Pours, Finishes, line_limit};
-ghost use Rattle.log_lines.specs.Lines.{Tells};
+ghost use Rattle.output.specs.Output.{Adds, line_limit};
+ghost use Rattle.log_lines.specs.InsideTells.{Tells};
+ghost use Rattle.count.specs.Counts.{told};
 ghost use Rattle.count_pits.specs.Lines.{report_lines, count_lines_lem, log_lines_lem};
 
-use count::{Answer, Counted, Report};
+use count::Report;
+use log_lines::Teller;
+use output::Output;
+use refusals::Refusal;
 use std::io::{Stdin, Stdout};
-use stream::All;
 
 // The bytes of the longest log that it holds.
 const HOLDS: usize = 2097152;
@@ -20,71 +23,55 @@ const STORE: usize = 2097152;
 // The numbers of the list: as many as a message can have.
 const NUMBERS: usize = 262144;
 
-fn pour_report(stdout: Stdout, out: &mut [u8], at: usize, report: Report) -> usize
-    ensures { Pours out.old at (report_lines report) out.new result }
+fn pour_report(out: &mut Output, report: Report)
+    ensures { Adds out.old (report_lines report) out.new }
 {
     let refused = report.refused;
     let tile = report.tile;
     let pits = report.pits;
     let sure = report.sure;
-    let a = count_lines::pour_totals(
-        stdout,
-        out,
-        at,
+    count_lines::pour_totals(
+        &mut *out,
         report.entries,
         report.kept,
         report.repeated,
         report.delivered,
     );
-    let b = count_lines::pour_refusals(stdout, out, a, &refused);
-    let c = count_lines::pour_lists(stdout, out, b, report.lists);
-    count_lines::pour_tiles(stdout, out, c, report.tiles as usize, &tile, &pits, &sure)
+    count_lines::pour_refusals(&mut *out, &refused);
+    count_lines::pour_lists(&mut *out, report.lists);
+    count_lines::pour_tiles(out, report.tiles as usize, &tile, &pits, &sure);
 }
 
-fn pour_count(stdout: Stdout, out: &mut [u8], at: usize, counted: Counted) -> usize
-    ensures { Pours out.old at (count_lines_lem counted) out.new result }
+fn pour_count(out: &mut Output, counted: Result<Report, Refusal>)
+    ensures { Adds out.old (count_lines_lem (told counted)) out.new }
 {
-    let answer = counted.answer;
-    let report = counted.report;
-    match answer {
-        Answer::Given => pour_report(stdout, out, at, report),
-        Answer::Refused(number) => count_lines::pour_refusal(stdout, out, at, number),
+    match counted {
+        Ok(report) => pour_report(out, report),
+        Err(e) => count_lines::pour_refusal(out, e.number()),
     }
 }
 
-// A log's lines: those of its count, over the lent store, ledger and number list.
-fn pour_log(
-    stdout: Stdout,
-    out: &mut [u8],
-    at: usize,
-    log: &[u8],
-    store: &mut [u8],
-    ledger: &mut [u32],
-    numbers: &mut [i64],
-) -> usize
-    ensures { Pours out.old at (log_lines_lem (length numbers.old) store.old ledger.old log.now) out.new result }
-{
-    pour_count(
-        stdout,
-        out,
-        at,
-        count::count_log(log, store, ledger, numbers),
-    )
+// The program over a whole log, with the memory that a count is lent.
+#[derive(Drop)]
+struct Counter<'a> {
+    store: &'a mut [u8],
+    ledger: &'a mut [u32],
+    numbers: &'a mut [i64],
 }
 
-// Counts a log, and writes all lines out. Answers whether the system took them all.
-fn counted(
-    stdout: Stdout,
-    log: &[u8],
-    out: &mut [u8],
-    store: &mut [u8],
-    ledger: &mut [u32],
-    numbers: &mut [i64],
-) -> bool
-    ensures { Finishes out.old 0 (log_lines_lem (length numbers.old) store.old ledger.old log.now) out.new result }
-{
-    let end = pour_log(stdout, out, 0, log, store, ledger, numbers);
-    output::write_out(stdout, out, end)
+impl Teller for Counter<'_> {
+    ghost lines = { λ s. log_lines_lem (length s.numbers.now) s.store.now s.ledger.now };
+
+    fn tell(&mut self, out: &mut Output, log: &[u8]) -> bool {
+        let counted = count::count_log(
+            log,
+            &mut *self.store,
+            &mut *self.ledger,
+            &mut *self.numbers,
+        );
+        pour_count(&mut *out, counted);
+        out.write_out()
+    }
 }
 
 // Counts the whole input, or says that it is longer than the buffer.
@@ -98,13 +85,15 @@ fn run(
     numbers: &mut [i64],
 ) -> bool
     requires { line_limit ≤ length out.old }
-    ensures { Tells (length buf.old) (log_lines_lem (length numbers.old) store.old ledger.old) out.old out.new result }
+    ensures { Tells (length buf.old) (log_lines_lem (length numbers.old) store.old ledger.old) out.entry.now out.exit.now result }
 {
-    let all = stream::read_all(stdin, buf);
-    match all {
-        All::Whole(n) => counted(stdout, wire::part(buf, 0, n), out, store, ledger, numbers),
-        All::Longer => log_lines::finish_longer(stdout, out, buf.len() as u64),
-    }
+    let mut out = Output::new(stdout, out);
+    let mut counter = Counter {
+        store,
+        ledger,
+        numbers,
+    };
+    log_lines::tell(stdin, buf, &mut out, &mut counter)
 }
 
 fn main(rt: HostRuntime) {

@@ -1,6 +1,6 @@
 -- For the code: what the reader's answer, and the numbers that it left, say of a payload. Assumes nothing.
 use Rattle.wire.proofs.Basics.{◌∙◌, sym, ◌≡◌, ap, ℕ, ◌≤◌, List, false, length, take, ℤ, le-ltb, arith}
-use Rattle.lmcp.specs.declared.Found.TheVariants.{Numbers}
+use Rattle.lmcp.specs.Found.{Numbers}
 use Rattle.lmcp.specs.Lists.{read_list}
 use Rattle.lmcp.specs.Message.{ReadTo}
 use Rattle.lmcp.proofs.Lent.{Listed, read}

@@ -3,7 +3,7 @@ use Rattle.wire.proofs.Basics.{◌≡◌, ap, refl, ℕ, List, true, length}
 use Rattle.wire.specs.Bytes.{be}
 use Rattle.datagram.specs.Limits.{max_payload}
 use Rattle.datagram.specs.Read.{good_form, formed, read_fragment_lem, read_datagram_lem}
-use Rattle.datagram.specs.declared.Read.TheVariants.{Refused}
+use Rattle.datagram.specs.Read.{Refused}
 use Rattle.steps.specs.Limits.{ledger_length, slot_size_of}
 use Rattle.steps.specs.Held.{none_held, is_held, hold}
 use Rattle.steps.specs.Memory.{empty_memory, is_remembered_lem}

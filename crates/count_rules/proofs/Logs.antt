@@ -1,6 +1,6 @@
 -- The entries that keep a feed, within limits that admit its messages, deliver what the feed delivers, the first first. Assumes nothing.
 use Rattle.wire.proofs.Basics.{◌∙◌, sym, ◌≡◌, ap, refl, subst, ℕ, List, [], ◌∷◌, ◌++◌, map, append-nil, inl, inr, length, arith}
-use Rattle.datagram.specs.declared.Read.TheVariants.{Refused}
+use Rattle.datagram.specs.Read.{Refused}
 use Rattle.steps.specs.Limits.{slot_size_of}
 use Rattle.steps.specs.declared.Key.{Key}
 use Rattle.steps.specs.Answers.{Reply, refused_by, kept, repeat, delivered, reply}

@@ -2,8 +2,7 @@
 use Rattle.wire.proofs.Basics.{sym, ◌≡◌, refl, ℕ, ◌≤◌, ◌+◌, List, [], ◌∷◌, length, length-append, eqb, eq-eqb, ne_eqb, arith}
 use Rattle.wire.specs.Sum.{sum}
 use Rattle.steps.specs.Search.{one}
-use Rattle.steps.specs.declared.Answer.{Answer}
-use Rattle.steps.specs.declared.Answer.TheVariants.{Refused, Kept, Repeat, Delivered}
+use Rattle.steps.specs.Receive.{Answer, Refused, Kept, Repeat, Delivered}
 use Rattle.steps.specs.Answers.{Reply, refused_by, kept, repeat, delivered, reply}
 use Rattle.steps.specs.Runs.{World}
 use Rattle.flight_log.specs.declared.reader.Limits.{Limits}

@@ -3,7 +3,7 @@ use Rattle.wire.proofs.Basics.{◌∙◌, ◌≡◌, refl, ℕ, suc, zero, List,
 use Rattle.wire.specs.Bytes.{be, bytes}
 use Rattle.wire.specs.Sum.{sum}
 use Rattle.datagram.specs.Limits.{max_payload}
-use Rattle.datagram.specs.declared.Read.TheVariants.{Refused}
+use Rattle.datagram.specs.Read.{Refused}
 use Rattle.names.specs.Name.{good_name_lem}
 use Rattle.datagram.specs.Name.{until_zero_lem, name_length_lem}
 use Rattle.datagram.specs.Read.{read_small_lem, good_form, formed, read_fragment_lem, read_datagram_lem}

@@ -2,7 +2,7 @@
 use Rattle.std.specs.Prelude.{◌≡◌, true, List, [], ◌∷◌, map, ℕ, ◌+◌, ◌≤◌, ◌<◌, length}
 use Rattle.std.proofs.Math.Option.{Option, none, some}
 use Rattle.wire.specs.Sum.{sum}
-use Rattle.datagram.specs.declared.Read.TheVariants.{Refused}
+use Rattle.datagram.specs.Read.{Refused}
 use Rattle.steps.specs.Runs.{World, Arrival}
 use Rattle.arrival.specs.Demand.{Scene, size, message, slot_bytes, parts, Feed, arrivals, in_order_of_completion, Supposed}
 use Rattle.flight_log.specs.declared.reader.Limits.{Limits}

@@ -5,11 +5,10 @@ use Rattle.wire.proofs.Numbers.{be-bytes, length-bytes}
 use Rattle.datagram.specs.Limits.{max_datagram}
 use Rattle.wire.specs.Choice.{pick}
 use Rattle.datagram.specs.Name.{name_length_lem}
-use Rattle.datagram.specs.Read.{num, place, fragment_magic, good_form, fragment_header, formed, read_fragment_lem, read_datagram_lem}
-use Rattle.datagram.specs.declared.Named.TheVariants.{Long}
+use Rattle.datagram.specs.Read.{Good, Refused, num, place, fragment_magic, good_form, fragment_header, formed, read_fragment_lem, read_datagram_lem}
+use Rattle.std.proofs.Common.{Some}
 use Rattle.datagram.specs.declared.Place.{Place}
 use Rattle.datagram.specs.declared.Header.{Header}
-use Rattle.datagram.specs.declared.Read.TheVariants.{Good, Refused}
 use Rattle.cutter.specs.Cut.{head_bytes}
 
 -- a number that was written after n bytes is read there
@@ -56,7 +55,7 @@ module _ (C N : ℕ) (d : List ℕ) (q p o k n : ℕ) (h : Headed d q p o k n)
   unfolding read_datagram_lem
   go_on = rw (le-ltb max_datagram (length d) short, le-ltb (length d) 8 (omega arith), h.magic, le-ltb (length d) 20 long)
 
-  pub read_first : (c len : ℕ) → k ≡ 0 → name_length_lem (drop 20 d) ≡ Long c → length d - (21 + c) ≡ len
+  pub read_first : (c len : ℕ) → k ≡ 0 → name_length_lem (drop 20 d) ≡ Some c → length d - (21 + c) ≡ len
       → good_form (its (place 20 c) (21 + c) len) ≡ true → read_datagram_lem C N d ≡ Good (its (place 20 c) (21 + c) len)
   unfolding read_fragment_lem
   read_first c len z e l g =

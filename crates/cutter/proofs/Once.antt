@@ -3,21 +3,22 @@ use Rattle.wire.proofs.Basics.{◌∙◌, sym, ◌≡◌, ap, ℕ, List}
 use Rattle.wire.proofs.Once.{one_answer}
 use Rattle.cutter.specs.Cut.{Answer, says, datagram_of, cut_output, CutTo}
 use Rattle.cutter.specs.declared.Cut.{Cut}
-use Rattle.cutter.specs.declared.Cut.TheVariants.{Made, Refused}
+use Rattle.std.proofs.Common.{Result, Ok, Err}
+use Rattle.refusals.specs.declared.Refusal.{Refusal}
+use Rattle.refusals.specs.Numbers.{number_of}
+use Rattle.refusals.proofs.Names.{same_number}
 
--- what the enum says determines it
-pub says-once : (r s : Cut) → says r ≡ says s → r ≡ s
-says-once (Made n l) (Made k j) e =
-    let a : n ≡ k = cc in
-    let b : l ≡ j = cc in
-    λ i. Made (a i) (b i)
-says-once (Made n l) (Refused k) e = cc
-says-once (Refused k) (Made n l) e = cc
-says-once (Refused n) (Refused k) e =
-    let a : n ≡ k = cc in
-    ap Refused a
+-- what the answer says determines it
+pub says-once : (r s : Result Cut Refusal) → says r ≡ says s → r ≡ s
+says-once (Ok a) (Ok b) e =
+    let n : a.count ≡ b.count = cc in
+    let l : a.len ≡ b.len = cc in
+    λ i. Ok (record { count = n i; len = l i })
+says-once (Ok a) (Err s) e = cc
+says-once (Err r) (Ok b) e = cc
+says-once (Err r) (Err s) e = let f : number_of r ≡ number_of s = cc in ap Err (same_number r s f)
 
-pub cut-once : {name payload : List ℕ} {q m index : ℕ} {out : List ℕ} (r s : Cut) (a b : List ℕ)
+pub cut-once : {name payload : List ℕ} {q m index : ℕ} {out : List ℕ} (r s : Result Cut Refusal) (a b : List ℕ)
     → CutTo name payload q m index out r a → CutTo name payload q m index out s b → (r ≡ s) × (a ≡ b)
 cut-once {name} {payload} {q} {m} {index} {out} r s a b x y =
     let e : says r ≡ says s = one_answer (says r) (says s) x.answer y.answer in

@@ -10,7 +10,7 @@ use Rattle.parts.specs.Parts.{name_of, payload_of}
 use Rattle.parts.proofs.Parts.{name-said, payload-said}
 use Rattle.cutter.specs.Cut.{is_small, carries, begins_at_lem, count_of, length_of, small_bytes, fragment_bytes, datagram_of, CutTo}
 use Rattle.cutter.specs.Trip.{Cuttable, cut_said}
-use Rattle.cutter.specs.declared.Cut.TheVariants.{Made}
+use Rattle.std.proofs.Common.{Ok}
 use Rattle.cutter.proofs.Written.{length-head}
 use Rattle.cutter.proofs.Sizes.{Done, made}
 use Rattle.cutter.proofs.Counts.{piece-length}
@@ -41,7 +41,7 @@ length-datagram q name payload m k = go (is_small (length name) (length payload)
     go false = simp (length-append, length-head, piece-length) (rw (part (eqb k 0), sum (eqb k 0)) refl)
 
 -- what a call that made a datagram left
-module _ (name payload : List ℕ) (q m index : ℕ) (out : List ℕ) (n l : ℕ) (out' : List ℕ) (fits : q < 2 ^ 32) (k : CutTo name payload q m index out (Made n l) out') where
+module _ (name payload : List ℕ) (q m index : ℕ) (out : List ℕ) (n l : ℕ) (out' : List ℕ) (fits : q < 2 ^ 32) (k : CutTo name payload q m index out (Ok (record { count = n; len = l })) out') where
   done : Done name payload m index (length out) n l
   done = made name payload m index (length out) n l (sym k.answer)
 

@@ -8,11 +8,10 @@ use Rattle.wire.proofs.Numbers.{length-bytes}
 use Rattle.datagram.specs.Limits.{max_datagram}
 use Rattle.datagram.specs.Name.{name_length_lem}
 use Rattle.forms.specs.Form.{good_start_lem}
-use Rattle.datagram.specs.Read.{num, small_magic, good_form, read_small_lem, read_datagram_lem, part_of}
+use Rattle.datagram.specs.Read.{Good, num, small_magic, good_form, read_small_lem, read_datagram_lem, part_of}
 use Rattle.datagram.specs.Said.{small, fragment, says, said}
 use Rattle.datagram.specs.Lawful.{LawfullyCut}
-use Rattle.datagram.specs.declared.Named.TheVariants.{Long}
-use Rattle.datagram.specs.declared.Read.TheVariants.{Good}
+use Rattle.std.proofs.Common.{Some}
 use Rattle.datagram.proofs.Names.{name-read}
 use Rattle.cutter.specs.Cut.{Sized, is_small, carries, begins_at_lem, count_of, piece_of, head_bytes, small_bytes, fragment_bytes, datagram_of}
 use Rattle.cutter.specs.Trip.{Cuttable, cut_fragment, cut_said}
@@ -124,7 +123,7 @@ module _ (C N q : ℕ) (name payload : List ℕ) (m : ℕ) (w : Cuttable C N q n
           let d : List ℕ = whole (head k) name (piece k) 20 (head-length k) in
           let l = whole_length (head k) name (piece k) 20 (head-length k) in
           let s : length d ≤ max_datagram = omega (arith, first-carries, piece-length name payload m k, w.sized.least, w.sized.most, w.sized.name) in
-          let e : name_length_lem (drop 20 d) ≡ Long c = whole-named (head k) name (piece k) 20 (head-length k) ∙ name-read name (piece k) w.named in
+          let e : name_length_lem (drop 20 d) ≡ Some c = whole-named (head k) name (piece k) 20 (head-length k) ∙ name-read name (piece k) w.named in
           let a : c ≡ pick (eqb k 0) c 0 = rw (eq-eqb k 0 z) in
           let b : 21 + c ≡ pick (eqb k 0) (21 + c) 20 = rw (eq-eqb k 0 z) in
           ap (read_datagram_lem C N) first-is
@@ -214,7 +213,7 @@ module _ (C N q : ℕ) (name payload : List ℕ) (m : ℕ) (w : Cuttable C N q n
       let g : 8 ≤ length d = omega arith in
       let a : num 4 0 d ≡ small_magic = num-at d [] (bytes 4 q ++ (name ++ 0 ∷ payload)) 4 small_magic 0 (simp append_assoc) refl (omega arith) in
       let b : num 4 4 d ≡ q = num-at d (bytes 4 small_magic) (name ++ 0 ∷ payload) 4 q 4 (simp append_assoc) (simp length-bytes) w.sequence in
-      let e : name_length_lem (drop 8 d) ≡ Long (length name) = whole-named front name payload 8 front_length ∙ name-read name payload w.named in
+      let e : name_length_lem (drop 8 d) ≡ Some (length name) = whole-named front name payload 8 front_length ∙ name-read name payload w.named in
       let f : length d - (9 + length name) ≡ length payload = omega arith in
       ap (read_datagram_lem C N) small_is
       ∙ rw (le-ltb max_datagram (length d) s, le-ltb (length d) 8 g, a, e, b, f)

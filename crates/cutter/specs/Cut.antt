@@ -1,5 +1,5 @@
 -- The datagrams that carry a message: document 01, "The cutter", and refusals 10, 4, 6, 11, 12, 13 in that order. Definitions only.
-use Rattle.std.specs.Prelude.{◌≡◌, Bool, ◌||◌, List, [], ◌++◌, ℕ, ◌+◌, ◌*◌, ◌-◌, ◌/◌, ◌≤◌, min, eqb, leb, ltb, length, take, drop}
+use Rattle.std.specs.Prelude.{◌≡◌, Bool, ◌||◌, List, [], ◌++◌, ℕ, ◌+◌, ◌*◌, ◌-◌, ◌/◌, ◌≤◌, min, eqb, leb, ltb, length, take, drop, Result, Ok, Err}
 use Rattle.wire.specs.Bytes.{bytes}
 use Rattle.wire.specs.Overlay.{overlay}
 use Rattle.datagram.specs.Limits.{max_payload, max_fragments, max_name}
@@ -8,7 +8,8 @@ use Rattle.names.specs.Name.{good_name_lem}
 use Rattle.datagram.specs.Read.{small_magic, fragment_magic}
 use Rattle.cutter.specs.Limits.{least_size, most_size}
 use Rattle.cutter.specs.declared.Cut.{Cut}
-use Rattle.cutter.specs.declared.Cut.TheVariants.{Made, Refused}
+use Rattle.refusals.specs.declared.Refusal.{Refusal}
+use Rattle.refusals.specs.Numbers.{number_of}
 
 -- a name of c bytes and datagrams of m bytes that can be used
 pub record Sized (c m : ℕ) : Type 0 where
@@ -68,10 +69,10 @@ pub data Answer : Type 0 where
   gives : ℕ → ℕ → Answer
   refused : ℕ → Answer
 
--- what each case of the enum says
-abbrev pub says : Cut → Answer
-says (Made count len) = gives count len
-says (Refused n) = refused n
+-- what the code says, in the papers' values
+abbrev pub says : Result Cut Refusal → Answer
+says (Ok c) = gives c.count c.len
+says (Err r) = refused (number_of r)
 
 -- by the lengths alone
 unfoldable pub plan_of : ℕ → ℕ → ℕ → ℕ → ℕ → Answer
@@ -93,6 +94,6 @@ abbrev pub cut_output : Answer → List ℕ → List ℕ → List ℕ
 cut_output (refused n) out d = out
 cut_output (gives n l) out d = overlay out 0 d
 
-pub record CutTo (name payload : List ℕ) (q m index : ℕ) (out : List ℕ) (r : Cut) (out' : List ℕ) : Type 0 where
+pub record CutTo (name payload : List ℕ) (q m index : ℕ) (out : List ℕ) (r : Result Cut Refusal) (out' : List ℕ) : Type 0 where
   pub answer : says r ≡ cut_answer name payload m index (length out)
   pub output : out' ≡ cut_output (says r) out (datagram_of q name payload m index)

@@ -6,66 +6,155 @@ ghost use Rattle.wire.specs.Bytes.{bytes};
 ghost use Rattle.wire.specs.Overlay.{overlay};
 ghost use Rattle.datagram.specs.Limits.{max_payload, max_fragments};
 ghost use Rattle.cutter.specs.Limits.{most_size};
-ghost use Rattle.cutter.specs.Cut.{Sized, begins_at_lem, carries, count_of, length_of, says, plan_of, small_bytes, head_bytes, fragment_bytes, datagram_of, CutTo};
+ghost use Rattle.cutter.specs.Cut.{Sized, is_small, begins_at_lem, carries, count_of, length_of, says, plan_of, small_bytes, head_bytes, fragment_bytes, datagram_of, CutTo};
+
+use refusals::Refusal;
 
 // The smallest and the largest size of a datagram that a message is cut for.
 pub const LEAST_SIZE: usize = 96;
 
 pub const MOST_SIZE: usize = 65507;
 
-// The number of datagrams and the length of the one that was asked for; or the number of the refusal.
+// What was cut: the number of datagrams, and the length of the one that was asked for.
+#[derive(Clone, Copy, Debug, PartialEq, Eq)]
+pub struct Cut {
+    pub count: usize,
+    pub len: usize,
+}
+
+// A message that can be cut: its name, its payload and its sequence, for datagrams of at most m bytes.
 #[derive(Clone, Copy)]
-pub enum Cut {
-    Made { count: usize, len: usize },
-    Refused(u32),
+struct Message<'a> {
+    name: &'a [u8],
+    payload: &'a [u8],
+    sequence: usize,
+    m: usize,
+    ghost sized: { Sized (length name.now) m },
 }
 
-// Where the data of fragment k begins in the payload.
-fn begins_at(c: usize, m: usize, k: usize) -> usize
-    requires { Sized c m × (k ≤ max_fragments) }
-    ensures { (result ≡ begins_at_lem c m k) × (result ≤ max_fragments * most_size) }
-{
-    if k == 0 {
-        return 0;
+impl Message<'_> {
+    // Whether one small datagram holds it.
+    fn is_small(&self) -> bool
+        requires { length self.now.payload.now ≤ max_payload }
+        ensures { result ≡ is_small (length self.now.name.now) (length self.now.payload.now) self.now.m }
+    {
+        9 + self.name.len() + self.payload.len() <= self.m
     }
-    (m - (21 + c)) + (k - 1) * (m - 20)
-}
 
-// How much data fragment k can carry.
-fn carried(c: usize, m: usize, k: usize) -> usize
-    requires { Sized c m }
-    ensures { (result ≡ carries c m k) × (result ≤ m) }
-{
-    if k == 0 {
-        return m - (21 + c);
+    // Where the data of fragment k begins in the payload.
+    // Kept: the bound of k stands in each contract; a type of its own for k would be no plainer.
+    fn begins_at(&self, k: usize) -> usize
+        requires { k ≤ max_fragments }
+        ensures is { result ≡ begins_at_lem (length self.now.name.now) self.now.m k }
+        ensures most { result ≤ max_fragments * most_size }
+    {
+        let (c, m) = (self.name.len(), self.m);
+        if k == 0 {
+            return 0;
+        }
+        (m - (21 + c)) + (k - 1) * (m - 20)
     }
-    m - 20
-}
 
-// The number of datagrams for a name of c bytes and a payload of p.
-fn count_of(c: usize, p: usize, m: usize) -> usize
-    requires { Sized c m × (p ≤ max_payload) }
-    ensures { result ≡ count_of c p m }
-{
-    if 9 + c + p <= m {
-        return 1;
+    // How much data fragment k can carry.
+    fn carried(&self, k: usize) -> usize
+        ensures is { result ≡ carries (length self.now.name.now) self.now.m k }
+        ensures most { result ≤ self.now.m }
+    {
+        let (c, m) = (self.name.len(), self.m);
+        if k == 0 {
+            return m - (21 + c);
+        }
+        m - 20
     }
-    1 + ((p - (m - (21 + c))) + (m - 21)) / (m - 20)
-}
 
-// The length of datagram k.
-fn length_of(c: usize, p: usize, m: usize, k: usize) -> usize
-    requires { (Sized c m × (p ≤ max_payload)) × (k ≤ max_fragments) }
-    ensures { result ≡ length_of c p m k }
-{
-    if 9 + c + p <= m {
-        return 9 + c + p;
+    // The number of datagrams.
+    fn count(&self) -> usize
+        requires { length self.now.payload.now ≤ max_payload }
+        ensures { result ≡ count_of (length self.now.name.now) (length self.now.payload.now) self.now.m }
+    {
+        let (c, p, m) = (self.name.len(), self.payload.len(), self.m);
+        if self.is_small() {
+            return 1;
+        }
+        1 + ((p - (m - (21 + c))) + (m - 21)) / (m - 20)
     }
-    let data = wire::least(carried(c, m, k), wire::room(p, begins_at(c, m, k)));
-    if k == 0 {
-        return 21 + c + data;
+
+    // The length of datagram k.
+    fn length(&self, k: usize) -> usize
+        requires { (length self.now.payload.now ≤ max_payload) × (k ≤ max_fragments) }
+        ensures { result ≡ length_of (length self.now.name.now) (length self.now.payload.now) self.now.m k }
+    {
+        let (c, p) = (self.name.len(), self.payload.len());
+        if self.is_small() {
+            return 9 + c + p;
+        }
+        let data = self.carried(k).min(p.saturating_sub(self.begins_at(k)));
+        if k == 0 {
+            return 21 + c + data;
+        }
+        20 + data
     }
-    20 + data
+
+    // The bytes of its small datagram at the start of out.
+    fn put_small(&self, out: &mut [u8])
+        ensures { out.new ≡ overlay out.old 0 (small_bytes self.now.sequence self.now.name.now self.now.payload.now) }
+    {
+        put(&mut *out, 0, 4, datagram::SMALL_MAGIC as usize);
+        put(&mut *out, 4, 4, self.sequence);
+        wire::put_bytes(&mut *out, 8, self.name);
+        put(&mut *out, 8 + self.name.len(), 1, 0);
+        wire::put_bytes(&mut *out, 9 + self.name.len(), self.payload);
+    }
+
+    // The bytes of fragment k of n at the start of out.
+    fn put_fragment(&self, out: &mut [u8], k: usize, n: usize)
+        requires { k ≤ max_fragments }
+        ensures { out.new ≡ overlay out.old 0 (fragment_bytes self.now.sequence self.now.name.now self.now.payload.now self.now.m k n) }
+    {
+        let begin = self.begins_at(k);
+        let data = wire::part(self.payload, begin, self.carried(k));
+        put_head(&mut *out, self.sequence, self.payload.len(), begin, k, n);
+        if k == 0 {
+            wire::put_bytes(&mut *out, 20, self.name);
+            put(&mut *out, 20 + self.name.len(), 1, 0);
+            wire::put_bytes(&mut *out, 21 + self.name.len(), data);
+            return;
+        }
+        wire::put_bytes(&mut *out, 20, data);
+    }
+
+    // The bytes of datagram k of n, small or a fragment, at the start of out.
+    fn put_datagram(&self, out: &mut [u8], k: usize, n: usize)
+        requires { ((length self.now.payload.now ≤ max_payload) × (k ≤ max_fragments)) × (n ≡ count_of (length self.now.name.now) (length self.now.payload.now) self.now.m) }
+        ensures { out.new ≡ overlay out.old 0 (datagram_of self.now.sequence self.now.name.now self.now.payload.now self.now.m k) }
+    {
+        if self.is_small() {
+            self.put_small(&mut *out);
+            return;
+        }
+        self.put_fragment(&mut *out, k, n);
+    }
+
+    // What the lengths say: the number of datagrams and the length of the one asked for, or a refusal.
+    fn plan(&self, index: usize, room: usize) -> Result<Cut, Refusal>
+        ensures { says result ≡ plan_of (length self.now.name.now) (length self.now.payload.now) self.now.m index room }
+    {
+        if datagram::MAX_PAYLOAD < self.payload.len() {
+            return Err(Refusal::PayloadTooLarge);
+        }
+        let n = self.count();
+        if (datagram::MAX_FRAGMENTS as usize) < n {
+            return Err(Refusal::TooManyFragments);
+        }
+        if n <= index {
+            return Err(Refusal::NoSuchDatagram);
+        }
+        let len = self.length(index);
+        if room < len {
+            return Err(Refusal::NoRoom);
+        }
+        Ok(Cut { count: n, len: len })
+    }
 }
 
 // The low k bytes of v at a place.
@@ -74,17 +163,6 @@ fn put(out: &mut [u8], at: usize, k: usize, v: usize)
     ensures { out.new ≡ overlay out.old at (bytes k v) }
 {
     wire::put_number(out, at, k, v as u64);
-}
-
-// The bytes of a small datagram at the start of out.
-fn put_small(out: &mut [u8], sequence: usize, name: &[u8], payload: &[u8])
-    ensures { out.new ≡ overlay out.old 0 (small_bytes sequence name.now payload.now) }
-{
-    put(&mut *out, 0, 4, datagram::SMALL_MAGIC as usize);
-    put(&mut *out, 4, 4, sequence);
-    wire::put_bytes(&mut *out, 8, name);
-    put(&mut *out, 8 + name.len(), 1, 0);
-    wire::put_bytes(&mut *out, 9 + name.len(), payload);
 }
 
 // The 20 bytes of a fragment's header at the start of out.
@@ -106,73 +184,6 @@ fn put_head(
     put(&mut *out, 18, 2, count);
 }
 
-// The bytes of fragment k of n at the start of out.
-fn put_fragment(
-    out: &mut [u8],
-    sequence: usize,
-    name: &[u8],
-    payload: &[u8],
-    m: usize,
-    k: usize,
-    n: usize,
-)
-    requires { Sized (length name.now) m × (k ≤ max_fragments) }
-    ensures { out.new ≡ overlay out.old 0 (fragment_bytes sequence name.now payload.now m k n) }
-{
-    let begin = begins_at(name.len(), m, k);
-    let data = wire::part(payload, begin, carried(name.len(), m, k));
-    put_head(&mut *out, sequence, payload.len(), begin, k, n);
-    if k == 0 {
-        wire::put_bytes(&mut *out, 20, name);
-        put(&mut *out, 20 + name.len(), 1, 0);
-        wire::put_bytes(&mut *out, 21 + name.len(), data);
-        return;
-    }
-    wire::put_bytes(&mut *out, 20, data);
-}
-
-// The bytes of datagram k of n, small or a fragment, at the start of out.
-fn put_datagram(
-    out: &mut [u8],
-    sequence: usize,
-    name: &[u8],
-    payload: &[u8],
-    m: usize,
-    k: usize,
-    n: usize,
-)
-    requires { (Sized (length name.now) m × (length payload.now ≤ max_payload)) × ((k ≤ max_fragments) × (n ≡ count_of (length name.now) (length payload.now) m)) }
-    ensures { out.new ≡ overlay out.old 0 (datagram_of sequence name.now payload.now m k) }
-{
-    if 9 + name.len() + payload.len() <= m {
-        put_small(&mut *out, sequence, name, payload);
-        return;
-    }
-    put_fragment(&mut *out, sequence, name, payload, m, k, n);
-}
-
-// What the lengths say: the number of datagrams and the length of the one asked for, or a refusal.
-fn plan(c: usize, p: usize, m: usize, index: usize, room: usize) -> Cut
-    requires { Sized c m }
-    ensures { says result ≡ plan_of c p m index room }
-{
-    if datagram::MAX_PAYLOAD < p {
-        return Cut::Refused(6);
-    }
-    let n = count_of(c, p, m);
-    if (datagram::MAX_FRAGMENTS as usize) < n {
-        return Cut::Refused(11);
-    }
-    if n <= index {
-        return Cut::Refused(12);
-    }
-    let len = length_of(c, p, m, index);
-    if room < len {
-        return Cut::Refused(13);
-    }
-    Cut::Made { count: n, len: len }
-}
-
 // Writes datagram `index` of a message at the start of out, for datagrams of at most m bytes.
 pub fn cut_datagram(
     name: &[u8],
@@ -181,22 +192,25 @@ pub fn cut_datagram(
     m: usize,
     index: usize,
     out: &mut [u8],
-) -> Cut
+) -> Result<Cut, Refusal>
     ensures { CutTo name.now payload.now sequence m index out.old result out.new }
 {
     if m < LEAST_SIZE {
-        return Cut::Refused(10);
+        return Err(Refusal::DatagramSize);
     }
     if MOST_SIZE < m {
-        return Cut::Refused(10);
+        return Err(Refusal::DatagramSize);
     }
     if !names::good_name(name) {
-        return Cut::Refused(4);
+        return Err(Refusal::BadName);
     }
-    let r = plan(name.len(), payload.len(), m, index, out.len());
-    let Cut::Made { count, len: _ } = r else {
-        return r;
+    let message = Message {
+        name: name,
+        payload: payload,
+        sequence: sequence as usize,
+        m: m,
     };
-    put_datagram(&mut *out, sequence as usize, name, payload, m, index, count);
-    r
+    let cut = message.plan(index, out.len())?;
+    message.put_datagram(&mut *out, index, cut.count);
+    Ok(cut)
 }

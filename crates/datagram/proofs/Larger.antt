@@ -3,10 +3,8 @@ use Rattle.wire.proofs.Basics.{◌≡◌, refl, ℕ, ◌≤◌, List, true, fals
 use Rattle.wire.specs.Choice.{pick}
 use Rattle.wire.proofs.Choices.{or_l, or_r}
 use Rattle.datagram.specs.Limits.{max_datagram}
-use Rattle.datagram.specs.Read.{magic_in, small_magic, fragment_magic, size_in, number_in, count_in, read_small_lem, read_fragment_lem, read_datagram_lem}
+use Rattle.datagram.specs.Read.{Read, Good, Refused, magic_in, small_magic, fragment_magic, size_in, number_in, count_in, read_small_lem, read_fragment_lem, read_datagram_lem}
 use Rattle.datagram.specs.declared.Header.{Header}
-use Rattle.datagram.specs.declared.Read.{Read}
-use Rattle.datagram.specs.declared.Read.TheVariants.{Good, Refused}
 
 -- what is accepted was not refused first
 pub passed : (t : Bool) (k : ℕ) (r : Read) (h : Header) → pick t (Refused k) r ≡ Good h → (t ≡ false) × (r ≡ Good h)

@@ -1,6 +1,10 @@
 -- Laws of the name that a datagram begins with, and of the numbers in its header. Assumes nothing.
-use Rattle.wire.proofs.Basics.{◌∙◌, sym, ◌≡◌, ap, refl, ℕ, ◌≤◌, ◌+◌, ◌<◌, ◌-◌, suc, min, List, [], ◌∷◌, ◌++◌, true, false, Bool, ◌&&◌, not, length, drop, get_or, take, length-append, length-take}
-use Rattle.wire.proofs.Basics.{drop_of_length-le, length-take-le, drop-cons, take-append_seam, eqb, ltb, eq-eqb, le-ltb, ne_eqb, lt-ltb, ltb-true, not-true, dec_le, add-one, arith}
+use Rattle.wire.proofs.Basics.{◌∙◌, sym, ◌≡◌, ap, refl, ℕ, ◌≤◌, ◌+◌, ◌<◌, ◌-◌, suc, zero, min, List, [], ◌∷◌, ◌++◌, true, false, Bool, ◌&&◌, not, length, drop, take, length-append, length-take}
+use Rattle.wire.proofs.Basics.{length-take-le, take-append_seam, take_all, eqb, ltb, le-ltb, lt-ltb, ltb-true, ltb-false, subst, not-true, dec_le, arith}
+use Rattle.std.proofs.Common.{Option, Some, None, cond}
+use Rattle.std.specs.List.{position, position_or_len}
+use Rattle.std.specs.Option.{unwrap_or}
+use Rattle.std.proofs.lemmas.List.Recursion.{is_position_or_len}
 use Rattle.wire.specs.Choice.{pick}
 use Rattle.wire.proofs.Choices.{never, and-false, and_l, and_r}
 use Rattle.wire.proofs.Parts.{part-rest}
@@ -9,8 +13,6 @@ use Rattle.names.specs.Name.{every, good_name_lem}
 use Rattle.names.proofs.Names.{long-name, no_zero}
 pub use Rattle.names.proofs.Names.{name-short}
 use Rattle.datagram.specs.Name.{until_zero_lem, name_length_lem}
-use Rattle.datagram.specs.declared.Named.{Named}
-use Rattle.datagram.specs.declared.Named.TheVariants.{Nameless, Long}
 
 -- a name ends at the first zero byte: it has none
 pub name-no-zero : (nm t : List ℕ) → good_name_lem nm ≡ true → until_zero_lem (nm ++ 0 ∷ t) ≡ length nm
@@ -32,26 +34,46 @@ zero-le-length (x ∷ b) = go (eqb x 0) (zero-le-length b)
     go true h = omega arith
     go false h = omega arith
 
-pub zero-here : (b : List ℕ) (i : ℕ) → i < length b → get_or b i 0 ≡ 0 → until_zero_lem (drop i b) ≡ 0
+-- the place of the first zero byte, or the end
+first-zero : (l : List ℕ) → until_zero_lem l ≡ position_or_len (λ (x : ℕ). eqb x 0) l
 unfolding until_zero_lem
-zero-here b i h e = rw (drop-cons b i 0 h, eq-eqb (get_or b i 0) 0 e)
+first-zero = is_position_or_len until_zero_lem (λ (x : ℕ). eqb x 0) refl (λ x xs. go (eqb x 0) (until_zero_lem xs))
+  where
+    go : (b : Bool) (n : ℕ) → pick b 0 (suc n) ≡ cond b 0 (1 + n)
+    go true n = refl
+    go false n = omega arith
 
-pub zero-later : (b : List ℕ) (i : ℕ) → i < length b → (get_or b i 0 ≡ 0 → ⊥) → i + until_zero_lem (drop i b) ≡ i + 1 + until_zero_lem (drop (i + 1) b)
-unfolding until_zero_lem
-zero-later b i h e = rw (drop-cons b i 0 h, ne_eqb (get_or b i 0) 0 e, add-one) (omega arith)
+zero-found : (l : List ℕ) → unwrap_or (position (λ (x : ℕ). eqb x 0) l) (length l) ≡ until_zero_lem l
+zero-found l =
+    let P : ℕ → Type 0 = λ k. unwrap_or (cond (ltb k (length l)) (Some k) None) (length l) ≡ until_zero_lem l in
+    subst P (first-zero l) (go (ltb (until_zero_lem l) (length l)) refl)
+  where
+    go : (t : Bool) → ltb (until_zero_lem l) (length l) ≡ t → unwrap_or (cond t (Some (until_zero_lem l)) None) (length l) ≡ until_zero_lem l
+    go true e = refl
+    go false e = omega (arith, ltb-false (until_zero_lem l) (length l) e, zero-le-length l)
 
-pub zero-end : (b : List ℕ) (i : ℕ) → length b ≤ i → until_zero_lem (drop i b) ≡ 0
+-- in the front of n bytes
+zero-front : (b : List ℕ) (n : ℕ) → until_zero_lem (take n b) ≡ min (until_zero_lem b) n
 unfolding until_zero_lem
-zero-end b i h = rw (drop_of_length-le b h)
+zero-front [] n = let e : take {A = ℕ} n [] ≡ [] = take_all n [] (omega arith) in rw e (omega arith)
+zero-front (x ∷ b) zero = omega arith
+zero-front (x ∷ b) (suc n) = go (eqb x 0) (zero-front b n)
+  where
+    go : (t : Bool) → until_zero_lem (take n b) ≡ min (until_zero_lem b) n → pick t 0 (suc (until_zero_lem (take n b))) ≡ min (pick t 0 (suc (until_zero_lem b))) (suc n)
+    go true h = omega arith
+    go false h = omega arith
+
+pub zero-within : (b : List ℕ) (n : ℕ) → n ≤ length b → unwrap_or (position (λ (x : ℕ). eqb x 0) (take n b)) n ≡ min (until_zero_lem b) n
+zero-within b n h = subst (λ (k : ℕ). unwrap_or (position (λ (x : ℕ). eqb x 0) (take n b)) k ≡ min (until_zero_lem b) n) (length-take-le n b h) (zero-found (take n b) ∙ zero-front b n)
 
 -- ---- what the search within one byte more than a name has says of the name
 
 module _ (b : List ℕ) (c : ℕ) (e : c ≡ min (until_zero_lem b) (max_name + 1)) where
-  pub name-none : length b ≤ c → name_length_lem b ≡ Nameless
+  pub name-none : length b ≤ c → name_length_lem b ≡ None
   unfolding name_length_lem
   name-none h = rw (le-ltb (until_zero_lem b) (length b) (omega arith))
 
-  pub name-here : c < length b → good_name_lem (take c b) ≡ true → name_length_lem b ≡ Long c
+  pub name-here : c < length b → good_name_lem (take c b) ≡ true → name_length_lem b ≡ Some c
   unfolding name_length_lem
   name-here h g = elim (dec_le (max_name + 1) (until_zero_lem b)) [
     | yes w ↦ never g (long-name (take c b) (rw length-take (omega arith)))
@@ -60,7 +82,7 @@ module _ (b : List ℕ) (c : ℕ) (e : c ≡ min (until_zero_lem b) (max_name + 
         rw (u, lt-ltb c (length b) h, g)
   ]
 
-  pub name-bad : c < length b → good_name_lem (take c b) ≡ false → name_length_lem b ≡ Nameless
+  pub name-bad : c < length b → good_name_lem (take c b) ≡ false → name_length_lem b ≡ None
   unfolding name_length_lem
   name-bad h g = elim (dec_le (max_name + 1) (until_zero_lem b)) [
     | yes w ↦
@@ -72,7 +94,7 @@ module _ (b : List ℕ) (c : ℕ) (e : c ≡ min (until_zero_lem b) (max_name + 
   ]
 
 -- a name and a zero byte are read as that name
-pub name-read : (nm t : List ℕ) → good_name_lem nm ≡ true → name_length_lem (nm ++ 0 ∷ t) ≡ Long (length nm)
+pub name-read : (nm t : List ℕ) → good_name_lem nm ≡ true → name_length_lem (nm ++ 0 ∷ t) ≡ Some (length nm)
 unfolding name_length_lem
 name-read nm t e =
     let l : length nm < length (nm ++ 0 ∷ t) = rw length-append (omega arith) in
@@ -84,22 +106,22 @@ pub record Found (b : List ℕ) (c : ℕ) : Type 0 where
   pub inside : c < length b
   pub good : good_name_lem (take c b) ≡ true
 
-pub name-found : (b : List ℕ) (c : ℕ) → name_length_lem b ≡ Long c → Found b c
+pub name-found : (b : List ℕ) (c : ℕ) → name_length_lem b ≡ Some c → Found b c
 unfolding name_length_lem
 name-found b c e = go (ltb (until_zero_lem b) (length b)) (good_name_lem (take (until_zero_lem b) b)) refl refl e
   where
-    go : (s t : Bool) → ltb (until_zero_lem b) (length b) ≡ s → good_name_lem (take (until_zero_lem b) b) ≡ t → pick (s && t) (Long (until_zero_lem b)) Nameless ≡ Long c → Found b c
+    go : (s t : Bool) → ltb (until_zero_lem b) (length b) ≡ s → good_name_lem (take (until_zero_lem b) b) ≡ t → pick (s && t) (Some (until_zero_lem b)) None ≡ Some c → Found b c
     go true true p q r =
         let u : until_zero_lem b ≡ c = cc in
         record { inside = rw u at (ltb-true (until_zero_lem b) (length b) p); good = rw u at q }
     go true false p q r = absurd (let z : ◌≡◌ {A = ℕ} 0 1 = cc in let y : ⊥ = omega arith in y)
     go false t p q r = absurd (let z : ◌≡◌ {A = ℕ} 0 1 = cc in let y : ⊥ = omega arith in y)
 
-pub found-short : (b : List ℕ) (c : ℕ) → name_length_lem b ≡ Long c → c ≤ max_name
+pub found-short : (b : List ℕ) (c : ℕ) → name_length_lem b ≡ Some c → c ≤ max_name
 found-short b c e =
     let f = name-found b c e in
     rw (length-take-le c b (omega (arith, f.inside))) at (name-short (take c b) f.good)
 
 -- what is found in the part from a place on
-pub named-rest : (d : List ℕ) (at : ℕ) (r : Named) → r ≡ name_length_lem (take (length d - at) (drop at d)) → name_length_lem (drop at d) ≡ r
+pub named-rest : (d : List ℕ) (at : ℕ) (r : Option ℕ) → r ≡ name_length_lem (take (length d - at) (drop at d)) → name_length_lem (drop at d) ≡ r
 named-rest d at r e = sym (e ∙ ap name_length_lem (part-rest d at))

@@ -1,17 +1,14 @@
 -- What is known of a datagram that the reader accepts: its header keeps document 01's rules, and its name and payload lie inside it. Assumes nothing.
 use Rattle.wire.proofs.Basics.{◌≡◌, refl, subst, ℕ, ◌≤◌, ◌+◌, ◌<◌, List, true, ◌||◌, ◌≢◌, length, drop, length-drop, length-take-le, eqb, ltb, leb, eqb-true, ltb-false, eqb-false, leb-false, arith}
+use Rattle.std.proofs.Common.{Option, Some, None}
 use Rattle.wire.specs.Choice.{pick}
 use Rattle.wire.proofs.Choices.{pick_all, or_l, or_r}
 use Rattle.datagram.specs.Limits.{max_datagram}
 use Rattle.names.specs.Name.{good_name_lem}
 use Rattle.datagram.specs.Name.{name_length_lem}
-use Rattle.datagram.specs.Read.{magic_in, size_in, number_in, count_in, small_magic, fragment_magic, place, fragment_header, good_form, formed, small_to, zero_to, read_small_lem, read_fragment_lem, read_datagram_lem, part_of}
-use Rattle.datagram.specs.declared.Named.{Named}
-use Rattle.datagram.specs.declared.Named.TheVariants.{Nameless, Long}
+use Rattle.datagram.specs.Read.{Read, Good, Refused, magic_in, size_in, number_in, count_in, small_magic, fragment_magic, place, fragment_header, good_form, formed, small_to, zero_to, read_small_lem, read_fragment_lem, read_datagram_lem, part_of}
 use Rattle.datagram.specs.declared.Place.{Place}
 use Rattle.datagram.specs.declared.Header.{Header}
-use Rattle.datagram.specs.declared.Read.{Read}
-use Rattle.datagram.specs.declared.Read.TheVariants.{Good, Refused}
 use Rattle.datagram.proofs.Names.{name-found}
 
 -- the name and the payload lie inside, and the payload ends the datagram
@@ -43,12 +40,12 @@ module _ (C N : ℕ) (d : List ℕ) (short : length d ≤ max_datagram) where
   abbrev P : Read → Type 0
   P = Accepted C N d
 
-  found_in_lem : (at c : ℕ) → name_length_lem (drop at d) ≡ Long c → at + c < length d
+  found_in_lem : (at c : ℕ) → name_length_lem (drop at d) ≡ Some c → at + c < length d
   found_in_lem at c e = omega (arith, (name-found (drop at d) c e).inside, length-drop at d)
 
-  small_in : (o : Named) → name_length_lem (drop 8 d) ≡ o → P (small_to d o)
-  small_in Nameless e = tt
-  small_in (Long c) e = (
+  small_in : (o : Option ℕ) → name_length_lem (drop 8 d) ≡ o → P (small_to d o)
+  small_in None e = tt
+  small_in (Some c) e = (
     record {
       short = short;
       name_in_lem = omega (arith, found_in_lem 8 c e);
@@ -67,9 +64,9 @@ module _ (C N : ℕ) (d : List ℕ) (short : length d ≤ max_datagram) where
         (λ w. (record { short = short; name_in_lem = h; payload_in_lem = omega arith }, record { few = few'; below = below'; fits = fits'; form = w; named = g; nameless = z }))
         (λ _. tt)
 
-    zero_in : number_in d ≡ 0 → (o : Named) → name_length_lem (drop 20 d) ≡ o → P (zero_to d o)
-    zero_in z Nameless e = tt
-    zero_in z (Long c) e =
+    zero_in : number_in d ≡ 0 → (o : Option ℕ) → name_length_lem (drop 20 d) ≡ o → P (zero_to d o)
+    zero_in z None e = tt
+    zero_in z (Some c) e =
         formed_in (place 20 c) (21 + c) (omega (arith, found_in_lem 20 c e)) (omega (arith, found_in_lem 20 c e)) (λ _. (name-found (drop 20 d) c e).good) (λ n. absurd (n z))
 
   fragment_in_lem : 20 ≤ length d → P (read_fragment_lem C N d)

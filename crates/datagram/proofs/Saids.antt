@@ -6,11 +6,9 @@ use Rattle.wire.proofs.Choices.{and_l, and_r}
 use Rattle.datagram.specs.Limits.{max_datagram}
 use Rattle.names.specs.Name.{good_name_lem}
 use Rattle.forms.specs.Form.{good_start_lem}
-use Rattle.datagram.specs.Read.{good_form, read_datagram_lem, part_of}
+use Rattle.datagram.specs.Read.{Read, Good, Refused, good_form, read_datagram_lem, part_of}
 use Rattle.datagram.specs.Said.{Fragment, refused, small, fragment, fragment_in, says, said, Reads}
 use Rattle.datagram.specs.declared.Header.{Header}
-use Rattle.datagram.specs.declared.Read.{Read}
-use Rattle.datagram.specs.declared.Read.TheVariants.{Good, Refused}
 use Rattle.datagram.proofs.Places.{Inside, SmallForm, FragmentForm, KindForm, accepted-good, part_length}
 
 -- what a fragment that is read keeps to

@@ -1,19 +1,16 @@
 -- The worked cases, computed in one statement; and refusal 3 exactly for datagrams over 65,535 bytes. Assumes nothing.
 use Rattle.wire.proofs.Basics.{◌≡◌, refl, ℕ, ◌≤◌, ◌+◌, ◌<◌, List, map, true, false, Bool, ◌||◌, ◌≢◌, length, drop, eqb, ltb, leb, le-ltb, lt-ltb, dec_le, arith}
+use Rattle.std.proofs.Common.{Option, Some, None}
 use Rattle.wire.specs.Bytes.{be, bytes}
 use Rattle.wire.specs.Choice.{pick}
 use Rattle.wire.proofs.Choices.{pick_all}
 use Rattle.datagram.specs.Limits.{max_payload, max_fragments}
 use Rattle.names.specs.Name.{good_name_lem}
 use Rattle.datagram.specs.Name.{until_zero_lem, name_length_lem}
-use Rattle.datagram.specs.Read.{magic_in, size_in, number_in, count_in, small_magic, fragment_magic, place, fragment_header, good_form, formed, small_to, zero_to, read_small_lem, read_fragment_lem, read_datagram_lem, part_of}
+use Rattle.datagram.specs.Read.{Read, Good, Refused, magic_in, size_in, number_in, count_in, small_magic, fragment_magic, place, fragment_header, good_form, formed, small_to, zero_to, read_small_lem, read_fragment_lem, read_datagram_lem, part_of}
 use Rattle.datagram.specs.Said.{refused, small, fragment, fragment_in, says, said}
 use Rattle.datagram.specs.Worked.{Case, cases}
-use Rattle.datagram.specs.declared.Named.{Named}
-use Rattle.datagram.specs.declared.Named.TheVariants.{Nameless, Long}
 use Rattle.datagram.specs.declared.Place.{Place}
-use Rattle.datagram.specs.declared.Read.{Read}
-use Rattle.datagram.specs.declared.Read.TheVariants.{Good, Refused}
 
 pub worked-cases : map (λ (c : Case). said max_payload max_fragments c.datagram) cases ≡ map (λ (c : Case). c.told) cases
 unfolding said read_datagram_lem read_small_lem read_fragment_lem formed good_form name_length_lem good_name_lem until_zero_lem be bytes
@@ -26,17 +23,17 @@ Not3 (Good h) = Unit {0}
 Not3 (Refused n) = n ≢ 3
 
 module _ (d : List ℕ) where
-  small_not3 : (o : Named) → Not3 (small_to d o)
-  small_not3 Nameless = λ e. omega arith
-  small_not3 (Long c) = tt
+  small_not3 : (o : Option ℕ) → Not3 (small_to d o)
+  small_not3 None = λ e. omega arith
+  small_not3 (Some c) = tt
 
   formed_not3 : (name : Place) (at : ℕ) → Not3 (formed d name at)
   unfolding formed
   formed_not3 name at = pick_all Not3 (good_form (fragment_header d name at)) (λ _. tt) (λ _ e. omega arith)
 
-  zero_not3 : (o : Named) → Not3 (zero_to d o)
-  zero_not3 Nameless = λ e. omega arith
-  zero_not3 (Long c) = formed_not3 (place 20 c) (21 + c)
+  zero_not3 : (o : Option ℕ) → Not3 (zero_to d o)
+  zero_not3 None = λ e. omega arith
+  zero_not3 (Some c) = formed_not3 (place 20 c) (21 + c)
 
   module _ (C N : ℕ) where
     fragment_not3 : Not3 (read_fragment_lem C N d)

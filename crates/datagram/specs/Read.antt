@@ -1,16 +1,25 @@
 -- What a datagram says, as numbers and places: document 01, "Datagrams", and refusals 3, 1, 2, 5, 6, 4, 7 in that order. Definitions only.
-use Rattle.std.specs.Prelude.{Bool, true, false, ◌||◌, List, ℕ, ◌+◌, ◌-◌, eqb, leb, ltb, length, take, drop}
+use Rattle.std.specs.Prelude.{Bool, true, false, ◌||◌, List, ℕ, ◌+◌, ◌-◌, eqb, leb, ltb, length, take, drop, Option, Some, None, Result, Ok, Err}
 use Rattle.wire.specs.Bytes.{be}
 use Rattle.wire.specs.Choice.{pick, ◌when◌else◌}
 use Rattle.forms.specs.Form.{good_fragment_lem}
 use Rattle.datagram.specs.Limits.{max_datagram}
 use Rattle.datagram.specs.Name.{name_length_lem}
-use Rattle.datagram.specs.declared.Named.{Named}
-use Rattle.datagram.specs.declared.Named.TheVariants.{Nameless, Long}
 use Rattle.datagram.specs.declared.Place.{Place}
 use Rattle.datagram.specs.declared.Header.{Header}
-use Rattle.datagram.specs.declared.Read.{Read}
-use Rattle.datagram.specs.declared.Read.TheVariants.{Good, Refused}
+use Rattle.refusals.specs.declared.Refusal.{Refusal}
+use Rattle.refusals.specs.Numbers.{number_of}
+
+-- ---- the answer: the header of a datagram of good form, or the number of the refusal
+
+pub data Read : Type 0 where
+  Good : Header → Read
+  Refused : ℕ → Read
+
+-- what the code says, in the papers' values
+abbrev pub told : Result Header Refusal → Read
+told (Ok h) = Good h
+told (Err r) = Refused (number_of r)
 
 -- ---- the numbers of a header, each where document 01 puts it
 
@@ -63,9 +72,9 @@ small_header d c = record {
   payload = rest d (9 + c);
 }
 
-abbrev pub small_to : List ℕ → Named → Read
-small_to d Nameless = Refused 4
-small_to d (Long c) = Good (small_header d c)
+abbrev pub small_to : List ℕ → Option ℕ → Read
+small_to d None = Refused 4
+small_to d (Some c) = Good (small_header d c)
 
 unfoldable pub read_small_lem : List ℕ → Read
 read_small_lem d = small_to d (name_length_lem (drop 8 d))
@@ -92,9 +101,9 @@ fragment_header d name at = record {
 unfoldable pub formed : List ℕ → Place → ℕ → Read
 formed d name at = pick (good_form (fragment_header d name at)) (Good (fragment_header d name at)) (Refused 7)
 
-abbrev pub zero_to : List ℕ → Named → Read
-zero_to d Nameless = Refused 4
-zero_to d (Long c) = formed d (place 20 c) (21 + c)
+abbrev pub zero_to : List ℕ → Option ℕ → Read
+zero_to d None = Refused 4
+zero_to d (Some c) = formed d (place 20 c) (21 + c)
 
 unfoldable pub read_fragment_lem : ℕ → ℕ → List ℕ → Read
 read_fragment_lem max_size_lem max_count_lem d =

@@ -1,10 +1,8 @@
 -- The reader's answer in document 01's values: a refusal's number; a small message's sequence, name and payload; or a fragment. Definitions only.
 use Rattle.std.specs.Prelude.{◌≡◌, List, [], ℕ}
 use Rattle.wire.specs.Choice.{pick}
-use Rattle.datagram.specs.Read.{read_datagram_lem, part_of}
+use Rattle.datagram.specs.Read.{Read, Good, Refused, read_datagram_lem, part_of}
 use Rattle.datagram.specs.declared.Header.{Header}
-use Rattle.datagram.specs.declared.Read.{Read}
-use Rattle.datagram.specs.declared.Read.TheVariants.{Good, Refused}
 
 -- sequence, P, offset, k, n, the name (of fragment 0; else empty) and the data
 pub record Fragment : Type 0 where

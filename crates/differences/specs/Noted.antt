@@ -1,5 +1,6 @@
 -- What the watch notes of a number, in the paper's values, and what each case of the code's answer means. Definitions only.
 use Rattle.std.specs.Prelude.{ℕ, ◌+◌, ◌*◌, ◌^◌, Bool, true, false}
+use Rattle.refusals.specs.Numbers.{number_of}
 use Rattle.differences.specs.declared.Answer.{Answer}
 use Rattle.differences.specs.declared.Answer.TheVariants.{First, Forward, Same, Late, Restarted, Refused}
 
@@ -17,7 +18,7 @@ notes (Forward missing) = forward missing
 notes Same = same
 notes (Late by) = late by
 notes (Restarted number) = restarted number
-notes (Refused number) = refused number
+notes (Refused refusal) = refused (number_of refusal)
 
 -- as one number: 1 first, 2 forward, 3 same, 4 late, 5 restarted, times 2^32, and the number beside it; or the refusal number alone
 abbrev pub noted_code_lem : Noted → ℕ

@@ -1,9 +1,7 @@
 -- A number in decimal, as an argument has it. Definitions only.
-use Rattle.std.specs.Prelude.{Bool, ◌&&◌, List, [], ◌∷◌, ℕ, ◌+◌, ◌-◌, ◌*◌, leb}
+use Rattle.std.specs.Prelude.{Option as Maybe, Some, None, Bool, ◌&&◌, List, [], ◌∷◌, ℕ, ◌+◌, ◌-◌, ◌*◌, leb}
 use Rattle.std.proofs.Math.Option.{Option, none, some}
 use Rattle.wire.specs.Choice.{pick}
-use Rattle.find.specs.declared.Number.{Number}
-use Rattle.find.specs.declared.Number.TheVariants.{Is, Not}
 
 abbrev pub is_digit : ℕ → Bool
 is_digit x = leb 48 x && leb x 57
@@ -27,6 +25,6 @@ number_in most [] = none
 number_in most (x ∷ xs) = digits_from most 0 (x ∷ xs)
 
 -- the code's answer
-abbrev pub says : Number → Option ℕ
-says (Is n) = some n
-says Not = none
+abbrev pub says : Maybe ℕ → Option ℕ
+says (Some n) = some n
+says None = none

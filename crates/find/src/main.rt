@@ -3,103 +3,83 @@
 #![tactic(auto)]
 
 ghost use Rattle.std.specs.Prelude.{◌≡◌, ◌≤◌, length};
-ghost use Rattle.output.specs.Output.{Pours, Finishes, line_limit};
-ghost use Rattle.log_lines.specs.Lines.{Tells};
+ghost use Rattle.output.specs.Output.{Adds, line_limit};
+ghost use Rattle.log_lines.specs.InsideTells.{Tells};
 ghost use Rattle.find.specs.Numbers.{with_digit_lem, number_in, says};
 ghost use Rattle.find.specs.Said.{key_line};
 
-use index_builder::Indexed;
+use log_lines::Teller;
+use output::Output;
 use std::env::{Env, FillError};
 use std::io::{Stderr, Stdin, Stdout, Write};
-use stream::All;
 
 // The largest sender and the largest sequence.
 const MAX_SENDER: u64 = 18446744073709551615;
 
 const MAX_SEQUENCE: u64 = 4294967295;
 
-#[derive(Drop)]
-enum Number {
-    Is(u64),
-    Not,
-}
-
 // One digit more behind v.
-fn with_digit(most: u64, v: u64, x: u8) -> Number
+fn with_digit(most: u64, v: u64, x: u8) -> Option<u64>
     ensures { says result ≡ with_digit_lem most v x }
 {
-    if x < 48 {
-        return Number::Not;
+    if x < b'0' {
+        return None;
     }
-    if 57 < x {
-        return Number::Not;
+    if b'9' < x {
+        return None;
     }
-    let d = (x - 48) as u64;
+    let d = (x - b'0') as u64;
     if most < d {
-        return Number::Not;
+        return None;
     }
     if (most - d) / 10 < v {
-        return Number::Not;
+        return None;
     }
-    Number::Is(10 * v + d)
+    Some(10 * v + d)
 }
 
 // The number that a text is, in decimal, where it is not above the most.
-fn number_in(text: &[u8], most: u64) -> Number
+fn number_in(text: &[u8], most: u64) -> Option<u64>
     ensures { says result ≡ number_in most text.now }
 {
     if text.len() == 0 {
-        return Number::Not;
+        return None;
     }
     let mut v: u64 = 0;
-    let mut i: usize = 0;
-    while i < text.len() {
-        let next = with_digit(most, v, text[i]);
-        let Number::Is(n) = next else {
-            return Number::Not;
+    for x in text {
+        let Some(n) = with_digit(most, v, *x) else {
+            return None;
         };
         v = n;
-        i += 1;
     }
-    Number::Is(v)
+    Some(v)
+}
+
+// The key that is looked for, with the memory of an index.
+#[derive(Drop)]
+struct Finder<'a> {
+    index: &'a mut [u64],
+    sender: u64,
+    sequence: u64,
 }
 
 // What is said of a key.
-fn answer(
-    stdout: Stdout,
-    log: &[u8],
-    index: &mut [u64],
-    out: &mut [u8],
-    sender: u64,
-    sequence: u64,
-) -> usize
-    ensures { Pours out.old 0 (key_line (length index.old) sender sequence log.now) out.new result }
+fn answer(out: &mut Output, log: &[u8], index: &mut [u64], sender: u64, sequence: u64)
+    ensures { Adds out.old (key_line (length index.old) sender sequence log.now) out.new }
 {
-    let indexed = index_builder::index_log(log, &mut *index);
-    match indexed {
-        Indexed::Entries(n) => index_lines::pour_found(
-            stdout,
-            out,
-            0,
-            log_index::find(index, n, sender, sequence),
-        ),
-        Indexed::Refused(number) => index_lines::pour_refused(stdout, out, 0, number),
+    match index_builder::index_log(log, &mut *index) {
+        Ok(n) => index_lines::pour_found(out, log_index::find(index, n, sender, sequence)),
+        Err(refusal) => index_lines::pour_refused(out, refusal.number()),
     }
 }
 
-// It is written out. Answers whether the system took it.
-fn answered(
-    stdout: Stdout,
-    log: &[u8],
-    index: &mut [u64],
-    out: &mut [u8],
-    sender: u64,
-    sequence: u64,
-) -> bool
-    ensures { Finishes out.old 0 (key_line (length index.old) sender sequence log.now) out.new result }
-{
-    let end = answer(stdout, log, index, out, sender, sequence);
-    output::write_out(stdout, out, end)
+impl<'a> Teller for Finder<'a> {
+    ghost lines = { λ p. key_line (length p.index.now) p.sender p.sequence };
+
+    fn tell(&mut self, out: &mut Output, log: &[u8]) -> bool {
+        answer(out, log, self.index, self.sender, self.sequence);
+        out.write_out()
+    }
 }
 
 // Looks the key up in the whole input, or says that it is longer than the buffer.
@@ -113,13 +93,15 @@ fn run(
     sequence: u64,
 ) -> bool
     requires { line_limit ≤ length out.old }
-    ensures { Tells (length buf.old) (key_line (length index.old) sender sequence) out.old out.new result }
+    ensures { Tells (length buf.old) (key_line (length index.entry.now) sender sequence) out.entry.now out.exit.now result }
 {
-    let all = stream::read_all(stdin, buf);
-    match all {
-        All::Whole(n) => answered(stdout, wire::part(buf, 0, n), index, out, sender, sequence),
-        All::Longer => log_lines::finish_longer(stdout, out, buf.len() as u64),
-    }
+    let mut finder = Finder {
+        index,
+        sender,
+        sequence,
+    };
+    let mut out = Output::new(stdout, out);
+    log_lines::tell(stdin, buf, &mut out, &mut finder)
 }
 
 // The same over an index and an output of its own.
@@ -149,7 +131,7 @@ fn given(rt: &HostRuntime, i: usize) -> bool {
 }
 
 // Argument i as a number.
-fn argument(rt: &HostRuntime, i: usize, most: u64) -> Number {
+fn argument(rt: &HostRuntime, i: usize, most: u64) -> Option<u64> {
     let mut text = [0u8; 64];
     let n = match rt.arg(i, &mut text) {
         Ok(n) => n,
@@ -167,11 +149,11 @@ fn main(rt: HostRuntime) {
         usage(rt.stderr());
         return;
     }
-    let Number::Is(sender) = argument(&rt, 1, MAX_SENDER) else {
+    let Some(sender) = argument(&rt, 1, MAX_SENDER) else {
         usage(rt.stderr());
         return;
     };
-    let Number::Is(sequence) = argument(&rt, 2, MAX_SEQUENCE) else {
+    let Some(sequence) = argument(&rt, 2, MAX_SEQUENCE) else {
         usage(rt.stderr());
         return;
     };

@@ -1,26 +1,19 @@
 -- Reading a log from its head on, entry by entry: what was passed and what is still to come are the log's entries. Assumes nothing.
-use Rattle.wire.proofs.Basics.{◌∙◌, sym, ◌≡◌, ap, refl, subst, ℕ, ◌≤◌, ◌+◌, ◌<◌, ◌-◌, suc, List, [], ◌∷◌, ◌++◌, append-nil, true, false, Bool, inl, inr, length, drop, length-append, eqb, eqb-true}
+use Rattle.wire.proofs.Basics.{◌∙◌, sym, ◌≡◌, ap, refl, subst, ℕ, ◌≤◌, ◌+◌, ◌<◌, ◌-◌, suc, List, [], ◌∷◌, ◌++◌, append-nil, true, false, Bool, length, drop, length-append, eqb, eqb-true}
 use Rattle.wire.proofs.Basics.{arith}
 use native.Mathlib.Nat.{sub-zero}
-use types.Run.{OneOf}
-use denote.Enum.Declared.{tag_of}
 use Rattle.wire.specs.Bytes.{Bytes}
 use Rattle.wire.specs.Choice.{pick}
 use Rattle.wire.specs.Taken.{Taken, taken, refused}
 use Rattle.flight_log.specs.declared.reader.EntryAt.{EntryAt}
-use Rattle.flight_log.specs.declared.reader.First.{First}
-use Rattle.flight_log.specs.declared.reader.First.TheVariants as first
-use Rattle.flight_log.specs.declared.reader.Step.{Step}
-use Rattle.flight_log.specs.declared.reader.Step.TheVariants.{Found, End, Refused}
+use Rattle.flight_log.specs.First.{First}
+use Rattle.flight_log.specs.First as first
+use Rattle.flight_log.specs.Step.{Step}
+use Rattle.flight_log.specs.Step.{Found, End, Refused}
 use Rattle.flight_log.specs.Entries.{Entry}
 use Rattle.flight_log.specs.Listed.{entry_in, Listed, whole, broken, after, entries_in}
 use Rattle.flight_log.specs.Said.{first_in, entry_at, step_of, step_in, next_at, entry_said, from_first, read_at, onward, read_on, read_all}
-use Rattle.flight_log.specs.contracts.reader.Step.{the_type}
 use Rattle.flight_log.proofs.ReadingOn.{found_at, read-all}
-
--- a step that is none of the first kind is no entry
-pub no-entry : (x : Step) → OneOf (1 ∷ 2 ∷ []) (tag_of the_type x) → (e : EntryAt) → x ≡ Found e → ⊥
-no-entry x o e q = elim (subst (λ (y : Step). OneOf (1 ∷ 2 ∷ []) (tag_of the_type y)) q o) [ inl z ↦ (let y : ⊥ = omega arith in y) | inr z ↦ (let y : ⊥ = omega arith in y) ]
 
 -- ---- an entry that is found lies ahead, within the log
 

@@ -8,8 +8,8 @@ use Rattle.flight_log.specs.Editions.{Edition, edition1, first_byte, second_byte
 use Rattle.flight_log.specs.Listed.{datagram_in, length_in, tick_in, entry_in}
 use Rattle.flight_log.specs.Said.{first_of, first_in, step_of, step_in, next_at, read_at}
 use Rattle.flight_log.specs.declared.reader.Limits.{Limits}
-use Rattle.flight_log.specs.declared.reader.First.TheVariants as first
-use Rattle.flight_log.specs.declared.reader.Step.TheVariants.{Found, End, Refused}
+use Rattle.flight_log.specs.First as first
+use Rattle.flight_log.specs.Step.{Found, End, Refused}
 
 -- ---- the head
 

@@ -10,7 +10,7 @@ use Rattle.flight_log.specs.Editions.{Edition, edition1, edition2, head_bytes, h
 use Rattle.flight_log.specs.Entries.{Entry, entry_of, entry_bytes}
 use Rattle.flight_log.specs.Listed.{entry_in, after, more, list_by, entries_after, entries_in}
 use Rattle.flight_log.specs.Said.{first_of, entry_at, step_of, step_in, next_at, entry_said, says, said_of, said_in, read_at, place_after_lem, onward, read_on, read_all}
-use Rattle.flight_log.specs.declared.reader.Step.TheVariants.{End, Refused}
+use Rattle.flight_log.specs.Step.{End, Refused}
 use Rattle.flight_log.proofs.LogRoundTrip.{back-entry, back_head}
 use Rattle.flight_log.proofs.Reading.{read-on, read_first, read-refused}
 

@@ -6,10 +6,10 @@ use Rattle.flight_log.specs.Editions.{Edition, head_in, limits_of}
 use Rattle.flight_log.specs.Entries.{Entry, entry_of}
 use Rattle.flight_log.specs.Listed.{entry_in, Listed, whole, broken, after}
 use Rattle.flight_log.specs.declared.reader.EntryAt.{EntryAt}
-use Rattle.flight_log.specs.declared.reader.First.{First}
-use Rattle.flight_log.specs.declared.reader.First.TheVariants as first
-use Rattle.flight_log.specs.declared.reader.Step.{Step}
-use Rattle.flight_log.specs.declared.reader.Step.TheVariants.{Found, End, Refused}
+use Rattle.flight_log.specs.First.{First}
+use Rattle.flight_log.specs.First as first
+use Rattle.flight_log.specs.Step.{Step}
+use Rattle.flight_log.specs.Step.{Found, End, Refused}
 
 -- ---- the head: where the first entry begins, and the log's limits
 

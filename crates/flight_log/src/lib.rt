@@ -4,9 +4,7 @@
 
 mod reader;
 
-pub use reader::{
-    EntryAt, First, Limits, Step, first_entry, limits_in, next_entry, place_after, read_on,
-};
+pub use reader::{EntryAt, Limits, first_entry, limits_in, next_entry, place_after, read_on};
 
 // The first byte of a log: of those that are written, and of edition 1, which is still read.
 pub const EDITION: u8 = 2;

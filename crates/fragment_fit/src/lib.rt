@@ -54,14 +54,7 @@ fn fits_each(held: &[u64], ledger: &[u32], n: usize, k: u32, offset: u32, len: u
     requires { n < 2 ^ 32 }
     ensures { result ≡ all_below n (fits_in_lem held.now ledger.now k offset len) }
 {
-    let mut j: usize = 0;
-    while j < n {
-        if !fits_with(held, ledger, k, offset, len, j) {
-            return false;
-        }
-        j += 1;
-    }
-    true
+    (0..n).all(|j| fits_with(held, ledger, k, offset, len, j))
 }
 
 // It agrees with its neighbours.
@@ -119,15 +112,13 @@ fn run_apart(
     ensures { result ≡ all_below m (apart_in w ledger.now at below offset len) }
 {
     let mut crossed: u32 = 0;
-    let mut b: usize = 0;
-    while b < m {
+    for b in 0..m {
         let e = at + 2 * b;
         let here = crosses(below, offset, len, ledger[e], ledger[e + 1]);
         let held = (w >> b) % 2 == 1;
         if held & here {
             crossed += 1;
         }
-        b += 1;
     }
     crossed == 0
 }
@@ -139,9 +130,9 @@ fn run_length(j: usize, k: usize, n: usize) -> usize
 {
     let rest = held_bits::WORD_BITS - j % held_bits::WORD_BITS;
     if j < k {
-        return wire::least(k - j, rest);
+        return rest.min(k - j);
     }
-    wire::least(n - j, rest)
+    rest.min(n - j)
 }
 
 // No held one of at most 64 crosses fragment k: those below it, then those above.
@@ -166,6 +157,7 @@ fn all_apart(held: &[u64], ledger: &[u32], n: usize, k: usize, offset: u32, len:
     ensures { result ≡ all_below n (apart_at held.now ledger.now k offset len) }
 {
     let mut j: usize = 0;
+    // Kept: a run is as long as run_length says, so that no range steps by it.
     while j < n {
         let m = run_length(j, k, n);
         let w = words::word(held, j / held_bits::WORD_BITS) >> (j % held_bits::WORD_BITS);

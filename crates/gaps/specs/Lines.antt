@@ -1,10 +1,8 @@
 -- The lines of the program `gaps`, in ASCII, and what they are about. Definitions only.
 use Rattle.std.specs.Prelude.{◌≡◌, List, ◌++◌, ℕ}
 use Rattle.wire.specs.Text.{ascii}
-use Rattle.datagram.specs.declared.Read.{Read}
-use Rattle.datagram.specs.declared.Read.TheVariants.{Good, Refused}
 use Rattle.datagram.specs.Limits.{max_payload, max_fragments}
-use Rattle.datagram.specs.Read.{read_datagram_lem}
+use Rattle.datagram.specs.Read.{Read, Good, Refused, read_datagram_lem}
 use Rattle.watch.specs.declared.Watch.{Watch}
 use Rattle.watch.specs.declared.Seen.{Seen}
 use Rattle.differences.specs.Noted.{Noted, first, forward, same, late, restarted, refused, notes}

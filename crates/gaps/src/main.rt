@@ -1,19 +1,21 @@
 // Which numbers of a flight were missed. Standard input holds datagrams, each after a 2-byte big-endian length, from one sender; of each that
 // has good form the sequence watch is asked, and a line says what it notes.
-#![tactic(auto)]
+#![tactic(auto, using(output::proofs::Adding::adds_then))]
 
 ghost use Rattle.std.specs.Prelude.{◌≤◌, length};
 ghost use Rattle.wire.specs.Slices.{buffer};
 ghost use Rattle.stream.specs.declared.Kind.TheVariants.{Bytes2};
-ghost use Rattle.output.specs.Output.{Pours, line_limit};
+ghost use Rattle.output.specs.Output.{Adds, line_limit};
 ghost use Rattle.record_lines.specs.Lines.{Tells};
 ghost use Rattle.differences.specs.Noted.{notes};
-ghost use Rattle.gaps.specs.Lines.{answer_text, line, lines, Judged};
+ghost use Rattle.watch.specs.declared.Watch.{Watch};
+ghost use Rattle.gaps.specs.Lines.{answer_text, line, lines, says, Judged};
 
-use datagram::Read;
 use differences::Answer;
+use output::Output;
+use record_lines::Teller;
 use std::io::{Stdin, Stdout};
-use stream::{Input, Kind, Next};
+use stream::{Input, Kind};
 use watch::{Seen, Watch};
 
 // What the watch notes of a datagram of sender 0, or the reader's refusal, which leaves the watch as it is.
@@ -22,51 +24,56 @@ fn judge(w: Watch, d: &[u8]) -> Seen
 {
     let read = datagram::read_datagram(d, datagram::MAX_PAYLOAD, datagram::MAX_FRAGMENTS);
     match read {
-        Read::Good(header) => watch::see(w, 0, header.sequence),
-        Read::Refused(number) => Seen {
-            answer: Answer::Refused(number),
+        Ok(header) => watch::see(w, 0, header.sequence),
+        Err(refusal) => Seen {
+            answer: Answer::Refused(refusal),
             watch: w,
         },
     }
 }
 
-fn pour_answer(stdout: Stdout, out: &mut [u8], at: usize, answer: Answer) -> usize
-    ensures { Pours out.old at (answer_text (notes answer)) out.new result }
+fn pour_answer(out: &mut Output, answer: Answer)
+    ensures { Adds out.old (answer_text (notes answer)) out.new }
 {
     match answer {
-        Answer::First => output::pour(stdout, out, at, b" first\n"),
-        Answer::Forward(missing) => output::pour_counted_line(
-            stdout,
-            out,
-            at,
-            b" forward ",
-            missing as u64,
-        ),
-        Answer::Same => output::pour(stdout, out, at, b" same\n"),
-        Answer::Late(by) => output::pour_counted_line(stdout, out, at, b" late ", by as u64),
-        Answer::Restarted(number) => output::pour_counted_line(
-            stdout,
-            out,
-            at,
-            b" restarted ",
-            number as u64,
-        ),
-        Answer::Refused(number) => output::pour_counted_line(
-            stdout,
-            out,
-            at,
+        Answer::First => out.pour(b" first\n"),
+        Answer::Forward(missing) => out.pour_counted_line(b" forward ", u64::from(missing)),
+        Answer::Same => out.pour(b" same\n"),
+        Answer::Late(by) => out.pour_counted_line(b" late ", u64::from(by)),
+        Answer::Restarted(number) => out.pour_counted_line(b" restarted ", u64::from(number)),
+        Answer::Refused(refusal) => out.pour_counted_line(
             b" refused ",
-            number as u64,
+            u64::from(refusal.number()),
         ),
     }
 }
 
 // Line n.
-fn pour_line(stdout: Stdout, out: &mut [u8], at: usize, n: u64, answer: Answer) -> usize
-    ensures { Pours out.old at (line n (notes answer)) out.new result }
+fn pour_line(out: &mut Output, n: u64, answer: Answer)
+    ensures { Adds out.old (line n (notes answer)) out.new }
 {
-    let next = output::pour_decimal(stdout, out, at, n);
-    pour_answer(stdout, out, next, answer)
+    out.pour_decimal(n);
+    pour_answer(out, answer);
+}
+
+// The watch that goes through all datagrams.
+#[derive(Drop)]
+struct Gaps {
+    watch: Watch,
+}
+
+impl Teller for Gaps {
+    ghost Known = { Watch };
+
+    ghost says = { says };
+
+    ghost known = { λ g. g.watch };
+
+    fn line(&mut self, out: &mut Output, n: u64, _head: &[u8], body: &[u8]) {
+        let seen = judge(self.watch, body);
+        self.watch = seen.watch;
+        pour_line(out, n, seen.answer);
+    }
 }
 
 // One line a datagram of the input, and the last line. Answers whether the system took all of them; it stops where it did not.
@@ -74,27 +81,11 @@ fn run(stdin: Stdin, stdout: Stdout, buf: &mut [u8], input: Input, out: &mut [u8
     requires { line_limit ≤ length out.old }
     ensures { Tells Bytes2 lines buf.old input (buffer out) 0 result }
 {
-    let mut w = watch::new();
-    let mut rest = input;
-    let mut at: usize = 0;
-    let mut n: u64 = 0;
-    while n < stream::MANY {
-        let next = stream::next_record(stdin, buf, rest, Kind::Bytes2);
-        let Next::Record(from, len, left) = next else {
-            return output::finish(stdout, out, at, n, next);
-        };
-        n += 1;
-        rest = left;
-        let seen = judge(w, wire::part(buf, from, len));
-        let watch = seen.watch;
-        let answer = seen.answer;
-        w = watch;
-        at = pour_line(stdout, out, at, n, answer);
-        if at == output::CLOSED {
-            return false;
-        }
-    }
-    output::finish(stdout, out, at, n, Next::Cut)
+    let mut gaps = Gaps {
+        watch: watch::new(),
+    };
+    let mut out = Output::new(stdout, out);
+    record_lines::tell(stdin, buf, input, Kind::Bytes2, &mut out, &mut gaps)
 }
 
 fn main(rt: HostRuntime) {

@@ -1,19 +1,21 @@
 -- Laws of the lines. Assumes nothing.
-use Rattle.wire.proofs.Basics.{◌∙◌, sym, ◌≡◌, ap, refl, ℕ, ◌≤◌, ◌+◌, ◌<◌, List, [], ◌∷◌, ◌++◌, append_assoc, some, none, Option, length, drop, take, length-drop, drop_of_length-le, length-take-le}
-use Rattle.wire.proofs.Basics.{drop-drop, drop-cons, eq-eqb, arith}
+use Rattle.wire.proofs.Basics.{◌∙◌, sym, ◌≡◌, ap, refl, ℕ, ◌≤◌, ◌+◌, ◌<◌, List, [], ◌∷◌, ◌++◌, some, none, Option, length, drop, length-drop, drop_of_length-le, length-take-le}
+use Rattle.wire.proofs.Basics.{drop-drop, eq-eqb, arith}
 use native.Mathlib.Decide.{dec_lt}
 use Rattle.wire.specs.Bytes.{be}
 use Rattle.differences.specs.Noted.{Noted}
 use Rattle.moss.specs.Limits.{head_length, letter_u}
 use Rattle.moss.specs.Blocks.{first_message, before, messages_in}
 use Rattle.moss.specs.Packet.{Given, gives, refuses, Packet, kind_in, carried, fill_fault, packet_of}
-use Rattle.moss.specs.Answers.{headers_of}
-use Rattle.moss.specs.declared.Header.{Header}
+use Rattle.moss.specs.Answers.{Header, headers_of, letter_of}
+use Rattle.moss.specs.declared.Kind.{Kind}
+use Rattle.moss.specs.declared.Kind.TheVariants.{Data, Heartbeat, End}
 use Rattle.moss.proofs.MessageTurn.{messages-next, messages-cut, messages-none}
 use Rattle.moss.proofs.Packets.{Good, packet-good}
 use Rattle.gauge_watch.proofs.Hears.{headed, not-read}
 use Rattle.text.specs.Text.{decimal}
-use Rattle.output.specs.Output.{Pours}
+use Rattle.output.specs.declared.Output.{Output}
+use Rattle.output.specs.Output.{Adds}
 use Rattle.gauge.specs.Lines.{noted_text, spaced, messages_text, line}
 use Rattle.gauge.specs.Inside.{lengths_in, lengths_of}
 
@@ -65,9 +67,9 @@ pub lengths-end : (s : List ℕ) (at : ℕ) → length s ≤ at → lengths_in (
 lengths-end s at h = ap (λ (l : List ℕ). lengths_in (messages_in l)) (drop_of_length-le s h) ∙ ap lengths_in messages-none
 
 -- what went out, and what is left: together the lengths of all
-pub record Passed (out : List ℕ) (at : ℕ) (s : List ℕ) (from block : ℕ) (out' : List ℕ) (next : ℕ) : Type 0 where
+pub record Passed (out : Output) (s : List ℕ) (from block : ℕ) (out' : Output) : Type 0 where
   pub text : List ℕ
-  pub gone : Pours out at text out' next
+  pub gone : Adds out text out'
   pub whole : text ++ spaced (lengths_in (messages_in (drop block s))) ≡ spaced (lengths_in (messages_in (drop from s)))
 
 -- ---- the blocks of a packet of type U
@@ -98,15 +100,16 @@ line-of-refused n g noted k e = ap (λ (x : Given Packet). line n x noted) (sym 
 pub line_refused : (n : ℕ) (g : Given Packet) (noted : Noted) (k : ℕ) → headers_of g ≡ refuses k → decimal n ++ noted_text noted ++ 10 ∷ [] ≡ line n g noted
 line_refused n g noted k e = line-of-refused n g noted k (not-read g k (sym e))
 
-pub line-good : (n : ℕ) (b : List ℕ) (noted : Noted) (h : Header) (letter : List ℕ) → letter ≡ take 1 (drop 18 b) → gives h ≡ headers_of (packet_of b)
-    → decimal n ++ 32 ∷ [] ++ letter ++ noted_text noted ++ messages_text h.kind (lengths_of (packet_of b)) ++ 10 ∷ [] ≡ line n (packet_of b) noted
-line-good n b noted h letter l e =
+pub line-good : (n : ℕ) (b : List ℕ) (noted : Noted) (h : Header) → gives h ≡ headers_of (packet_of b)
+    → decimal n ++ (32 ∷ h.kind ∷ []) ++ noted_text noted ++ messages_text h.kind (lengths_of (packet_of b)) ++ 10 ∷ [] ≡ line n (packet_of b) noted
+line-good n b noted h e =
     let d = headed (packet_of b) h e in
-    let p : Packet = d.packet in
-    let g : Good b p = packet-good b p d.is in
-    let k : letter ≡ p.kind ∷ [] = l ∙ ap (take 1) (drop-cons b 18 0 (omega (arith, g.whole))) ∙ ap (λ (x : ℕ). x ∷ []) (sym g.kind) in
-    ap (λ (x : List ℕ). decimal n ++ 32 ∷ [] ++ x ++ noted_text noted ++ messages_text h.kind (lengths_of (packet_of b)) ++ 10 ∷ []) k
-    ∙ ap (λ (x : List ℕ). x ++ noted_text noted ++ messages_text h.kind (lengths_of (packet_of b)) ++ 10 ∷ []) (append_assoc (decimal n) (32 ∷ []) (p.kind ∷ []))
-    ∙ ap (λ (x : Header). decimal n ++ (32 ∷ p.kind ∷ []) ++ noted_text noted ++ messages_text x.kind (lengths_of (packet_of b)) ++ 10 ∷ []) d.header
-    ∙ ap (λ (x : Given Packet). decimal n ++ (32 ∷ p.kind ∷ []) ++ noted_text noted ++ messages_text p.kind (lengths_of x) ++ 10 ∷ []) d.is
+    ap (λ (x : Header). decimal n ++ (32 ∷ x.kind ∷ []) ++ noted_text noted ++ messages_text x.kind (lengths_of (packet_of b)) ++ 10 ∷ []) d.header
+    ∙ ap (λ (x : Given Packet). decimal n ++ (32 ∷ d.packet.kind ∷ []) ++ noted_text noted ++ messages_text d.packet.kind (lengths_of x) ++ 10 ∷ []) d.is
     ∙ ap (λ (x : Given Packet). line n x noted) (sym d.is)
+
+-- no lengths but those of data
+pub none-told : (kind : Kind) (lengths : List ℕ) → (kind ≡ Data → ⊥) → [] ≡ messages_text (letter_of kind) lengths
+none-told Data lengths h = absurd (h refl)
+none-told Heartbeat lengths h = refl
+none-told End lengths h = refl

@@ -1,17 +1,15 @@
 -- The lines of the program `gauge`, in ASCII, and what they are about. Definitions only.
-use Rattle.std.specs.Prelude.{◌≡◌, List, [], ◌∷◌, ◌++◌, map, ℕ, eqb, length}
+use Rattle.std.specs.Prelude.{List, [], ◌∷◌, ◌++◌, map, ℕ, eqb, length}
 use Rattle.wire.specs.Text.{ascii}
 use Rattle.wire.specs.Choice.{pick}
 use Rattle.differences.specs.Noted.{Noted, first, forward, same, late, restarted, refused}
 use Rattle.moss.specs.Limits.{letter_u}
 use Rattle.moss.specs.Packet.{Given, gives, refuses, Packet, packet_of}
-use Rattle.gauge_watch.specs.declared.Gauge.{Gauge}
-use Rattle.gauge_watch.specs.Heard.{silent, asked, after}
+use Rattle.gauge_watch.specs.Heard.{Gauge, silent, asked, after}
 use Rattle.text.specs.Text.{decimal}
-use Rattle.output.specs.Output.{Pours, last_line}
+use Rattle.output.specs.Output.{last_line}
 use Rattle.record_lines.specs.Streams.{Stream}
 use Rattle.record_lines.specs.Lines.{Says, lines_after}
-use Rattle.gauge.specs.declared.Step.{Step}
 
 -- " first", " forward 3", " same", " late 2", " restarted 7" or " refused 51"
 abbrev pub noted_text : Noted → List ℕ
@@ -36,11 +34,6 @@ abbrev pub line : ℕ → Given Packet → Noted → List ℕ
 line n (refuses number) noted = decimal n ++ noted_text noted ++ ascii "\n"
 line n (gives p) noted =
     decimal n ++ (32 ∷ p.kind ∷ []) ++ noted_text noted ++ messages_text p.kind (map length p.messages) ++ ascii "\n"
-
--- packet b is heard, and line n goes out
-pub record Told (g : Gauge) (b : List ℕ) (n : ℕ) (out : List ℕ) (at : ℕ) (out' : List ℕ) (r : Step) : Type 0 where
-  pub gauge : r.gauge ≡ after g (packet_of b)
-  pub said : Pours out at (line n (packet_of b) (asked g (packet_of b))) out' r.at
 
 -- one gauge hears all packets: line n of each, and the last line
 abbrev pub says : Says Gauge

@@ -8,8 +8,9 @@ use Rattle.moss.specs.Limits.{session_length, max_packet}
 use Rattle.moss.specs.Packet.{Given, gives, refuses}
 use Rattle.moss_writer.specs.Write.{writes}
 use Rattle.moss_writer.specs.Write.{packet_bytes, written_of, output_of, WritesPacket}
-use Rattle.moss_writer.specs.declared.Written.{Written}
-use Rattle.moss_writer.specs.declared.Written.TheVariants as written
+use Rattle.std.proofs.Common.{Result, Ok, Err}
+use Rattle.refusals.specs.declared.Refusal.{Refusal}
+use Rattle.refusals.specs.Numbers.{number_of}
 use Rattle.moss_writer.proofs.Plans.{Makes, written_makes}
 use Rattle.moss_writer.proofs.Trips.{packet-length}
 use Rattle.text.specs.Text.{decimal}
@@ -29,7 +30,7 @@ session-front b h = overlay-all (replicate session_length 0) b (omega arith)
 
 -- what the writer left at the start of the output is the record's packet
 module _ (b out : List ℕ) (n : ℕ) (out' : List ℕ) (whole : record_head ≤ length b) (counter : be 4 (drop 10 b) < 2 ^ 32) (byte : get_or b 14 0 < 256)
-    (w : WritesPacket (take session_length b) (be 4 (drop 10 b)) (get_or b 14 0) (drop record_head b) out (written.Bytes n) out') where
+    (w : WritesPacket (take session_length b) (be 4 (drop 10 b)) (get_or b 14 0) (drop record_head b) out (Ok n) out') where
   pub record-written : take n out' ≡ record_bytes b
   unfolding record_bytes
   record-written =
@@ -47,7 +48,7 @@ module _ (b out : List ℕ) (n : ℕ) (out' : List ℕ) (whole : record_head ≤
 
 -- ---- the line of a record that is whole
 
-module _ (n : ℕ) (b out out' session blocks : List ℕ) (sequence : ℕ) (r : Written) (all : Bytes b) (whole : record_head ≤ length b) (room : length out ≡ max_packet)
+module _ (n : ℕ) (b out out' session blocks : List ℕ) (sequence : ℕ) (r : Result ℕ Refusal) (all : Bytes b) (whole : record_head ≤ length b) (room : length out ≡ max_packet)
     (es : session ≡ take session_length b) (eq : sequence ≡ be 4 (drop 10 b)) (eb : blocks ≡ drop record_head b)
     (w : WritesPacket session sequence (get_or b 14 0) blocks out r out') where
   moved : WritesPacket (take session_length b) (be 4 (drop 10 b)) (get_or b 14 0) (drop record_head b) out r out'
@@ -59,12 +60,12 @@ module _ (n : ℕ) (b out out' session blocks : List ℕ) (sequence : ℕ) (r : 
   answered : record_answer b ≡ writes r
   answered = answer-whole b whole ∙ ap (written_of (get_or b 14 0) (drop record_head b)) (sym room) ∙ sym moved.answer
 
-  pub line_refused : (k : ℕ) → r ≡ written.Refused k → decimal n ++ answer_text (refuses k) (record_bytes b) ≡ line n b
+  pub line_refused : (k : Refusal) → r ≡ Err k → decimal n ++ answer_text (refuses (number_of k)) (record_bytes b) ≡ line n b
   line_refused k e = ap (λ (g : Given ℕ). decimal n ++ answer_text g (record_bytes b)) (sym (answered ∙ ap writes e))
 
-  pub line-bytes : (k : ℕ) → r ≡ written.Bytes k → decimal n ++ answer_text (gives k) (take k out') ≡ line n b
+  pub line-bytes : (k : ℕ) → r ≡ Ok k → decimal n ++ answer_text (gives k) (take k out') ≡ line n b
   line-bytes k e =
-      let v = subst (λ (x : Written). WritesPacket (take session_length b) (be 4 (drop 10 b)) (get_or b 14 0) (drop record_head b) out x out') e moved in
+      let v = subst (λ (x : Result ℕ Refusal). WritesPacket (take session_length b) (be 4 (drop 10 b)) (get_or b 14 0) (drop record_head b) out x out') e moved in
       let h : be 4 (drop 10 b) < 2 ^ 32 = omega (arith, be-lt 4 (drop 10 b) (drop-bytes b 10 all)) in
       ap (λ (x : List ℕ). decimal n ++ answer_text (gives k) x) (record-written b out k out' whole h (all 14) v)
       ∙ ap (λ (g : Given ℕ). decimal n ++ answer_text g (record_bytes b)) (sym (answered ∙ ap writes e))

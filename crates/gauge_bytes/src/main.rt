@@ -1,21 +1,24 @@
 // MossUDP packets from their parts. Standard input holds records, each after a 4-byte big-endian length: 10 session bytes, a 4-byte
 // sequence, a type byte, and the message blocks as they will lie; a line gives the bytes of each packet, or its refusal.
-#![tactic(auto)]
+#![tactic(auto, using(output::proofs::Adding::adds_then))]
 
 ghost use Rattle.std.specs.Prelude.{◌≤◌, ◌≡◌, ◌++◌, length, take, drop};
 ghost use Rattle.wire.specs.Slices.{buffer};
 ghost use Rattle.wire.specs.Text.{ascii};
 ghost use Rattle.wire.specs.Bytes.{be};
 ghost use Rattle.moss.specs.Limits.{max_packet};
-ghost use Rattle.text.specs.Text.{hex};
+ghost use Rattle.text.specs.Text.{decimal, hex};
+ghost use Rattle.refusals.specs.Numbers.{number_of};
 ghost use Rattle.stream.specs.declared.Kind.TheVariants.{Bytes4};
-ghost use Rattle.output.specs.Output.{Pours, line_limit};
-ghost use Rattle.record_lines.specs.Lines.{Tells};
+ghost use Rattle.output.specs.Output.{Adds, line_limit};
+ghost use Rattle.record_lines.specs.Lines.{Tells, each};
 ghost use Rattle.gauge_bytes.specs.Lines.{line, lines};
 
-use moss_writer::Written;
+use output::Output;
+use record_lines::Teller;
+use refusals::Refusal;
 use std::io::{Stdin, Stdout};
-use stream::{Input, Kind, Next};
+use stream::{Input, Kind};
 
 // The bytes of a record before its blocks, and where its sequence and its type stand.
 const RECORD_HEAD: usize = moss::SESSION + 4 + 1;
@@ -32,37 +35,56 @@ fn word_at(b: &[u8], at: usize) -> u32
 }
 
 // The first n bytes of the packet, in hexadecimal.
-fn pour_bytes(stdout: Stdout, out: &mut [u8], at: usize, packet: &[u8], n: usize) -> usize
-    ensures { Pours out.old at (ascii " bytes " ++ hex (take n packet.now) ++ ascii "\n") out.new result }
+fn pour_bytes(out: &mut Output, packet: &[u8], n: usize)
+    ensures { Adds out.old (ascii " bytes " ++ hex (take n packet.now) ++ ascii "\n") out.new }
 {
-    let a = output::pour(stdout, out, at, b" bytes ");
-    let b = output::pour_hex(stdout, out, a, wire::part(packet, 0, n));
-    output::pour(stdout, out, b, b"\n")
+    out.pour(b" bytes ");
+    out.pour_hex(wire::part(packet, 0, n));
+    out.pour(b"\n");
 }
 
-// The packet of a record is written, and its line goes out. Answers the place after it.
-fn one_more(stdout: Stdout, out: &mut [u8], at: usize, n: u64, packet: &mut [u8], b: &[u8]) -> usize
-    requires { length packet.old ≡ max_packet }
-    ensures { Pours out.old at (line n b.now) out.new result }
+fn pour_refused(out: &mut Output, refusal: Refusal)
+    ensures { Adds out.old (ascii " refused " ++ decimal (number_of refusal) ++ ascii "\n") out.new }
 {
-    let next = output::pour_decimal(stdout, out, at, n);
+    out.pour_counted_line(b" refused ", u64::from(refusal.number()));
+}
+
+// The packet of a record is written, and its line goes out.
+fn one_more(out: &mut Output, n: u64, packet: &mut [u8], b: &[u8])
+    requires { length packet.old ≡ max_packet }
+    ensures { Adds out.old (line n b.now) out.new }
+{
+    out.pour_decimal(n);
     if b.len() < RECORD_HEAD {
-        return output::pour_counted_line(stdout, out, next, b" refused ", 50);
+        pour_refused(out, Refusal::PacketTooShort);
+        return;
     }
     let session = moss::session_at(b, 0);
     let sequence = word_at(b, SEQUENCE_AT);
     let kind = b[KIND_AT];
-    let blocks = wire::part(b, RECORD_HEAD, b.len());
-    let w = moss_writer::write_packet(session, sequence, kind, blocks, packet);
-    match w {
-        Written::Bytes(n) => pour_bytes(stdout, out, next, packet, n),
-        Written::Refused(number) => output::pour_counted_line(
-            stdout,
-            out,
-            next,
-            b" refused ",
-            number as u64,
-        ),
+    match moss_writer::write_packet(session, sequence, kind, &b[RECORD_HEAD..], packet) {
+        Ok(len) => pour_bytes(out, packet, len),
+        Err(refusal) => pour_refused(out, refusal),
+    }
+}
+
+// The memory of a packet, as long as the longest.
+#[derive(Drop)]
+struct Writes<'a> {
+    packet: &'a mut [u8],
+}
+
+impl<'a> Teller for Writes<'a> {
+    ghost Known = { Unit {0} };
+
+    ghost says = { each (λ n x. line n x.body) };
+
+    ghost known = { λ _. tt };
+
+    ghost sound = { λ w. length w.packet.now ≡ max_packet };
+
+    fn line(&mut self, out: &mut Output, n: u64, _head: &[u8], body: &[u8]) {
+        one_more(out, n, self.packet, body);
     }
 }
 
@@ -79,22 +101,9 @@ fn run(
     requires { (length packet.old ≡ max_packet) × (line_limit ≤ length out.old) }
     ensures { Tells Bytes4 lines buf.old input (buffer out) 0 result }
 {
-    let mut rest = input;
-    let mut at: usize = 0;
-    let mut n: u64 = 0;
-    while n < stream::MANY {
-        let next = stream::next_record(stdin, buf, rest, Kind::Bytes4);
-        let Next::Record(from, len, left) = next else {
-            return output::finish(stdout, out, at, n, next);
-        };
-        n += 1;
-        rest = left;
-        at = one_more(stdout, out, at, n, packet, wire::part(buf, from, len));
-        if at == output::CLOSED {
-            return false;
-        }
-    }
-    output::finish(stdout, out, at, n, Next::Cut)
+    let mut out = Output::new(stdout, out);
+    let mut writes = Writes { packet };
+    record_lines::tell(stdin, buf, input, Kind::Bytes4, &mut out, &mut writes)
 }
 
 fn main(rt: HostRuntime) {

@@ -9,9 +9,9 @@ use Rattle.differences.specs.Difference.{difference, told}
 use Rattle.moss.specs.Limits.{session_length}
 use Rattle.moss.specs.Packet.{Given, gives, refuses, Packet, session_place, session_in, packet_of}
 use Rattle.moss.specs.Answers.{header_of, headers_of}
-use Rattle.moss.specs.declared.Header.{Header}
+use Rattle.moss.specs.Answers.{Header}
 use Rattle.moss.proofs.Packets.{packet-good}
-use Rattle.gauge_watch.specs.declared.Gauge.{Gauge}
+use Rattle.gauge_watch.specs.Heard.{Gauge}
 use Rattle.gauge_watch.specs.Heard.{noted_of, moved_to, after}
 
 -- the packet of a header

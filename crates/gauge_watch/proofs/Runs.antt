@@ -7,7 +7,7 @@ use Rattle.differences.specs.Noted.{Noted, first, forward, restarted, moves}
 use Rattle.differences.specs.Difference.{difference, told}
 use Rattle.differences.proofs.Differences.{restarted-number, step-told, forward-distance, cons-eq}
 use Rattle.moss.specs.Packet.{gives, Packet, packet_of}
-use Rattle.gauge_watch.specs.declared.Gauge.{Gauge}
+use Rattle.gauge_watch.specs.Heard.{Gauge}
 use Rattle.gauge_watch.specs.Heard.{noted_of, moved_to, asked, after}
 use Rattle.gauge_watch.specs.Runs.{noted_all, Expects, Follows, next_after, LeavesOut, done, next, Carries, none, more}
 use Rattle.gauge_watch.proofs.Hears.{noted-same, after-moves}

@@ -2,7 +2,7 @@
 use Rattle.std.specs.Prelude.{◌≡◌, ℕ, ◌+◌, ◌-◌, ◌%◌, ◌^◌, ◌<◌, true, List, [], ◌∷◌, length}
 use Rattle.differences.specs.Noted.{Noted}
 use Rattle.moss.specs.Packet.{gives, Packet, packet_of}
-use Rattle.gauge_watch.specs.declared.Gauge.{Gauge}
+use Rattle.gauge_watch.specs.Heard.{Gauge}
 use Rattle.gauge_watch.specs.Heard.{asked, after}
 
 -- what is noted of each packet, in order of arrival

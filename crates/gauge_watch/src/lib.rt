@@ -7,22 +7,28 @@ ghost use Rattle.differences.specs.Noted.{notes};
 ghost use Rattle.moss.specs.Limits.{max_packet};
 ghost use Rattle.moss.specs.Packet.{packet_of};
 ghost use Rattle.moss.specs.Packet.{gives};
+ghost use Rattle.moss.specs.Answers as answers;
 ghost use Rattle.moss.specs.Answers.{headers_of};
-ghost use Rattle.gauge_watch.specs.Heard.{silent, asked, last_of, Hears};
+ghost use Rattle.gauge_watch.specs.Heard.{silent, said, asked, last_of, Hears};
 
 use differences::Answer;
-use moss::{Header, Read};
+use moss::Header;
 
-// The session that goes on, if one was heard, and the number of its last message.
-#[derive(Clone, Copy)]
-pub struct Gauge {
-    pub session: [u8; moss::SESSION],
+// A session by its name, and the number of its last message.
+#[derive(Clone, Copy, Debug, PartialEq, Eq)]
+pub struct Session {
+    pub name: [u8; moss::SESSION],
     pub last: u32,
-    pub started: bool,
+}
+
+// The session that goes on, if one was heard.
+#[derive(Clone, Copy, Debug, PartialEq, Eq)]
+pub struct Gauge {
+    pub session: Option<Session>,
 }
 
 // The answer and the gauge afterwards.
-#[derive(Clone, Copy)]
+#[derive(Clone, Copy, Debug, PartialEq, Eq)]
 pub struct Heard {
     pub answer: Answer,
     pub gauge: Gauge,
@@ -30,13 +36,9 @@ pub struct Heard {
 
 // A gauge that has heard nothing.
 pub fn new() -> Gauge
-    ensures { result ≡ silent }
+    ensures { said result ≡ silent }
 {
-    Gauge {
-        session: [0; moss::SESSION],
-        last: 0,
-        started: false,
-    }
+    Gauge { session: None }
 }
 
 // Sequence plus count less one, wrapping.
@@ -44,37 +46,40 @@ fn last_of(sequence: u32, count: usize) -> u32
     requires { count ≤ max_packet }
     ensures { result ≡ last_of sequence count }
 {
-    let next = std::num::wrapping_add_u32(sequence, count as u32);
-    std::num::wrapping_sub_u32(next, 1)
+    sequence.wrapping_add(count as u32).wrapping_sub(1)
 }
 
 // What the watch says of a packet of this header.
 fn ask(g: Gauge, p: &[u8], header: Header) -> Answer
-    requires { gives header ≡ headers_of (packet_of p.now) }
-    ensures { notes result ≡ asked g (packet_of p.now) }
+    requires { gives (answers.said header) ≡ headers_of (packet_of p.now) }
+    ensures { notes result ≡ asked (said g) (packet_of p.now) }
 {
-    if !g.started {
+    let Some(session) = g.session else {
         return Answer::First;
-    }
-    let session = g.session;
-    if !wire::same_at(p, header.session, &session) {
+    };
+    if !wire::same_at(p, header.session, &session.name) {
         return Answer::First;
     }
     let number = header.sequence;
-    differences::tell(number, differences::sequence_difference(number, g.last))
+    differences::tell(
+        number,
+        differences::sequence_difference(number, session.last),
+    )
 }
 
 // Asks, and moves the gauge where the watch moves.
 fn see_header(g: Gauge, p: &[u8], header: Header) -> Heard
-    requires { gives header ≡ headers_of (packet_of p.now) }
-    ensures { Hears g p.now result }
+    requires { gives (answers.said header) ≡ headers_of (packet_of p.now) }
+    ensures { Hears (said g) p.now result }
 {
     let answer = ask(g, p, header);
-    if differences::does_move(answer) {
-        let gauge = Gauge {
-            session: moss::session_at(p, header.session),
+    if answer.does_move() {
+        let session = Session {
+            name: moss::session_at(p, header.session),
             last: last_of(header.sequence, header.count),
-            started: true,
+        };
+        let gauge = Gauge {
+            session: Some(session),
         };
         return Heard { answer, gauge };
     }
@@ -83,13 +88,12 @@ fn see_header(g: Gauge, p: &[u8], header: Header) -> Heard
 
 // What the watch says of a packet, or the reader's refusal, which leaves the gauge as it is.
 pub fn see_packet(g: Gauge, p: &[u8]) -> Heard
-    ensures { Hears g p.now result }
+    ensures { Hears (said g) p.now result }
 {
-    let read = moss::read_packet(p);
-    match read {
-        Read::Good(header) => see_header(g, p, header),
-        Read::Refused(number) => Heard {
-            answer: Answer::Refused(number),
+    match moss::read_packet(p) {
+        Ok(header) => see_header(g, p, header),
+        Err(refusal) => Heard {
+            answer: Answer::Refused(refusal),
             gauge: g,
         },
     }

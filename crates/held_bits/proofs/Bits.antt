@@ -1,9 +1,9 @@
 -- Laws of the bits of a word, and of held fragments word by word. Assumes nothing.
-use Rattle.wire.proofs.Basics.{◌∙◌, sym, ◌≡◌, ap, refl, ℕ, ◌≤◌, ◌+◌, ◌<◌, ◌-◌, suc, zero, ◌*◌, ◌^◌, ◌%◌, ◌/◌, List, Bool, ◌&&◌, inl, inr, get_or, eqb, eq-eqb, ne_eqb, eqb-true, eqb-false, pow-suc}
+use Rattle.wire.proofs.Basics.{◌∙◌, sym, ◌≡◌, ap, refl, ℕ, ◌≤◌, ◌+◌, ◌<◌, ◌-◌, suc, zero, ◌*◌, ◌^◌, ◌%◌, ◌/◌, List, true, false, Bool, ◌&&◌, inl, inr, get_or, eqb, eq-eqb, ne_eqb, eqb-true, eqb-false, pow-suc}
 use Rattle.wire.proofs.Basics.{one-mul, ℕ_discrete, arith}
 use native.Mathlib.Nat.{mod-lt, mod-eq_of_lt}
 use lib.Pow.{pow_pos, mod-pow-add, shl_exact, shr-shr}
-use Rattle.wire.proofs.Choices.{either}
+use Rattle.wire.proofs.Choices.{either, and-false}
 use Rattle.steps.specs.Search.{all_below}
 use Rattle.steps.specs.Held.{is_held}
 use Rattle.steps.proofs.Tables.{all_cong}
@@ -75,3 +75,28 @@ pub held_word_lem : (h : List ℕ) (q : ℕ) → 0 < q → get_or h (q - 1) 0 < 
 held_word_lem h q c l =
     let e : 64 * (q - 1) + 64 ≡ 64 * q = omega arith in
     rw e at (rw (← full-bits (get_or h (q - 1) 0) l) at (held-run h (q - 1) 64 (omega arith)))
+
+-- all of some words are full
+all-full : (h : List ℕ) (q : ℕ) → ((i : ℕ) → i < q → get_or h i 0 ≡ 18446744073709551615) → all_below (64 * q) (is_held h) ≡ true
+all-full h zero f = refl
+all-full h (suc q) f =
+    let e : suc q - 1 ≡ q = omega arith in
+    let x : get_or h q 0 ≡ 18446744073709551615 = f q (omega arith) in
+    let k : all_below (64 * suc q) (is_held h) ≡ (eqb (get_or h q 0) 18446744073709551615 && all_below (64 * q) (is_held h)) = rw e at (held_word_lem h (suc q) (omega arith) (rw e (omega arith))) in
+    k ∙ rw (eq-eqb _ _ x) (all-full h q (λ i l. f i (omega arith)))
+
+-- or one is not
+one_not_full : (h : List ℕ) → ((i : ℕ) → get_or h i 0 < 2 ^ 64) → (q i : ℕ) → i < q → (get_or h i 0 ≡ 18446744073709551615 → ⊥) → all_below (64 * q) (is_held h) ≡ false
+one_not_full h fit zero i l d = absurd (omega arith)
+one_not_full h fit (suc q) i l d =
+    let e : suc q - 1 ≡ q = omega arith in
+    let k : all_below (64 * suc q) (is_held h) ≡ (eqb (get_or h q 0) 18446744073709551615 && all_below (64 * q) (is_held h)) = rw e at (held_word_lem h (suc q) (omega arith) (fit (suc q - 1))) in
+    k ∙ elim (ℕ_discrete i q) [
+      | yes z ↦ let n : get_or h q 0 ≡ 18446744073709551615 → ⊥ = λ y. d (ap (λ (j : ℕ). get_or h j 0) z ∙ y) in rw (ne_eqb _ _ n) refl
+      | no z ↦ ap (λ (b : Bool). eqb (get_or h q 0) 18446744073709551615 && b) (one_not_full h fit q i (omega arith) d) ∙ and-false (eqb (get_or h q 0) 18446744073709551615)
+    ]
+
+pub words_full : (h : List ℕ) → ((i : ℕ) → get_or h i 0 < 2 ^ 64) → (q : ℕ) (b : Bool) → (b ≡ true → (i : ℕ) → i < q → get_or h i 0 ≡ 18446744073709551615)
+    → (b ≡ false → (i : ℕ) × (i < q) × (get_or h i 0 ≡ 18446744073709551615 → ⊥)) → b ≡ all_below (64 * q) (is_held h)
+words_full h fit q true y n = sym (all-full h q (y refl))
+words_full h fit q false y n = let d = n refl in sym (one_not_full h fit q d.0 d.1 d.2)

@@ -1,7 +1,7 @@
 // Which fragments of an open message are held: a bit for each, in lent words. Every public function is total over any slice.
 #![tactic(auto)]
 
-ghost use Rattle.std.specs.Prelude.{◌≡◌, ◌<◌};
+ghost use Rattle.std.specs.Prelude.{◌≡◌, ◌≢◌, true, false, ℕ, ◌<◌, get_or};
 ghost use Rattle.steps.specs.Search.{all_below};
 ghost use Rattle.steps.specs.Held.{is_held, hold};
 ghost use Rattle.held_bits.specs.InsideBits.{bit_in};
@@ -10,7 +10,7 @@ pub const WORD_BITS: usize = 64;
 // The words with a bit for each fragment of a message.
 pub const WORDS: usize = datagram::MAX_FRAGMENTS as usize / WORD_BITS;
 // A word with every bit set.
-const FULL: u64 = 18446744073709551615;
+const FULL: u64 = u64::MAX;
 
 // Fragment k is held.
 pub fn is_held(held: &[u64], k: usize) -> bool
@@ -40,19 +40,18 @@ fn low_set(w: u64, n: usize) -> bool
     w % above == above - 1
 }
 
+// The first q words have every bit set, the last of them first.
+fn all_full(held: &[u64], q: usize) -> bool
+    ensures yes { result ≡ true → (i : ℕ) → i < q → get_or held.now i 0 ≡ FULL }
+    ensures no { result ≡ false → (i : ℕ) × (i < q) × (get_or held.now i 0 ≢ FULL) }
+{
+    (0..q).rev().all(|i| words::word(held, i) == FULL)
+}
+
 // Fragments 0 to n - 1 are held: word by word. The last fragment is the last to come, so its word is asked first.
 pub fn all_held(held: &[u64], n: usize) -> bool
     ensures { result ≡ all_below n (is_held held.now) }
 {
-    let mut q = n / WORD_BITS;
-    if !low_set(words::word(held, q), n % WORD_BITS) {
-        return false;
-    }
-    while 0 < q {
-        q -= 1;
-        if words::word(held, q) != FULL {
-            return false;
-        }
-    }
-    true
+    let q = n / WORD_BITS;
+    low_set(words::word(held, q), n % WORD_BITS) && all_full(held, q)
 }

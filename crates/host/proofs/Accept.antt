@@ -1,14 +1,10 @@
--- The places of an accepted datagram fit the host's fields; a cut told as one number; no second answer. Assumes nothing.
-use Rattle.wire.proofs.Basics.{◌∙◌, ◌≡◌, ap, ℕ, List, arith}
+-- The places of an accepted datagram fit the host's fields; no second answer. Assumes nothing.
+use Rattle.wire.proofs.Basics.{◌≡◌, ℕ, List, arith}
 use Rattle.wire.proofs.Once.{one_answer}
-use Rattle.datagram.specs.Read.{read_datagram_lem}
+use Rattle.datagram.specs.Read.{Read, Good, read_datagram_lem}
 use Rattle.datagram.specs.declared.Header.{Header}
-use Rattle.datagram.specs.declared.Read.{Read}
-use Rattle.datagram.specs.declared.Read.TheVariants.{Good}
 use Rattle.datagram.proofs.Places.{accepted-good}
-use Rattle.cutter.specs.Cut.{Answer, says, cut_output, datagram_of, CutTo}
-use Rattle.cutter.specs.declared.Cut.{Cut}
-use Rattle.host.specs.Code.{code_of, CutTold}
+use Rattle.host.specs.Code.{CutTold}
 use Rattle.host.specs.Fields.{Told}
 use Rattle.host.specs.Inside.{PlacesFit}
 
@@ -21,14 +17,6 @@ places_fit C N d h e =
       payload-at = omega (arith, i.short, i.payload_in_lem);
       payload-len = omega (arith, i.short, i.payload_in_lem);
     }
-
--- what the cutter answers and writes, told as one number
-pub cut-told : (name payload : List ℕ) (q m index : ℕ) (out : List ℕ) (r : Cut) (out' : List ℕ) (x : ℕ)
-    → CutTo name payload q m index out r out' → x ≡ code_of (says r) → CutTold name payload q m index out x out'
-cut-told name payload q m index out r out' x k e = record {
-  gave = e ∙ ap code_of k.answer;
-  left = k.output ∙ ap (λ (s : Answer). cut_output s out (datagram_of q name payload m index)) k.answer;
-}
 
 -- ---- no second answer, and no second list or output
 

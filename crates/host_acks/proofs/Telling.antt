@@ -1,25 +1,30 @@
 -- The ways in which acknowledge blocks are told; no second answer. Assumes nothing.
-use Rattle.wire.proofs.Basics.{◌∙◌, sym, ◌≡◌, ap, ℕ, ◌≤◌, ◌<◌, List, Bool, length, le-ltb, lt-ltb}
+use Rattle.wire.proofs.Basics.{◌∙◌, ◌≡◌, ap, refl, true, false, ℕ, ◌≤◌, ◌<◌, List, Bool, length, le-ltb, lt-ltb}
+use mir.Val.{bool_byte}
+use Rattle.wire.specs.Choice.{pick}
 use Rattle.wire.specs.Slices.{◌⇒◌}
 use Rattle.wire.proofs.Once.{one_answer}
-use Rattle.ack_blocks.specs.Read.{Given, asked, answers}
-use Rattle.ack_blocks.specs.declared.Answer.{Answer}
+use Rattle.ack_blocks.specs.Read.{Given, asked}
 use Rattle.ack_writer.specs.Write.{written_of, writes, WritesBlocks}
-use Rattle.ack_writer.specs.declared.Written.{Written}
+use Rattle.std.proofs.Common.{Result}
+use Rattle.refusals.specs.declared.Refusal.{Refusal}
 use Rattle.wire.specs.Given.{code}
 use Rattle.host_acks.specs.Told.{ask_left, AskTold, write_left, WriteTold}
 
 -- ---- a question
 
+pub one-or-zero : (found : Bool) → bool_byte found ≡ pick found 1 0
+one-or-zero true = refl
+one-or-zero false = refl
+
 module _ (b : List ℕ) (n : ℕ) (t : List ℕ) where
   pub ask-short : length t < 1 → AskTold b n (t ⇒ t) 13
   ask-short h = let s = lt-ltb (length t) 1 h in record { gave = rw s; left = rw s }
 
-  pub ask-told : 1 ≤ length t → (a s : Answer) → answers a ≡ asked b n → a ≡ s → (answer : ℕ) (t' : List ℕ) → answer ≡ code (answers s) → t' ≡ ask_left (answers s) t
+  pub ask-told : 1 ≤ length t → (r : Given Bool) → r ≡ asked b n → (answer : ℕ) (t' : List ℕ) → answer ≡ code r → t' ≡ ask_left r t
       → AskTold b n (t ⇒ t') answer
-  ask-told h a s p e answer t' g l =
+  ask-told h r q answer t' g l =
       let f = le-ltb (length t) 1 h in
-      let q : answers s ≡ asked b n = ap answers (sym e) ∙ p in
       record { gave = rw f (g ∙ ap code q); left = rw f (l ∙ ap (λ (x : Given Bool). ask_left x t) q) }
 
   pub ask-told-once : {x y : ℕ} {u v : List ℕ} → AskTold b n (t ⇒ u) x → AskTold b n (t ⇒ v) y → (x ≡ y) × (u ≡ v)
@@ -31,11 +36,11 @@ module _ (l out t : List ℕ) where
   pub write-short : length t < 1 → WriteTold l (out ⇒ out) (t ⇒ t) 13
   write-short h = let s = lt-ltb (length t) 1 h in record { gave = rw s; output = rw s; left = rw s }
 
-  pub write-told : 1 ≤ length t → (r s : Written) (out' : List ℕ) → WritesBlocks l out r out' → r ≡ s → (answer : ℕ) (t' : List ℕ) → answer ≡ code (writes s) → t' ≡ write_left (writes s) t
+  pub write-told : 1 ≤ length t → (r : Result ℕ Refusal) (out' : List ℕ) → WritesBlocks l out r out' → (answer : ℕ) (t' : List ℕ) → answer ≡ code (writes r) → t' ≡ write_left (writes r) t
       → WriteTold l (out ⇒ out') (t ⇒ t') answer
-  write-told h r s out' w e answer t' g k =
+  write-told h r out' w answer t' g k =
       let f = le-ltb (length t) 1 h in
-      let q : writes s ≡ written_of l (length out) = ap writes (sym e) ∙ w.answer in
+      let q : writes r ≡ written_of l (length out) = w.answer in
       record { gave = rw f (g ∙ ap code q); output = rw f w.output; left = rw f (k ∙ ap (λ (x : Given ℕ). write_left x t) q) }
 
   pub write-told-once : {x y : ℕ} {o₁ o₂ u v : List ℕ} → WriteTold l (out ⇒ o₁) (t ⇒ u) x → WriteTold l (out ⇒ o₂) (t ⇒ v) y → (x ≡ y) × ((o₁ ≡ o₂) × (u ≡ v))

@@ -4,8 +4,7 @@
 ghost use Rattle.wire.specs.Slices.{buffer};
 ghost use Rattle.host_acks.specs.Told.{AskTold, WriteTold};
 
-use ack_blocks::Answer;
-use ack_writer::Written;
+use refusals::Refusal;
 
 // Whether blocks acknowledge a number: 0, and 1 or 0 at the start of told; or the number of the refusal, and then nothing is written.
 #[unsafe(no_mangle)]
@@ -13,19 +12,14 @@ pub extern "C" fn qm_acks_ask(blocks: &[u8], number: u64, told: &mut [u64]) -> u
     ensures { AskTold blocks.now number (buffer told) result }
 {
     if told.len() < 1 {
-        return 13;
+        return Refusal::NoRoom.number();
     }
-    let answer = ack_blocks::ask(blocks, number);
-    match answer {
-        Answer::Yes => {
-            words::put_word(told, 0, 1);
+    match ack_blocks::ask(blocks, number) {
+        Ok(found) => {
+            words::put_word(told, 0, u64::from(found));
             0
         }
-        Answer::No => {
-            words::put_word(told, 0, 0);
-            0
-        }
-        Answer::Refused(e) => e,
+        Err(refusal) => refusal.number(),
     }
 }
 
@@ -36,14 +30,13 @@ pub extern "C" fn qm_acks_write(numbers: &[u64], out: &mut [u8], told: &mut [u64
     ensures { WriteTold numbers.now (buffer out) (buffer told) result }
 {
     if told.len() < 1 {
-        return 13;
+        return Refusal::NoRoom.number();
     }
-    let written = ack_writer::write_blocks(numbers, out);
-    match written {
-        Written::Bytes(n) => {
+    match ack_writer::write_blocks(numbers, out) {
+        Ok(n) => {
             words::put_word(told, 0, n as u64);
             0
         }
-        Written::Refused(e) => e,
+        Err(refusal) => refusal.number(),
     }
 }

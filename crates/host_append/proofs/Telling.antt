@@ -6,7 +6,8 @@ use Rattle.datagram.specs.Limits.{max_datagram, max_payload}
 use Rattle.flight_log.specs.Editions.{edition2, head_bytes}
 use Rattle.flight_log.specs.Entries.{Entry, entry_bytes}
 use Rattle.log_append.specs.Writes.{Answer, wrote, refused, says, fitted, begin_answer, append_answer, output, Began, Appended}
-use Rattle.log_append.specs.declared.Written.{Written}
+use Rattle.std.proofs.Common.{Result}
+use Rattle.refusals.specs.declared.Refusal.{Refusal}
 use Rattle.log_append.proofs.Writing.{entry-most, seven-most}
 use Rattle.host_append.specs.Told.{length_code, BeginTold, AppendTold, log_length}
 use Rattle.host_append.specs.Inside.{Spans}
@@ -34,19 +35,19 @@ spans-append n at e = by-test (ltb max_datagram (length e.datagram)) refl
     by-test true p = tt
     by-test false p = spans-fitted n at (entry_bytes e) (omega (arith, entry-most e, ltb-false max_datagram (length e.datagram) p))
 
-pub begin_spans : (out : List ℕ) (limit : ℕ) (r : Written) (out' : List ℕ) → Began out limit r out' → Spans 0 (says r)
+pub begin_spans : (out : List ℕ) (limit : ℕ) (r : Result ℕ Refusal) (out' : List ℕ) → Began out limit r out' → Spans 0 (says r)
 begin_spans out limit r out' k = subst (Spans 0) (sym k.answer) (spans-begin (length out) limit)
 
-pub append_spans : (out : List ℕ) (at : ℕ) (e : Entry) (r : Written) (out' : List ℕ) → Appended out at e r out' → Spans at (says r)
+pub append_spans : (out : List ℕ) (at : ℕ) (e : Entry) (r : Result ℕ Refusal) (out' : List ℕ) → Appended out at e r out' → Spans at (says r)
 append_spans out at e r out' k = subst (Spans at) (sym k.answer) (spans-append (length out) at e)
 
-pub begin-told : (out : List ℕ) (limit : ℕ) (r : Written) (out' : List ℕ) (x : ℕ) → Began out limit r out' → x ≡ length_code 0 (says r) → BeginTold out limit x out'
+pub begin-told : (out : List ℕ) (limit : ℕ) (r : Result ℕ Refusal) (out' : List ℕ) (x : ℕ) → Began out limit r out' → x ≡ length_code 0 (says r) → BeginTold out limit x out'
 begin-told out limit r out' x k e = record {
   gave = e ∙ ap (length_code 0) k.answer;
   left = k.left ∙ ap (λ (a : Answer). output a out 0 (head_bytes (edition2 limit))) k.answer;
 }
 
-pub append-told : (out : List ℕ) (at : ℕ) (e : Entry) (r : Written) (out' : List ℕ) (x : ℕ) → Appended out at e r out' → x ≡ length_code at (says r) → AppendTold out at e x out'
+pub append-told : (out : List ℕ) (at : ℕ) (e : Entry) (r : Result ℕ Refusal) (out' : List ℕ) (x : ℕ) → Appended out at e r out' → x ≡ length_code at (says r) → AppendTold out at e x out'
 append-told out at e r out' x k f = record {
   gave = f ∙ ap (length_code at) k.answer;
   left = k.left ∙ ap (λ (a : Answer). output a out at (entry_bytes e)) k.answer;

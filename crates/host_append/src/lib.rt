@@ -7,16 +7,16 @@ ghost use Rattle.log_append.specs.Writes.{says};
 ghost use Rattle.host_append.specs.Told.{length_code, BeginTold, AppendTold};
 ghost use Rattle.host_append.specs.Inside.{Spans};
 
-use log_append::Written;
+use refusals::Refusal;
 
 // How many bytes were written at a place, times 2^32, or the number of the refusal.
-fn told(at: usize, written: Written) -> u64
+fn told(at: usize, written: Result<usize, Refusal>) -> u64
     requires { Spans at (says written) }
     ensures { result ≡ length_code at (says written) }
 {
     match written {
-        Written::Next(next) => ((next - at) as u64) * 4294967296,
-        Written::Refused(n) => n as u64,
+        Ok(next) => ((next - at) as u64) * 4294967296,
+        Err(refusal) => refusal.number() as u64,
     }
 }
 

@@ -2,9 +2,8 @@
 use Rattle.wire.proofs.Basics.{◌∙◌, sym, ◌≡◌, ap, refl, ℕ, ◌≤◌, ◌<◌, List, length, le-ltb, lt-ltb}
 use Rattle.wire.specs.Overlay.{overlay}
 use Rattle.count_rules.specs.Count.{Outcome, reported, no_report}
-use Rattle.count.specs.declared.Answer.{Answer}
-use Rattle.count.specs.declared.Answer.TheVariants.{Given, Refused}
-use Rattle.count.specs.declared.Counted.{Counted}
+use Rattle.count.specs.Answer.{Answer, Given, Refused}
+use Rattle.count.specs.Answer.{Counted}
 use Rattle.count.specs.declared.Report.{Report}
 use Rattle.count.specs.Counts.{counted, Loan, Counts}
 use Rattle.host_count.specs.Numbers.{report_length, numbers_of}

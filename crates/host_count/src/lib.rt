@@ -7,7 +7,7 @@ ghost use Rattle.count.specs.Counts.{loan_before, loan_after};
 ghost use Rattle.host_count.specs.Numbers.{numbers_of};
 ghost use Rattle.host_count.specs.Told.{CountTold};
 
-use count::{Answer, Report};
+use count::Report;
 
 // How many numbers tell of a count, and where each group begins.
 pub const REPORT: usize = SURE + count::MAX_TILES;
@@ -59,14 +59,11 @@ pub extern "C" fn qm_count(
     if report.len() < REPORT {
         return 13;
     }
-    let counted = count::count_log(log, store, ledger, numbers);
-    let answer = counted.answer;
-    let given = counted.report;
-    match answer {
-        Answer::Given => {
+    match count::count_log(log, store, ledger, numbers) {
+        Ok(given) => {
             put_report(report, given);
             0
         }
-        Answer::Refused(n) => n,
+        Err(e) => e.number(),
     }
 }

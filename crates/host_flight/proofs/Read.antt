@@ -1,8 +1,8 @@
 -- The two ways of qm_log_first and qm_log_next: no room, and what the reader answers; no second answer. Assumes nothing.
 use Rattle.wire.proofs.Basics.{◌∙◌, sym, ◌≡◌, ap, ℕ, List, true, false, length, ltb}
 use Rattle.wire.proofs.Once.{one_answer}
-use Rattle.flight_log.specs.declared.reader.First.{First}
-use Rattle.flight_log.specs.declared.reader.Step.{Step}
+use Rattle.flight_log.specs.First.{First}
+use Rattle.flight_log.specs.Step.{Step}
 use Rattle.flight_log.specs.Said.{first_in, next_at}
 use Rattle.host_flight.specs.Reading.{head_count, first_code, first_left, FirstTold, entry_count, step_code, step_left, NextTold}
 

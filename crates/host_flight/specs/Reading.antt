@@ -3,11 +3,10 @@ use Rattle.std.specs.Prelude.{◌≡◌, List, [], ◌∷◌, ℕ, ltb, length}
 use Rattle.wire.specs.Choice.{pick}
 use Rattle.wire.specs.Overlay.{overlay}
 use Rattle.flight_log.specs.declared.reader.EntryAt.{EntryAt}
-use Rattle.flight_log.specs.declared.reader.First.{First}
-use Rattle.flight_log.specs.declared.reader.First.TheVariants as first
+use Rattle.flight_log.specs.First.{First}
+use Rattle.flight_log.specs.First as first
 use Rattle.flight_log.specs.declared.reader.Limits.{Limits}
-use Rattle.flight_log.specs.declared.reader.Step.{Step}
-use Rattle.flight_log.specs.declared.reader.Step.TheVariants.{Found, End, Refused}
+use Rattle.flight_log.specs.Step.{Step, Found, End, Refused}
 use Rattle.flight_log.specs.Said.{first_in, next_at}
 
 -- ---- the head: where the first entry begins, the largest payload of the log, and the most fragments of a message

@@ -2,9 +2,11 @@
 #![tactic(auto)]
 
 ghost use Rattle.std.specs.Prelude.{◌≡◌};
-ghost use Rattle.host_flight.specs.Reading.{FirstTold, NextTold, step_code, step_left};
+ghost use Rattle.wire.specs.Overlay.{overlay};
+ghost use Rattle.host_flight.specs.Reading.{FirstTold, NextTold, entry_numbers, end_numbers};
 
-use flight_log::{EntryAt, First, Step};
+use flight_log::EntryAt;
+use refusals::Refusal;
 
 mod watching;
 
@@ -21,21 +23,20 @@ pub extern "C" fn qm_log_first(log: &[u8], head: &mut [u64]) -> u32
     ensures { FirstTold log.now head.old result head.new }
 {
     if head.len() < HEAD {
-        return 13;
+        return Refusal::NoRoom.number();
     }
-    let first = flight_log::first_entry(log);
-    match first {
-        First::At(place, limits) => {
+    match flight_log::first_entry(log) {
+        Ok((place, limits)) => {
             let told = [place as u64, limits.payload as u64, limits.fragments as u64];
             words::put_words(head, 0, &told);
             0
         }
-        First::Refused(n) => n,
+        Err(refusal) => refusal.number(),
     }
 }
 
-fn put_found(list: &mut [u64], at: usize, e: EntryAt) -> u32
-    ensures { (result ≡ step_code (Step.Found e)) × (list.new ≡ step_left at (Step.Found e) list.old) }
+fn put_found(list: &mut [u64], e: EntryAt)
+    ensures { list.new ≡ overlay list.old 0 (entry_numbers e) }
 {
     let told = [
         1,
@@ -46,15 +47,13 @@ fn put_found(list: &mut [u64], at: usize, e: EntryAt) -> u32
         e.next as u64,
     ];
     words::put_words(list, 0, &told);
-    0
 }
 
-fn put_end(list: &mut [u64], at: usize) -> u32
-    ensures { (result ≡ step_code Step.End) × (list.new ≡ step_left at Step.End list.old) }
+fn put_end(list: &mut [u64], at: usize)
+    ensures { list.new ≡ overlay list.old 0 (end_numbers at) }
 {
     let told = [0, 0, 0, at as u64, 0, at as u64];
     words::put_words(list, 0, &told);
-    0
 }
 
 // The entry at a place of a log: 0 and six numbers at the start of a lent list, whether there is one first; or the number of the refusal.
@@ -63,12 +62,17 @@ pub extern "C" fn qm_log_next(log: &[u8], at: usize, entry: &mut [u64]) -> u32
     ensures { NextTold log.now at entry.old result entry.new }
 {
     if entry.len() < ENTRY {
-        return 13;
+        return Refusal::NoRoom.number();
     }
-    let step = flight_log::next_entry(log, at);
-    match step {
-        Step::Found(e) => put_found(entry, at, e),
-        Step::End => put_end(entry, at),
-        Step::Refused(n) => n,
+    match flight_log::next_entry(log, at) {
+        Ok(Some(e)) => {
+            put_found(entry, e);
+            0
+        }
+        Ok(None) => {
+            put_end(entry, at);
+            0
+        }
+        Err(refusal) => refusal.number(),
     }
 }

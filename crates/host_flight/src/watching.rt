@@ -3,6 +3,7 @@ ghost use Rattle.std.specs.Prelude.{◌≡◌, length};
 ghost use Rattle.watch.specs.Limits.{max_senders};
 ghost use Rattle.host_flight.specs.Watches.{SeeTold};
 
+use refusals::Refusal;
 use watch::Watch;
 
 // How many numbers hold the senders: how many there are, and each.
@@ -16,7 +17,7 @@ fn shown(count: u64, senders: &[u64], lasts: &[u32]) -> Watch
     let mut s = [0u64; watch::SENDERS];
     let mut l = [0u32; watch::SENDERS];
     words::put_words(&mut s, 0, senders);
-    words::put_entries(&mut l, 0, lasts);
+    words::put_words(&mut l, 0, lasts);
     Watch {
         senders: s,
         lasts: l,
@@ -35,10 +36,10 @@ pub extern "C" fn qm_watch_see(
     ensures { SeeTold senders.old lasts.old sender number result senders.new lasts.new }
 {
     if senders.len() < WATCH {
-        return 13;
+        return Refusal::NoRoom.number() as u64;
     }
     if lasts.len() < watch::SENDERS {
-        return 13;
+        return Refusal::NoRoom.number() as u64;
     }
     let before = shown(
         words::word(&*senders, 0),
@@ -50,6 +51,6 @@ pub extern "C" fn qm_watch_see(
     let after = seen.watch;
     words::put_word(&mut *senders, 0, after.count as u64);
     words::put_words(senders, 1, &after.senders);
-    words::put_entries(lasts, 0, &after.lasts);
-    differences::noted_code(answer)
+    words::put_words(lasts, 0, &after.lasts);
+    answer.code()
 }

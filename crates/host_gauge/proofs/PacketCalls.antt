@@ -10,8 +10,7 @@ use Rattle.differences.specs.Noted.{moves}
 use Rattle.moss.specs.Limits.{session_length}
 use Rattle.moss.specs.Packet.{Given, gives, refuses, Packet, session_place, packet_of}
 use Rattle.moss.proofs.Packets.{packet-good}
-use Rattle.gauge_watch.specs.declared.Gauge.{Gauge}
-use Rattle.gauge_watch.specs.Heard.{noted_of, moved_to, asked, after}
+use Rattle.gauge_watch.specs.Heard.{Gauge, noted_of, moved_to, asked, after}
 use Rattle.host_gauge.specs.Watches.{gauge_in, gauge_words_lem, moved_words, SeeTold}
 
 -- ---- a gauge's words show it

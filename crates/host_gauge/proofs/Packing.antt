@@ -1,5 +1,5 @@
 -- The ways in which a packet, a message of it, and a packet that is written are told; no second answer. Assumes nothing.
-use Rattle.wire.proofs.Basics.{◌∙◌, sym, ◌≡◌, ap, subst, ℕ, ◌≤◌, ◌<◌, List, true, false, or-true, length, drop, take, replicate, ltb, le-ltb, lt-ltb}
+use Rattle.wire.proofs.Basics.{◌∙◌, ◌≡◌, ap, subst, ℕ, ◌≤◌, ◌<◌, List, true, false, or-true, length, drop, take, replicate, ltb, le-ltb, lt-ltb}
 use Rattle.wire.specs.Overlay.{overlay}
 use Rattle.wire.specs.Slices.{◌⇒◌}
 use Rattle.wire.proofs.Overlays.{overlay-all}
@@ -7,12 +7,10 @@ use Rattle.wire.proofs.Once.{one_answer}
 use Rattle.moss.specs.Limits.{session_length}
 use Rattle.moss.specs.Packet.{Given, packet_of}
 use Rattle.moss.specs.Message.{Part, place_in}
-use Rattle.moss.specs.Answers.{headers_of, reads, locates}
-use Rattle.moss.specs.declared.Header.{Header}
-use Rattle.moss.specs.declared.Read.{Read}
-use Rattle.moss.specs.declared.Located.{Located}
+use Rattle.moss.specs.Answers.{Header, headers_of}
 use Rattle.moss_writer.specs.Write.{written_of, writes, WritesPacket}
-use Rattle.moss_writer.specs.declared.Written.{Written}
+use Rattle.std.proofs.Common.{Result}
+use Rattle.refusals.specs.declared.Refusal.{Refusal}
 use Rattle.wire.specs.Given.{code}
 use Rattle.host_gauge.specs.Packets.{packet_left, PacketTold, place_left, PlaceTold, length_left, lacking, WriteTold}
 
@@ -22,11 +20,10 @@ module _ (b t : List ℕ) where
   pub packet-short : length t < 4 → PacketTold b (t ⇒ t) 13
   packet-short h = let s = lt-ltb (length t) 4 h in record { gave = rw s; left = rw s }
 
-  pub packet-told : 4 ≤ length t → (r s : Read) → reads r ≡ headers_of (packet_of b) → r ≡ s → (answer : ℕ) (t' : List ℕ) → answer ≡ code (reads s) → t' ≡ packet_left (reads s) t
+  pub packet-told : 4 ≤ length t → (r : Given Header) → r ≡ headers_of (packet_of b) → (answer : ℕ) (t' : List ℕ) → answer ≡ code r → t' ≡ packet_left r t
       → PacketTold b (t ⇒ t') answer
-  packet-told h r s p e answer t' g l =
+  packet-told h r q answer t' g l =
       let f = le-ltb (length t) 4 h in
-      let q : reads s ≡ headers_of (packet_of b) = ap reads (sym e) ∙ p in
       record { gave = rw f (g ∙ ap code q); left = rw f (l ∙ ap (λ (x : Given Header). packet_left x t) q) }
 
   pub packet-told-once : {x y : ℕ} {u v : List ℕ} → PacketTold b (t ⇒ u) x → PacketTold b (t ⇒ v) y → (x ≡ y) × (u ≡ v)
@@ -38,11 +35,10 @@ module _ (b : List ℕ) (n : ℕ) (t : List ℕ) where
   pub place_short : length t < 2 → PlaceTold b n (t ⇒ t) 13
   place_short h = let s = lt-ltb (length t) 2 h in record { gave = rw s; left = rw s }
 
-  pub place-told : 2 ≤ length t → (r s : Located) → locates r ≡ place_in (packet_of b) n → r ≡ s → (answer : ℕ) (t' : List ℕ) → answer ≡ code (locates s) → t' ≡ place_left (locates s) t
+  pub place-told : 2 ≤ length t → (r : Given Part) → r ≡ place_in (packet_of b) n → (answer : ℕ) (t' : List ℕ) → answer ≡ code r → t' ≡ place_left r t
       → PlaceTold b n (t ⇒ t') answer
-  place-told h r s p e answer t' g l =
+  place-told h r q answer t' g l =
       let f = le-ltb (length t) 2 h in
-      let q : locates s ≡ place_in (packet_of b) n = ap locates (sym e) ∙ p in
       record { gave = rw f (g ∙ ap code q); left = rw f (l ∙ ap (λ (x : Given Part). place_left x t) q) }
 
   pub place-told-once : {x y : ℕ} {u v : List ℕ} → PlaceTold b n (t ⇒ u) x → PlaceTold b n (t ⇒ v) y → (x ≡ y) × (u ≡ v)
@@ -59,14 +55,14 @@ module _ (s : List ℕ) (q k : ℕ) (b out t : List ℕ) where
       let f : lacking s t ≡ true = rw (lt-ltb (length t) 1 h) (or-true (ltb (length s) session_length)) in
       record { gave = rw f; output = rw f; left = rw f }
 
-  pub write-told : session_length ≤ length s → 1 ≤ length t → (ten : List ℕ) → ten ≡ overlay (replicate session_length 0) 0 (drop 0 s) → (r w : Written) (out' : List ℕ)
-      → WritesPacket ten q k b out r out' → r ≡ w → (answer : ℕ) (t' : List ℕ) → answer ≡ code (writes w) → t' ≡ length_left (writes w) t
+  pub write-told : session_length ≤ length s → 1 ≤ length t → (ten : List ℕ) → ten ≡ overlay (replicate session_length 0) 0 (drop 0 s) → (r : Result ℕ Refusal) (out' : List ℕ)
+      → WritesPacket ten q k b out r out' → (answer : ℕ) (t' : List ℕ) → answer ≡ code (writes r) → t' ≡ length_left (writes r) t
       → WriteTold s q k b (out ⇒ out') (t ⇒ t') answer
-  write-told hs ht ten d r w out' x e answer t' g l =
+  write-told hs ht ten d r out' x answer t' g l =
       let f : lacking s t ≡ false = rw (le-ltb (length s) session_length hs, le-ltb (length t) 1 ht) in
       let i : ten ≡ take session_length s = d ∙ overlay-all (replicate session_length 0) s hs in
       let y : WritesPacket (take session_length s) q k b out r out' = subst (λ (z : List ℕ). WritesPacket z q k b out r out') i x in
-      let a : writes w ≡ written_of k b (length out) = ap writes (sym e) ∙ y.answer in
+      let a : writes r ≡ written_of k b (length out) = y.answer in
       record { gave = rw f (g ∙ ap code a); output = rw f y.output; left = rw f (l ∙ ap (λ (z : Given ℕ). length_left z t) a) }
 
   pub write-told-once : {x y : ℕ} {o₁ o₂ u v : List ℕ} → WriteTold s q k b (out ⇒ o₁) (t ⇒ u) x → WriteTold s q k b (out ⇒ o₂) (t ⇒ v) y → (x ≡ y) × ((o₁ ≡ o₂) × (u ≡ v))

@@ -1,2 +1,3 @@
 pub mod Packets
 pub mod Watches
+pub mod Inside

@@ -7,8 +7,7 @@ use Rattle.wire.specs.Slices.{Buffer, short}
 use Rattle.moss.specs.Limits.{session_length}
 use Rattle.moss.specs.Packet.{Given, gives, refuses, packet_of}
 use Rattle.moss.specs.Message.{Part, place_in}
-use Rattle.moss.specs.Answers.{headers_of}
-use Rattle.moss.specs.declared.Header.{Header}
+use Rattle.moss.specs.Answers.{Header, headers_of}
 use Rattle.moss_writer.specs.Write.{packet_bytes, written_of, output_of}
 
 -- ---- a packet: where its session stands, its sequence, its type, its count of messages

@@ -6,8 +6,7 @@ use Rattle.wire.specs.Overlay.{overlay}
 use Rattle.wire.specs.Slices.{Buffer, short}
 use Rattle.differences.specs.Noted.{Noted, noted_code_lem, moves}
 use Rattle.moss.specs.Packet.{packet_of}
-use Rattle.gauge_watch.specs.declared.Gauge.{Gauge}
-use Rattle.gauge_watch.specs.Heard.{asked, after}
+use Rattle.gauge_watch.specs.Heard.{Gauge, asked, after}
 
 -- the gauge that words show: 1 where a session was heard, the number of its last message, eight bytes of the session and two
 abbrev pub gauge_in : List ℕ → Gauge

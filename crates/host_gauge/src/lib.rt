@@ -4,8 +4,7 @@
 ghost use Rattle.wire.specs.Slices.{buffer};
 ghost use Rattle.host_gauge.specs.Packets.{PacketTold, PlaceTold, WriteTold};
 
-use moss::{Located, Read};
-use moss_writer::Written;
+use refusals::Refusal;
 
 mod watching;
 
@@ -23,21 +22,20 @@ pub extern "C" fn qm_moss_read(packet: &[u8], told: &mut [u64]) -> u32
     ensures { PacketTold packet.now (buffer told) result }
 {
     if told.len() < PACKET {
-        return 13;
+        return Refusal::NoRoom.number();
     }
-    let read = moss::read_packet(packet);
-    match read {
-        Read::Good(h) => {
+    match moss::read_packet(packet) {
+        Ok(h) => {
             let numbers = [
                 h.session as u64,
                 h.sequence as u64,
-                h.kind as u64,
+                u8::from(h.kind) as u64,
                 h.count as u64,
             ];
             words::put_words(told, 0, &numbers);
             0
         }
-        Read::Refused(e) => e,
+        Err(refusal) => refusal.number(),
     }
 }
 
@@ -47,16 +45,15 @@ pub extern "C" fn qm_moss_message(packet: &[u8], n: usize, told: &mut [u64]) -> 
     ensures { PlaceTold packet.now n (buffer told) result }
 {
     if told.len() < MESSAGE {
-        return 13;
+        return Refusal::NoRoom.number();
     }
-    let place = moss::message_place(packet, n);
-    match place {
-        Located::At(at, len) => {
-            let numbers = [at as u64, len as u64];
+    match moss::message_place(packet, n) {
+        Ok(place) => {
+            let numbers = [place.at as u64, place.len as u64];
             words::put_words(told, 0, &numbers);
             0
         }
-        Located::Refused(e) => e,
+        Err(refusal) => refusal.number(),
     }
 }
 
@@ -74,18 +71,17 @@ pub extern "C" fn qm_moss_write(
     ensures { WriteTold session.now sequence kind blocks.now (buffer out) (buffer told) result }
 {
     if session.len() < moss::SESSION {
-        return 13;
+        return Refusal::NoRoom.number();
     }
     if told.len() < 1 {
-        return 13;
+        return Refusal::NoRoom.number();
     }
     let ten = moss::session_at(session, 0);
-    let written = moss_writer::write_packet(ten, sequence, kind, blocks, out);
-    match written {
-        Written::Bytes(n) => {
+    match moss_writer::write_packet(ten, sequence, kind, blocks, out) {
+        Ok(n) => {
             words::put_word(told, 0, n as u64);
             0
         }
-        Written::Refused(e) => e,
+        Err(refusal) => refusal.number(),
     }
 }

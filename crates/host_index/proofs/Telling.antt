@@ -7,10 +7,9 @@ use Rattle.wire.proofs.Once.{one_answer}
 use Rattle.log_index.specs.Limits.{max_index}
 use Rattle.log_index.specs.Index.{Gathered, gathered, stopped, rows_in, first_entry_lem, holds, no_room_in, answer_in, answer_of}
 use Rattle.log_index.specs.Words.{found_in, says}
-use Rattle.log_index.specs.declared.Found.{Found}
+use Rattle.std.proofs.Common.{Option as Maybe, Ok}
 use Rattle.index_builder.specs.Adds as adds
-use Rattle.index_builder.specs.declared.Indexed.{Indexed}
-use Rattle.index_builder.specs.declared.Indexed.TheVariants.{Entries}
+use Rattle.index_builder.specs.Adds.{Indexed}
 use Rattle.index_builder.proofs.Answers.{room-rows, answer-full, answer-holds}
 use Rattle.index_builder.proofs.Promises.{index-left, finds-first}
 use Rattle.host_index.specs.Told.{index_code, index_rows, Few, IndexTold, OnTold, place_count, place_numbers_lem, FindTold}
@@ -48,7 +47,7 @@ module _ (w : List ℕ) (n s q : ℕ) (list : List ℕ) where
   find-short h = let t = lt-ltb (length list) place_count h in record { gave = rw t; left = rw t }
 
   -- the sequence goes in as a word
-  pub find-told : (word : ℕ) (f : Found) (numbers list' : List ℕ) → place_count ≤ length list → word ≡ q → says f ≡ found_in w n s word → numbers ≡ place_numbers_lem (says f)
+  pub find-told : (word : ℕ) (f : Maybe ℕ) (numbers list' : List ℕ) → place_count ≤ length list → word ≡ q → says f ≡ found_in w n s word → numbers ≡ place_numbers_lem (says f)
       → list' ≡ overlay list 0 numbers → FindTold w n s q list 0 list'
   find-told word f numbers list' h v e m l =
       let t = le-ltb (length list) place_count h in
@@ -62,7 +61,7 @@ module _ (log : List ℕ) (all : Bytes log) (w : List ℕ) (n x : ℕ) (w' : Lis
       → list' ≡ overlay list 0 (place_numbers_lem (first_entry_lem log s q))
   told-first s q list answer list' h k =
       let t = le-ltb (length list) place_count h in
-      let made : adds.Indexes log w (Entries n) w' = record { answer = sym e; index = i.left } in
+      let made : adds.Indexes log w (Ok n) w' = record { answer = sym e; index = i.left } in
       k.left ∙ rw t (ap (λ (o : Option ℕ). overlay list 0 (place_numbers_lem o)) (finds-first log all w' n (index-left log w n w' made) s q))
 
 -- ---- no second answer, and no second list

@@ -6,20 +6,19 @@ ghost use Rattle.index_builder.specs.Adds as indexing;
 ghost use Rattle.log_index.specs.Words.{says};
 ghost use Rattle.host_index.specs.Told.{index_code, Few, IndexTold, OnTold, place_numbers_lem, FindTold};
 
-use index_builder::Indexed;
-use log_index::Found;
+use refusals::Refusal;
 
 // How many numbers tell of a key.
 pub const PLACE: usize = 2;
 
 // 2^32 and how many rows there are, or the number of the refusal.
-fn told(indexed: Indexed) -> u64
+fn told(indexed: Result<usize, Refusal>) -> u64
     requires { Few (indexing.says indexed) }
     ensures { result ≡ index_code (indexing.says indexed) }
 {
     match indexed {
-        Indexed::Entries(n) => 4294967296 + n as u64,
-        Indexed::Refused(number) => words::as_word(number),
+        Ok(n) => 4294967296 + n as u64,
+        Err(refusal) => refusal.number() as u64,
     }
 }
 
@@ -31,12 +30,13 @@ pub extern "C" fn qm_index(log: &[u8], index: &mut [u64]) -> u64
     told(index_builder::index_log(log, index))
 }
 
-fn place_numbers(found: Found) -> [u64; PLACE]
+// What is told of a key: 1 and where its first entry begins, or 0 and 0.
+pub fn place_numbers(found: Option<u64>) -> [u64; PLACE]
     ensures { result ≡ place_numbers_lem (says found) }
 {
     match found {
-        Found::At(place) => [1, place],
-        Found::Nowhere => [0, 0],
+        Some(place) => [1, place],
+        None => [0, 0],
     }
 }
 
@@ -52,7 +52,7 @@ pub extern "C" fn qm_find(
     ensures { FindTold index.now rows sender sequence place.old result place.new }
 {
     if place.len() < PLACE {
-        return 13;
+        return Refusal::NoRoom.number();
     }
     let found = log_index::find(index, rows, sender, words::as_word(sequence));
     let numbers = place_numbers(found);

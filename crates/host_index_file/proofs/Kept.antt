@@ -9,7 +9,7 @@ use Rattle.log_index.specs.Words.{words_of, row_at}
 use Rattle.log_index.proofs.Sorts.{sorted-length}
 use Rattle.log_index.proofs.Wordings.{words-length, row_words}
 use Rattle.index_builder.specs.Adds.{IndexOf, IndexesOn}
-use Rattle.index_builder.specs.declared.Indexed.TheVariants.{Entries}
+use Rattle.std.proofs.Common.{Ok}
 use Rattle.index_builder.proofs.Promises.{index-left, on-afresh, on_extended}
 use Rattle.index_file.specs.File.{file_of, covered_in, count_in, first_rows, rows_of_file}
 use Rattle.index_file.proofs.Places.{first-list}
@@ -62,7 +62,7 @@ pub record Extended (log rest f f' : List ℕ) : Type 0 where
   pub most : ℕ
   pub rows : ℕ
   pub after : List ℕ
-  pub extends : IndexesOn (log ++ rest) (covered_in f) before (count_in f) most (Entries rows) after
+  pub extends : IndexesOn (log ++ rest) (covered_in f) before (count_in f) most (Ok rows) after
   pub out : List ℕ
   pub room : 17 + 20 * rows ≤ length out
   pub out' : List ℕ
@@ -72,8 +72,8 @@ pub record Extended (log rest f f' : List ℕ) : Type 0 where
 pub file_extended : (log rest f f' : List ℕ) → Bytes log → Bytes rest → length log < 2 ^ 64 → FileOf log f → Extended log rest f f' → FileOf (log ++ rest) f'
 file_extended log rest f f' h k small o x =
     let i = read-index log f h small o x.words x.before x.held x.reads in
-    let a = subst (λ (from : ℕ). IndexesOn (log ++ rest) from x.before (count_in f) x.most (Entries x.rows) x.after) (file-covers log f h small o) x.extends in
-    let j = index-left (log ++ rest) x.before x.rows x.after (on_extended log rest x.before h k (count_in f) i x.most (Entries x.rows) x.after a) in
+    let a = subst (λ (from : ℕ). IndexesOn (log ++ rest) from x.before (count_in f) x.most (Ok x.rows) x.after) (file-covers log f h small o) x.extends in
+    let j = index-left (log ++ rest) x.before x.rows x.after (on_extended log rest x.before h k (count_in f) i x.most (Ok x.rows) x.after a) in
     subst (FileOf (log ++ rest)) (sym x.file) (written-file (log ++ rest) x.after x.rows j x.out x.out' x.room x.writes)
 
 -- from the file of a log, stretch by stretch
@@ -91,5 +91,5 @@ pub grown-afresh : {log f big g : List ℕ} (fresh : List ℕ) → FileOf log f 
 grown-afresh fresh o w k = file-once _ _ fresh (grown-file o w) k
 
 -- ---- and that is the one of an index made of all, written
-pub fresh-file : (log w : List ℕ) (most n : ℕ) (w' : List ℕ) → IndexesOn log 0 w 0 most (Entries n) w' → (f f' : List ℕ) → 17 + 20 * n ≤ length f → f' ≡ overlay f 0 (file_of (length log) (first_rows n (row_at w'))) → FileOf log (take (17 + 20 * n) f')
-fresh-file log w most n w' a f f' room e = written-file log w' n (index-left log w n w' (on-afresh log w most (Entries n) w' a)) f f' room e
+pub fresh-file : (log w : List ℕ) (most n : ℕ) (w' : List ℕ) → IndexesOn log 0 w 0 most (Ok n) w' → (f f' : List ℕ) → 17 + 20 * n ≤ length f → f' ≡ overlay f 0 (file_of (length log) (first_rows n (row_at w'))) → FileOf log (take (17 + 20 * n) f')
+fresh-file log w most n w' a f f' room e = written-file log w' n (index-left log w n w' (on-afresh log w most (Ok n) w' a)) f f' room e

@@ -1,17 +1,13 @@
 -- What is told of an index file is what its functions give; no second answer. Assumes nothing.
-use Rattle.wire.proofs.Basics.{◌∙◌, sym, ◌≡◌, ap, ℕ, ◌≤◌, ◌<◌, List, length, le-ltb, lt-ltb}
+use Rattle.wire.proofs.Basics.{◌∙◌, ◌≡◌, ap, ℕ, ◌≤◌, ◌<◌, List, length, le-ltb, lt-ltb}
 use Rattle.wire.specs.Overlay.{overlay}
 use Rattle.wire.proofs.Once.{one_answer}
 use Rattle.index_file.specs.Files.{head_in}
-use Rattle.index_file.specs.declared.Head.{Head}
+use Rattle.index_file.specs.Head.{Head}
 use Rattle.index_look.specs.Look.{looked_up_lem}
-use Rattle.index_look.specs.declared.Looked.{Looked}
+use Rattle.index_look.specs.Looked.{Looked}
 use Rattle.host_index.specs.Told.{place_count}
 use Rattle.host_index_file.specs.Told.{head_code, head_numbers, HeadTold, looked_code, looked_numbers, LookTold}
-
--- an answer by its case
-pub tells : {X : Type 0} (code : X → ℕ) (numbers : X → List ℕ) (r x : X) → r ≡ x → (list list' : List ℕ) → list' ≡ overlay list 0 (numbers x) → (code x ≡ code r) × (list' ≡ overlay list 0 (numbers r))
-tells {X} code numbers r x e list list' l = (ap code (sym e), l ∙ ap (λ (o : X). overlay list 0 (numbers o)) (sym e))
 
 pub head-short : (f list : List ℕ) → length list < place_count → HeadTold f list 13 list
 head-short f list h = let t = lt-ltb (length list) place_count h in record { gave = rw t; left = rw t }

@@ -3,11 +3,11 @@ use Rattle.std.specs.Prelude.{◌≡◌, List, [], ◌∷◌, ℕ, ltb, length}
 use Rattle.wire.specs.Choice.{pick}
 use Rattle.wire.specs.Overlay.{overlay}
 use Rattle.index_file.specs.Files.{head_in}
-use Rattle.index_file.specs.declared.Head.{Head}
-use Rattle.index_file.specs.declared.Head.TheVariants as head
+use Rattle.index_file.specs.Head.{Head}
+use Rattle.index_file.specs.Head as head
 use Rattle.index_look.specs.Look.{looked_up_lem}
-use Rattle.index_look.specs.declared.Looked.{Looked}
-use Rattle.index_look.specs.declared.Looked.TheVariants as looked
+use Rattle.index_look.specs.Looked.{Looked}
+use Rattle.index_look.specs.Looked as looked
 use Rattle.host_index.specs.Told.{place_count}
 
 -- ---- the head of an index file: 0, and how many bytes it covers and how many rows it has; 13 where the list has no room

@@ -3,12 +3,23 @@
 
 ghost use Rattle.std.specs.Prelude.{◌≡◌};
 ghost use Rattle.wire.specs.Overlay.{overlay};
-ghost use Rattle.index_file.specs.Files.{ReadsRows};
+ghost use Rattle.index_file.specs.Files.{answer_told, ReadsRows};
+ghost use Rattle.index_file.specs.Head.{head_told};
+ghost use Rattle.index_look.specs.Looked.{looked_told};
 ghost use Rattle.index_writer.specs.Writes.{WritesFile};
 ghost use Rattle.host_index_file.specs.Told.{head_code, head_numbers, HeadTold, looked_code, looked_numbers, LookTold};
 
-use index_file::Head;
-use index_look::Looked;
+use refusals::Refusal;
+
+// 0, or the number of the refusal.
+fn told(answer: Result<(), Refusal>) -> u32
+    ensures { result ≡ answer_told answer }
+{
+    match answer {
+        Ok(()) => 0,
+        Err(refusal) => refusal.number(),
+    }
+}
 
 // The index file of so many rows of a lent list: 0, or 13.
 #[unsafe(no_mangle)]
@@ -20,20 +31,20 @@ pub extern "C" fn qm_index_file_write(
 ) -> u32
     ensures { WritesFile index.now rows covered file.old result file.new }
 {
-    index_writer::write_file(index, rows, covered, file)
+    told(index_writer::write_file(index, rows, covered, file))
 }
 
 // What the head of an index file tells, at the start of a lent list.
-fn tell_head(read: Head, head: &mut [u64]) -> u32
-    ensures { (result ≡ head_code read) × (head.new ≡ overlay head.old 0 (head_numbers read)) }
+fn tell_head(read: Result<(u64, usize), Refusal>, head: &mut [u64]) -> u32
+    ensures { (result ≡ head_code (head_told read)) × (head.new ≡ overlay head.old 0 (head_numbers (head_told read))) }
 {
     match read {
-        Head::Of(covered, rows) => {
+        Ok((covered, rows)) => {
             let numbers = [covered, rows as u64];
             words::put_words(head, 0, &numbers);
-            return 0;
+            0
         }
-        Head::Refused(number) => return number,
+        Err(refusal) => refusal.number(),
     }
 }
 
@@ -43,7 +54,7 @@ pub extern "C" fn qm_index_file_head(file: &[u8], head: &mut [u64]) -> u32
     ensures { HeadTold file.now head.old result head.new }
 {
     if head.len() < host_index::PLACE {
-        return 13;
+        return Refusal::NoRoom.number();
     }
     let read = index_file::read_head(file);
     tell_head(read, head)
@@ -54,25 +65,20 @@ pub extern "C" fn qm_index_file_head(file: &[u8], head: &mut [u64]) -> u32
 pub extern "C" fn qm_index_file_rows(file: &[u8], index: &mut [u64]) -> u32
     ensures { ReadsRows file.now index.old result index.new }
 {
-    index_file::read_rows(file, index)
+    told(index_file::read_rows(file, index))
 }
 
 // What a lookup tells, at the start of a lent list.
-fn tell_looked(looked: Looked, place: &mut [u64]) -> u32
-    ensures { (result ≡ looked_code looked) × (place.new ≡ overlay place.old 0 (looked_numbers looked)) }
+fn tell_looked(looked: Result<Option<u64>, Refusal>, place: &mut [u64]) -> u32
+    ensures { (result ≡ looked_code (looked_told looked)) × (place.new ≡ overlay place.old 0 (looked_numbers (looked_told looked))) }
 {
     match looked {
-        Looked::At(at) => {
-            let numbers = [1, at];
+        Ok(found) => {
+            let numbers = host_index::place_numbers(found);
             words::put_words(place, 0, &numbers);
-            return 0;
+            0
         }
-        Looked::Nowhere => {
-            let numbers = [0u64, 0];
-            words::put_words(place, 0, &numbers);
-            return 0;
-        }
-        Looked::Refused(number) => return number,
+        Err(refusal) => refusal.number(),
     }
 }
 
@@ -88,7 +94,7 @@ pub extern "C" fn qm_index_file_find(
     ensures { LookTold log.now file.now sender sequence place.old result place.new }
 {
     if place.len() < host_index::PLACE {
-        return 13;
+        return Refusal::NoRoom.number();
     }
     let looked = index_look::look_up(log, file, sender, words::as_word(sequence));
     tell_looked(looked, place)

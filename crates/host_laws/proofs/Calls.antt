@@ -3,11 +3,12 @@ use Rattle.wire.proofs.Basics.{◌∙◌, ◌≡◌, ap, refl, subst, ℕ, ◌�
 use Rattle.wire.specs.Choice.{pick}
 use Rattle.wire.proofs.Choices.{either}
 use Rattle.datagram.specs.Read.{sequence_in}
-use Rattle.steps.specs.declared.Answer.{Answer}
-use Rattle.steps.specs.declared.Answer.TheVariants.{Refused, Kept, Repeat, Delivered}
+use Rattle.steps.specs.Receive.{Answer}
+use Rattle.steps.specs.Receive.{Refused, Kept, Repeat, Delivered}
 use Rattle.steps.specs.Receive.{After, stay}
 use Rattle.steps.specs.Runs.{Arrival}
 use Rattle.steps.specs.Reach.{is_accepted}
+use Rattle.steps.specs.Answers.{answer_told}
 use Rattle.receiver_state.specs.View.{view, shaped}
 use Rattle.receiver.specs.Lent.{Lent}
 use Rattle.receiver.specs.Calls.{refusal_of, Follows, told}
@@ -68,7 +69,7 @@ module _ (l : Lent) (x : Arrival) (c : Returned) (l' : Lent) where
     pub code-heard : heard_told x.datagram l'.store c ≡ told x.datagram l'.store a.outcome
     code-heard = heard-is x l'.store _ a.outcome c a.room a.tells its_speech
 
-    pub code-accepted : accepted_told c ≡ is_accepted a.outcome.answer
+    pub code-accepted : accepted_told c ≡ is_accepted (answer_told a.outcome.answer)
     code-accepted = accepted-is x l'.store _ a.outcome c a.room a.tells its_speech
 
     pub code-hands : hands_told x c l'.store ≡ hands_over (view l.state l.names).slot_size_lem x a.outcome l'.store
@@ -81,9 +82,9 @@ not-zero c h e = absurd (let z : ⊥ = omega arith in z)
 
 module _ (l : Lent) (l' : Lent) where
   refused-stays : (limits : Limits) (x : Arrival) (c : Returned) → 1 ≤ c.answer → Heard (ReceivesWithin limits l x.sender x.datagram) (sequence_in x.datagram) c.told c.name c.answer l' → l' ≡ l
-  refused-stays limits x c h w = go w.outcome.answer refl
+  refused-stays limits x c h w = go (answer_told w.outcome.answer) refl
     where
-      go : (a : Answer) → w.outcome.answer ≡ a → l' ≡ l
+      go : (a : Answer) → answer_told w.outcome.answer ≡ a → l' ≡ l
       go (Refused n) e = w.receives.still n e
       go Kept e = not-zero c h (w.tells.gave ∙ ap answer_code e)
       go Repeat e = not-zero c h (w.tells.gave ∙ ap answer_code e)

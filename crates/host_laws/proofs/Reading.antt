@@ -8,13 +8,13 @@ use Rattle.datagram.specs.Limits.{max_name, max_fragments}
 use Rattle.datagram.specs.Read.{sequence_in}
 use Rattle.datagram.specs.Said.{said}
 use Rattle.steps.specs.declared.PayloadAt.TheVariants.{InDatagram, InStore}
-use Rattle.steps.specs.declared.Answer.{Answer}
-use Rattle.steps.specs.declared.Answer.TheVariants.{Refused, Kept, Repeat, Delivered}
+use Rattle.steps.specs.Receive.{Answer}
+use Rattle.steps.specs.Receive.{Refused, Kept, Repeat, Delivered}
 use Rattle.steps.specs.declared.Emptied.{Emptied}
 use Rattle.steps.specs.declared.Emptied.TheVariants.{Nobody, Was}
 use Rattle.steps.specs.Memory.{key_of}
 use Rattle.steps.specs.Receive.{sequence_of}
-use Rattle.steps.specs.Answers.{refused_by, reply, emptied_key}
+use Rattle.steps.specs.Answers.{answer_told, refused_by, reply, emptied_key}
 use Rattle.steps.specs.Runs.{Arrival, Heard, key_in}
 use Rattle.steps.specs.Reach.{is_accepted}
 use Rattle.receiver.specs.Calls.{told}
@@ -86,32 +86,32 @@ module _ (x : Arrival) (store : List ℕ) (C : ℕ) (o : Outcome) (c : Returned)
   abbrev q : ℕ
   q = sequence_in x.datagram
 
-  numbers-are : Plain o.answer → numbers c ≡ outcome_numbers q o
+  numbers-are : Plain (answer_told o.answer) → numbers c ≡ outcome_numbers q o
   numbers-are z =
-      ap (take outcome_count) (t.numbers ∙ plain-writes o.answer z c.told.before (overlay c.told.before 0 (outcome_numbers q o)))
-      ∙ first c.told.before (outcome_numbers q o) outcome_count (eight o.answer o.emptied q)
+      ap (take outcome_count) (t.numbers ∙ plain-writes (answer_told o.answer) z c.told.before (overlay c.told.before 0 (outcome_numbers q o)))
+      ∙ first c.told.before (outcome_numbers q o) outcome_count (eight (answer_told o.answer) o.emptied q)
       (ltb-false (length c.told.before) outcome_count (or_l (ltb (length c.told.before) outcome_count) (ltb (length c.name.before) max_name) room))
 
-  name-is : Plain o.answer → name_told c ≡ name_in o.name
+  name-is : Plain (answer_told o.answer) → name_told c ≡ name_in o.name
   name-is z =
-      ap name_in (ap (take max_name) (t.bytes ∙ plain-writes o.answer z c.name.before (overlay c.name.before 0 o.name))
+      ap name_in (ap (take max_name) (t.bytes ∙ plain-writes (answer_told o.answer) z c.name.before (overlay c.name.before 0 o.name))
       ∙ first c.name.before o.name max_name s.long
       (ltb-false (length c.name.before) max_name (or_r (ltb (length c.told.before) outcome_count) (ltb (length c.name.before) max_name) room)))
 
-  plain-heard : Plain o.answer → heard_told d store c ≡ told d store o
+  plain-heard : Plain (answer_told o.answer) → heard_told d store c ≡ told d store o
   plain-heard z =
-      let e : c.answer ≡ 0 = t.gave ∙ plain_code o.answer z in
-      let b : Back d store q o.answer o.emptied = back d store q o.answer o.emptied z in
+      let e : c.answer ≡ 0 = t.gave ∙ plain_code (answer_told o.answer) z in
+      let b : Back d store q (answer_told o.answer) o.emptied = back d store q (answer_told o.answer) o.emptied z in
       (λ i. pick (eqb (e i) 0) (record { answer = outcome_told d store (numbers-are z i); emptied = emptied_told (numbers-are z i) }) (record { answer = refused_by c.answer; emptied = emptied_key Nobody }))
       ∙ (λ i. record { answer = b.outcome i; emptied = b.emptied i })
 
-  not-zero : (n : ℕ) → o.answer ≡ Refused n → eqb c.answer 0 ≡ false
+  not-zero : (n : ℕ) → answer_told o.answer ≡ Refused n → eqb c.answer 0 ≡ false
   not-zero n e =
       let a : c.answer ≡ n = t.gave ∙ ap answer_code e in
       let h : 1 ≤ n = s.numbered n e in
       ne_eqb c.answer 0 (λ z. omega arith)
 
-  refused-heard : (n : ℕ) → o.answer ≡ Refused n → heard_told d store c ≡ told d store o
+  refused-heard : (n : ℕ) → answer_told o.answer ≡ Refused n → heard_told d store c ≡ told d store o
   refused-heard n e =
       let a : c.answer ≡ n = t.gave ∙ ap answer_code e in
       ap (λ (b : Bool). pick b (record { answer = outcome_told d store (numbers c); emptied = emptied_told (numbers c) }) (record { answer = refused_by c.answer; emptied = emptied_key Nobody })) (not-zero n e)
@@ -119,22 +119,22 @@ module _ (x : Arrival) (store : List ℕ) (C : ℕ) (o : Outcome) (c : Returned)
 
   -- THE ANSWER AND THE EMPTIED KEY
   pub heard-is : heard_told d store c ≡ told d store o
-  heard-is = go o.answer refl
+  heard-is = go (answer_told o.answer) refl
     where
-      go : (a : Answer) → o.answer ≡ a → heard_told d store c ≡ told d store o
+      go : (a : Answer) → answer_told o.answer ≡ a → heard_told d store c ≡ told d store o
       go (Refused n) e = refused-heard n e
       go Kept e = plain-heard (subst Plain (sym e) tt)
       go Repeat e = plain-heard (subst Plain (sym e) tt)
       go (Delivered p n) e = plain-heard (subst Plain (sym e) tt)
 
   -- WHETHER IT IS ACCEPTED
-  pub accepted-is : accepted_told c ≡ is_accepted o.answer
-  accepted-is = go o.answer refl
+  pub accepted-is : accepted_told c ≡ is_accepted (answer_told o.answer)
+  accepted-is = go (answer_told o.answer) refl
     where
-      by : Plain o.answer → accepted_told c ≡ is_accepted o.answer
-      by z = (λ i. eqb ((t.gave ∙ plain_code o.answer z) i) 0 && accepted_in (numbers-are z i)) ∙ (back d store q o.answer o.emptied z).accepted
+      by : Plain (answer_told o.answer) → accepted_told c ≡ is_accepted (answer_told o.answer)
+      by z = (λ i. eqb ((t.gave ∙ plain_code (answer_told o.answer) z) i) 0 && accepted_in (numbers-are z i)) ∙ (back d store q (answer_told o.answer) o.emptied z).accepted
 
-      go : (a : Answer) → o.answer ≡ a → accepted_told c ≡ is_accepted o.answer
+      go : (a : Answer) → answer_told o.answer ≡ a → accepted_told c ≡ is_accepted (answer_told o.answer)
       go (Refused n) e = ap (λ (b : Bool). b && accepted_in (numbers c)) (not-zero n e) ∙ sym (ap is_accepted e)
       go Kept e = by (subst Plain (sym e) tt)
       go Repeat e = by (subst Plain (sym e) tt)
@@ -142,15 +142,15 @@ module _ (x : Arrival) (store : List ℕ) (C : ℕ) (o : Outcome) (c : Returned)
 
   -- WHAT IS HANDED OVER, with its key and its name
   pub hands-are : hands_told x c store ≡ hands_over C x o store
-  hands-are = ap (λ (h : Heard). handed_by (key_of x.sender (get_or (numbers c) 7 0)) (name_told c) h.answer) heard-is ∙ go o.answer refl
+  hands-are = ap (λ (h : Heard). handed_by (key_of x.sender (get_or (numbers c) 7 0)) (name_told c) h.answer) heard-is ∙ go (answer_told o.answer) refl
     where
-      go : (a : Answer) → o.answer ≡ a
-          → handed_by (key_of x.sender (get_or (numbers c) 7 0)) (name_told c) (reply d store o.answer) ≡ handed_by (key_in C x) (name_in o.name) (reply d store o.answer)
+      go : (a : Answer) → answer_told o.answer ≡ a
+          → handed_by (key_of x.sender (get_or (numbers c) 7 0)) (name_told c) (reply d store (answer_told o.answer)) ≡ handed_by (key_in C x) (name_in o.name) (reply d store (answer_told o.answer))
       go (Refused n) e = rw e refl
       go Kept e = rw e refl
       go Repeat e = rw e refl
       go (Delivered p n) e =
-          let z : Plain o.answer = subst Plain (sym e) tt in
+          let z : Plain (answer_told o.answer) = subst Plain (sym e) tt in
           let k : get_or (numbers c) 7 0 ≡ sequence_of (said C max_fragments d) =
-          ap (λ (y : List ℕ). get_or y 7 0) (numbers-are z) ∙ ((back d store q o.answer o.emptied z).sequence ∙ sym (s.sequence p n e)) in
-          λ i. handed_by (key_of x.sender (k i)) (name-is z i) (reply d store o.answer)
+          ap (λ (y : List ℕ). get_or y 7 0) (numbers-are z) ∙ ((back d store q (answer_told o.answer) o.emptied z).sequence ∙ sym (s.sequence p n e)) in
+          λ i. handed_by (key_of x.sender (k i)) (name-is z i) (reply d store (answer_told o.answer))

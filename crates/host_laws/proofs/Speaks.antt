@@ -10,11 +10,11 @@ use Rattle.datagram.specs.Limits.{max_name, max_fragments}
 use Rattle.datagram.specs.Read.{sequence_in, read_datagram_lem, part_of}
 use Rattle.datagram.specs.Said.{Fragment, small, fragment, fragment_in, says, said}
 use Rattle.datagram.specs.declared.Header.{Header}
-use Rattle.datagram.specs.declared.Read.{Read}
-use Rattle.datagram.specs.declared.Read.TheVariants as read
+use Rattle.datagram.specs.Read.{Read}
+use Rattle.datagram.specs.Read as read
 use Rattle.datagram.proofs.Saids.{fragment-formed, small-read}
 use Rattle.steps.specs.declared.PayloadAt.{PayloadAt}
-use Rattle.steps.specs.declared.Answer.TheVariants.{Refused, Delivered}
+use Rattle.steps.specs.Receive.{Refused, Delivered}
 use Rattle.steps.specs.declared.Emptied.{Emptied}
 use Rattle.steps.specs.declared.Emptied.TheVariants.{Nobody}
 use Rattle.steps.specs.Limits.{slot_count}
@@ -22,7 +22,7 @@ use Rattle.steps.specs.declared.Key.{Key}
 use Rattle.steps.specs.Memory.{key_of}
 use Rattle.steps.specs.Slots.{Slot, slot_at, no_name_lem, padded, filled, all_held_lem, opening, oldest, release, Seat, seat}
 use Rattle.steps.specs.Receive.{Machine, After, stay, step, step5, receive, sequence_of, sound}
-use Rattle.steps.specs.Answers.{emptied_key}
+use Rattle.steps.specs.Answers.{answer_told, emptied_key}
 use Rattle.steps.proofs.Branches.{Course, unmoved, given, joined, begun, course, step-sound, step-unsound, receive-refused, step5-delivered, step5-kept, refused-stays}
 use Rattle.steps.proofs.Numbers.{refusal-number}
 use Rattle.steps.proofs.Ranks.{oldest-inside}
@@ -37,10 +37,10 @@ use Rattle.receiver_laws.proofs.Once.{shape_of}
 use Rattle.index_look.proofs.Leads.{Says, says_all}
 
 pub record Speaks (C : ℕ) (d : List ℕ) (o : Outcome) : Type 0 where
-  pub numbered : (n : ℕ) → o.answer ≡ Refused n → 1 ≤ n
-  pub empties-none : (n : ℕ) → o.answer ≡ Refused n → emptied_key o.emptied ≡ none
+  pub numbered : (n : ℕ) → answer_told o.answer ≡ Refused n → 1 ≤ n
+  pub empties-none : (n : ℕ) → answer_told o.answer ≡ Refused n → emptied_key o.emptied ≡ none
   pub long : length o.name ≡ max_name
-  pub sequence : (p : PayloadAt) (n : ℕ) → o.answer ≡ Delivered p n → sequence_of (said C max_fragments d) ≡ sequence_in d
+  pub sequence : (p : PayloadAt) (n : ℕ) → answer_told o.answer ≡ Delivered p n → sequence_of (said C max_fragments d) ≡ sequence_in d
 
 -- the same of a step
 record Spoken (C : ℕ) (d : List ℕ) (a : After) : Type 0 where

@@ -5,8 +5,8 @@ use Rattle.wire.specs.Choice.{pick}
 use Rattle.datagram.specs.Limits.{max_payload, max_fragments}
 use Rattle.datagram.specs.Read.{read_datagram_lem}
 use Rattle.datagram.specs.Said.{refused, says, said}
-use Rattle.datagram.specs.declared.Read.{Read}
-use Rattle.datagram.specs.declared.Read.TheVariants as read
+use Rattle.datagram.specs.Read.{Read}
+use Rattle.datagram.specs.Read as read
 use Rattle.receiver.specs.Lent.{Lent}
 use Rattle.flight_log.specs.declared.reader.Limits.{Limits}
 use Rattle.within_limits.proofs.Admits.{Admitted}

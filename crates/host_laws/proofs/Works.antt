@@ -9,7 +9,9 @@ use Rattle.datagram.specs.Read.{read_small_lem, good_form, formed, read_fragment
 use Rattle.datagram.specs.Said.{said}
 use Rattle.cutter.specs.Trip.{joined}
 use Rattle.steps.specs.declared.PayloadAt.TheVariants.{InStore}
-use Rattle.steps.specs.declared.Answer.TheVariants.{Refused, Kept, Delivered}
+use Rattle.steps.specs.declared.Answer.TheVariants as given
+use Rattle.refusals.specs.declared.Refusal.TheVariants.{PayloadTooLarge}
+use Rattle.steps.specs.Receive.{Refused, Kept, Delivered}
 use Rattle.steps.specs.declared.Emptied.TheVariants.{Nobody}
 use Rattle.steps.specs.Held.{none_held, is_held, hold}
 use Rattle.steps.specs.Memory.{since, empty_memory, is_remembered_lem, remember, place_for_lem, with_key, forget_keys, memory_ok}
@@ -19,7 +21,7 @@ use Rattle.steps.specs.Worked.{A-of, B-of}
 use Rattle.receiver_state.specs.View.{slots_of}
 use Rattle.memory.specs.Words.{memory_in}
 use Rattle.receiver.specs.Calls.{received, forgotten}
-use Rattle.receiver.specs.declared.Call.TheVariants as call
+use Rattle.std.proofs.Common.{Ok}
 use Rattle.within_limits.specs.Within.{step_within, received_within}
 use Rattle.arrival.specs.ArrivalCalls.{LetThrough}
 use Rattle.arrival.specs.Demand.{part, arrival, done, unfinished, completes, completed, Supposed, own}
@@ -50,7 +52,7 @@ supposed = tested abc_scene abc_feed meets
 opened-told : OpenTold any_words any_names 32 0 open_words no_names
 unfolding opened slots_of memory_in empty_memory none_held
 opened-told = record {
-  call = call.Done;
+  call = Ok tt;
   opens = record { gave = refl; machine = refl; words = refl; bytes = refl; still = λ k e. absurd (some-ne-none k (sym e)) };
   gave = refl;
 }
@@ -65,7 +67,7 @@ delivered-not k e = let z : ◌≡◌ {A = ℕ} 0 1 = cc in omega arith
 B-call : HostReceives open_lent (arrival abc_scene (part 0 1)) B_returns with_b
 unfolding received step sound receive decide act step5 seat opening open_count_lem filled is_remembered_lem memory_ok is_held hold none_held said read_datagram_lem read_fragment_lem formed good_form
     be overlay slots_of memory_in B-of
-B-call = heard-told _ _ _ B_returns.told B_returns.name (record { answer = Kept; emptied = Nobody; name = no_name_lem }) 0 with_b refl
+B-call = heard-told _ _ _ B_returns.told B_returns.name (record { answer = given.Kept; emptied = Nobody; name = no_name_lem }) 0 with_b refl
     (record {
       leaves = record { answer = refl; emptied = refl; name = refl; machine = refl; store = refl; ledger = refl };
       tells = refl;
@@ -76,11 +78,11 @@ B-call = heard-told _ _ _ B_returns.told B_returns.name (record { answer = Kept;
     (record { gave = refl; numbers = refl; bytes = refl })
 
 A-first : HostReceives with_b A A-lacks with_b
-A-first = short-told _ _ _ (replicate 7 8) (replicate 64 8) refl
+A-first = short-told _ _ _ (replicate 7 8) (replicate 64 8) 13 refl refl
 
 A-second : HostReceivesWithin narrow with_b A A-refused with_b
 unfolding received_within step_within sound receive decide act stay memory_ok read_datagram_lem read_fragment_lem be slots_of memory_in A-of
-A-second = heard-told _ _ _ A-refused.told A-refused.name (record { answer = Refused 6; emptied = Nobody; name = no_name_lem }) 6 with_b refl
+A-second = heard-told _ _ _ A-refused.told A-refused.name (record { answer = given.Refused PayloadTooLarge; emptied = Nobody; name = no_name_lem }) 6 with_b refl
     (record {
       leaves = record { answer = refl; emptied = refl; name = refl; machine = refl; store = refl; ledger = refl };
       tells = refl;
@@ -97,7 +99,7 @@ A-through = refl
 A-call : HostReceivesWithin wide with_b A A_returns with_all
 unfolding received_within step_within sound receive decide act step3 step5 agrees release lower filled is_remembered_lem remember place_for_lem with_key memory_ok is_held hold none_held
     read_datagram_lem read_fragment_lem formed good_form name_length_lem good_name_lem until_zero_lem be overlay slots_of memory_in A-of
-A-call = heard-told _ _ _ A_returns.told A_returns.name (record { answer = Delivered (InStore 0) 3; emptied = Nobody; name = padded (0x50 ∷ []) }) 0 with_all refl
+A-call = heard-told _ _ _ A_returns.told A_returns.name (record { answer = given.Delivered (InStore 0) 3; emptied = Nobody; name = padded (0x50 ∷ []) }) 0 with_all refl
     (record {
       leaves = record { answer = refl; emptied = refl; name = refl; machine = refl; store = refl; ledger = refl };
       tells = refl;
@@ -129,7 +131,7 @@ abc-told = refl
 nine-forgotten : ForgetTold with_b.state with_b.names 9 0 with_b.state with_b.names
 unfolding forgotten forget memory_ok forget_keys release_of slots_of memory_in
 nine-forgotten = record {
-  call = call.Done;
+  call = Ok tt;
   forgets = record { gave = refl; machine = refl; words = refl; bytes = refl; still = λ k e. absurd (some-ne-none k (sym e)) };
   gave = refl;
 }

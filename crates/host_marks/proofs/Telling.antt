@@ -4,14 +4,13 @@ use Rattle.wire.specs.Overlay.{overlay}
 use Rattle.wire.specs.Slices.{◌⇒◌}
 use Rattle.wire.proofs.Overlays.{overlay-nil, overlay-one}
 use Rattle.wire.proofs.Choices.{either, never}
-use Rattle.lmcp.specs.declared.Found.{Found}
-use Rattle.lmcp.specs.declared.Found.TheVariants as found
+use Rattle.lmcp.specs.Found.{Found}
+use Rattle.lmcp.specs.Found as found
 use Rattle.lmcp.specs.Message.{ReadTo}
 use Rattle.lmcp.specs.Lists.{read_list}
 use Rattle.lmcp.proofs.Once.{read-once}
-use Rattle.mark_rows.specs.declared.Rows.{Rows}
-use Rattle.mark_rows.specs.declared.Rows.TheVariants as rows
-use Rattle.mark_rows.specs.Rows.{GivesRows}
+use Rattle.mark_rows.specs.Rows as rows
+use Rattle.mark_rows.specs.Rows.{Rows, GivesRows}
 use Rattle.mark_rows.proofs.Once.{rows-once}
 use Rattle.host_marks.specs.Told.{message_code, message_numbers, MessageTold, marks_code, marks_numbers, MarksTold}
 

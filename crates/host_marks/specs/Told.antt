@@ -2,13 +2,12 @@
 use Rattle.std.specs.Prelude.{◌≡◌, true, false, List, [], ◌∷◌, ℕ, ℤ}
 use Rattle.wire.specs.Overlay.{overlay}
 use Rattle.wire.specs.Slices.{Buffer, short}
-use Rattle.lmcp.specs.declared.Found.{Found}
-use Rattle.lmcp.specs.declared.Found.TheVariants as found
+use Rattle.lmcp.specs.Found.{Found}
+use Rattle.lmcp.specs.Found as found
 use Rattle.lmcp.specs.Message.{ReadTo}
 use Rattle.lmcp.specs.Lists.{read_list}
-use Rattle.mark_rows.specs.declared.Rows.{Rows}
-use Rattle.mark_rows.specs.declared.Rows.TheVariants as rows
-use Rattle.mark_rows.specs.Rows.{GivesRows}
+use Rattle.mark_rows.specs.Rows as rows
+use Rattle.mark_rows.specs.Rows.{Rows, GivesRows}
 
 -- 13, and what was lent beside the numbers that tell stays
 pub record Unread (list list' : List ℤ) (told : Buffer) (answer : ℕ) : Type 0 where

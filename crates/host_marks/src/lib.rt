@@ -4,9 +4,6 @@
 ghost use Rattle.wire.specs.Slices.{buffer};
 ghost use Rattle.host_marks.specs.Told.{MessageTold, MarksTold};
 
-use lmcp::Found;
-use mark_rows::Rows;
-
 // How many numbers tell of a list's marks.
 pub const MARKS: usize = 3;
 
@@ -18,13 +15,12 @@ pub extern "C" fn qm_read_message(message: &[u8], numbers: &mut [i64], told: &mu
     if told.len() < 1 {
         return 13;
     }
-    let found = lmcp_reader::read_message(message, numbers);
-    match found {
-        Found::Numbers(n) => {
+    match lmcp_reader::read_message(message, numbers) {
+        Ok(n) => {
             words::put_word(told, 0, n as u64);
             0
         }
-        Found::Refused(e) => e,
+        Err(refusal) => refusal.number(),
     }
 }
 
@@ -37,18 +33,17 @@ pub extern "C" fn qm_marks(numbers: &[i64], rows: &mut [i64], told: &mut [u64]) 
     if told.len() < MARKS {
         return 13;
     }
-    let given = mark_rows::marks_of(numbers, rows);
-    match given {
-        Rows::Of(tile, n) => {
-            let said = [1, tile, n as u64];
+    match mark_rows::marks_of(numbers, rows) {
+        Ok(Some(marks)) => {
+            let said = [1, marks.tile, marks.rows as u64];
             words::put_words(told, 0, &said);
             0
         }
-        Rows::Other => {
+        Ok(None) => {
             let said = [0u64; MARKS];
             words::put_words(told, 0, &said);
             0
         }
-        Rows::Refused(e) => e,
+        Err(refusal) => refusal.number(),
     }
 }

@@ -2,7 +2,7 @@
 use Rattle.wire.proofs.Basics.{◌∙◌, sym, ◌≡◌, ap, ℕ, ◌≤◌, ◌<◌, List, length, ℤ, le-ltb, lt-ltb}
 use Rattle.wire.specs.Slices.{◌⇒◌}
 use Rattle.wire.proofs.Once.{one_answer}
-use Rattle.lmcp.specs.declared.Made.{Made}
+use Rattle.lmcp.specs.Made.{Made}
 use Rattle.lmcp.specs.Message.{made, WrittenTo}
 use Rattle.host_messages.specs.Told.{message_of, made_code, made_left, MessageTold}
 

@@ -2,8 +2,7 @@
 use Rattle.std.specs.Prelude.{◌≡◌, List, ℕ, ltb, ℤ, length, set}
 use Rattle.wire.specs.Choice.{pick}
 use Rattle.wire.specs.Slices.{Buffer, short}
-use Rattle.lmcp.specs.declared.Made.{Made}
-use Rattle.lmcp.specs.declared.Made.TheVariants.{Bytes, Refused}
+use Rattle.lmcp.specs.Made.{Made, Bytes, Refused}
 use Rattle.lmcp.specs.Write.{Write}
 use Rattle.lmcp.specs.Message.{made, written}
 use Rattle.lmcp.specs.Lists.{write_list}

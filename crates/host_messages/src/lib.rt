@@ -4,8 +4,6 @@
 ghost use Rattle.wire.specs.Slices.{buffer};
 ghost use Rattle.host_messages.specs.Told.{MessageTold};
 
-use lmcp::Made;
-
 // Writes the message of numbers to the start of an output, with its checksum where sum is not 0: 0, and how many bytes it has at the start of told; or the number of
 // the refusal, and then nothing is written.
 #[unsafe(no_mangle)]
@@ -20,12 +18,11 @@ pub extern "C" fn qm_write_message(
     if told.len() < 1 {
         return 13;
     }
-    let made = lmcp_writer::write_message(numbers, 0 < sum, out);
-    match made {
-        Made::Bytes(n) => {
+    match lmcp_writer::write_message(numbers, 0 < sum, out) {
+        Ok(n) => {
             words::put_word(told, 0, n as u64);
             0
         }
-        Made::Refused(e) => e,
+        Err(refusal) => refusal.number(),
     }
 }

@@ -4,9 +4,8 @@ use Rattle.wire.specs.Overlay.{overlay}
 use Rattle.wire.specs.Slices.{◌⇒◌}
 use Rattle.wire.proofs.Overlays.{overlay-nil, overlay-one}
 use Rattle.wire.proofs.Choices.{either, never}
-use Rattle.tile_pits.specs.declared.Pits.{Pits}
-use Rattle.tile_pits.specs.declared.Pits.TheVariants as given
-use Rattle.tile_pits.specs.Pits.{Map, GivesPits}
+use Rattle.tile_pits.specs.Pits as given
+use Rattle.tile_pits.specs.Pits.{Pits, Map, GivesPits}
 use Rattle.tile_pits.proofs.Once.{pits-once}
 use Rattle.host_pits.specs.Told.{pits_code, pits_numbers, PitsTold}
 

@@ -2,9 +2,8 @@
 use Rattle.std.specs.Prelude.{◌≡◌, true, false, List, [], ◌∷◌, ℕ}
 use Rattle.wire.specs.Overlay.{overlay}
 use Rattle.wire.specs.Slices.{Buffer, short}
-use Rattle.tile_pits.specs.declared.Pits.{Pits}
-use Rattle.tile_pits.specs.declared.Pits.TheVariants as given
-use Rattle.tile_pits.specs.Pits.{Map, GivesPits}
+use Rattle.tile_pits.specs.Pits as given
+use Rattle.tile_pits.specs.Pits.{Pits, Map, GivesPits}
 
 abbrev pub pits_code : Pits → ℕ
 pits_code (given.Many n) = 0

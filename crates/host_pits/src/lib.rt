@@ -9,7 +9,6 @@ ghost use Rattle.host_pits.specs.Lines.{LinesTold};
 ghost use Rattle.host_pits.specs.Told.{PitsTold};
 
 use pit_marks::Sizes;
-use tile_pits::Pits;
 
 // Whether one of three outputs has less room than for n numbers.
 fn no_room(tile: &[u64], pit: &[u64], certain: &[u64], n: usize) -> bool
@@ -70,10 +69,10 @@ pub extern "C" fn qm_pits(
     }
     let given = tile_pits::pits_from(tile, pits, had_pits, sure, had_sure, number, certain);
     match given {
-        Pits::Many(n) => {
+        Ok(n) => {
             words::put_word(told, 0, n as u64);
             0
         }
-        Pits::Refused(e) => e,
+        Err(e) => e.number(),
     }
 }

@@ -13,6 +13,7 @@ use Rattle.within_limits.proofs.Once.{within-once}
 use Rattle.wire.specs.Slices.{◌⇒◌}
 use Rattle.host_receiver.specs.Outcomes.{outcome_numbers, answer_code, unless_refused}
 use Rattle.host_receiver.specs.Calls.{lacking, Untouched, Heard, Told, ReceiveTold, WithinTold}
+use Rattle.steps.specs.Answers.{answer_told}
 
 pub record Alone (x y : ℕ) (l1 l2 : Lent) (t1 t2 m1 m2 : List ℕ) : Type 0 where
   pub answer : x ≡ y
@@ -37,10 +38,10 @@ module _ (l : Lent) (told name : List ℕ) (x y : ℕ) (l1 l2 : Lent) (t1 t2 m1 
         let p = A.tells in
         let q = B.tells in
         record {
-          answer = p.gave ∙ ap (λ (o : Outcome). answer_code o.answer) e.outcome ∙ sym q.gave;
+          answer = p.gave ∙ ap (λ (o : Outcome). answer_code (answer_told o.answer)) e.outcome ∙ sym q.gave;
           lent = e.lent;
-          list = p.numbers ∙ ap (λ (o : Outcome). unless_refused o.answer told (overlay told 0 (outcome_numbers sequence o))) e.outcome ∙ sym q.numbers;
-          given = p.bytes ∙ ap (λ (o : Outcome). unless_refused o.answer name (overlay name 0 o.name)) e.outcome ∙ sym q.bytes;
+          list = p.numbers ∙ ap (λ (o : Outcome). unless_refused (answer_told o.answer) told (overlay told 0 (outcome_numbers sequence o))) e.outcome ∙ sym q.numbers;
+          given = p.bytes ∙ ap (λ (o : Outcome). unless_refused (answer_told o.answer) name (overlay name 0 o.name)) e.outcome ∙ sym q.bytes;
         }
 
     told-once : Told call sequence l (told ⇒ t1) (name ⇒ m1) x l1 → Told call sequence l (told ⇒ t2) (name ⇒ m2) y l2 → Alone x y l1 l2 t1 t2 m1 m2

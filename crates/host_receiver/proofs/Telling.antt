@@ -20,9 +20,9 @@ has-numbers told name h = rw (le-ltb (length told) outcome_count h)
 -- ---- what is told then
 
 module _ (call : Outcome → Lent → Type 0) (sequence : ℕ) (l : Lent) where
-  pub short-told : (told name : List ℕ) → lacking told name ≡ true → Told call sequence l (told ⇒ told) (name ⇒ name) 13 l
-  short-told told name t = record {
-    short = λ _. record { gave = refl; stays = refl; list = refl; given = refl };
+  pub short-told : (told name : List ℕ) (answer : ℕ) → answer ≡ 13 → lacking told name ≡ true → Told call sequence l (told ⇒ told) (name ⇒ name) answer l
+  short-told told name answer e t = record {
+    short = λ _. record { gave = e; stays = refl; list = refl; given = refl };
     heard = λ f. never t f;
   }
 

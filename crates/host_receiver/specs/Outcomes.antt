@@ -3,10 +3,11 @@ use Rattle.std.specs.Prelude.{◌≡◌, List, [], ◌∷◌, ◌++◌, ℕ}
 use Rattle.wire.specs.Overlay.{overlay}
 use Rattle.steps.specs.declared.PayloadAt.{PayloadAt}
 use Rattle.steps.specs.declared.PayloadAt.TheVariants.{InDatagram, InStore}
-use Rattle.steps.specs.declared.Answer.{Answer}
-use Rattle.steps.specs.declared.Answer.TheVariants.{Refused, Kept, Repeat, Delivered}
+use Rattle.steps.specs.Receive.{Answer}
+use Rattle.steps.specs.Receive.{Refused, Kept, Repeat, Delivered}
 use Rattle.steps.specs.declared.Emptied.{Emptied}
 use Rattle.steps.specs.declared.Emptied.TheVariants.{Nobody, Was}
+use Rattle.steps.specs.Answers.{answer_told}
 use Rattle.receiver.specs.declared.Outcome.{Outcome}
 use Rattle.wire.specs.Slices.{Buffer}
 
@@ -32,7 +33,7 @@ abbrev pub later_numbers_lem : Emptied → ℕ → List ℕ
 later_numbers_lem e sequence = emptied_numbers e ++ sequence ∷ []
 
 abbrev pub outcome_numbers : ℕ → Outcome → List ℕ
-outcome_numbers sequence o = answer_numbers_lem o.answer ++ later_numbers_lem o.emptied sequence
+outcome_numbers sequence o = answer_numbers_lem (answer_told o.answer) ++ later_numbers_lem o.emptied sequence
 
 -- the number of a refusal, or 0
 abbrev pub answer_code : Answer → ℕ
@@ -50,6 +51,6 @@ unless_refused (Delivered place len) lent new = new
 
 -- as the answer has it, to a datagram with that sequence
 pub record Tells (sequence : ℕ) (o : Outcome) (told name : Buffer) (answer : ℕ) : Type 0 where
-  pub gave : answer ≡ answer_code o.answer
-  pub numbers : told.after ≡ unless_refused o.answer told.before (overlay told.before 0 (outcome_numbers sequence o))
-  pub bytes : name.after ≡ unless_refused o.answer name.before (overlay name.before 0 o.name)
+  pub gave : answer ≡ answer_code (answer_told o.answer)
+  pub numbers : told.after ≡ unless_refused (answer_told o.answer) told.before (overlay told.before 0 (outcome_numbers sequence o))
+  pub bytes : name.after ≡ unless_refused (answer_told o.answer) name.before (overlay name.before 0 o.name)

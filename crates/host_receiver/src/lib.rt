@@ -2,6 +2,7 @@
 #![tactic(auto)]
 
 ghost use Rattle.std.specs.Prelude.{◌≡◌};
+ghost use Rattle.steps.specs.Answers.{answer_told};
 ghost use Rattle.receiver.specs.Lent.{lent_before, lent_after};
 ghost use Rattle.wire.specs.Slices.{buffer};
 ghost use Rattle.datagram.specs.Read.{sequence_in};
@@ -11,6 +12,7 @@ ghost use Rattle.host_receiver.specs.Calls.{lacking, ReceiveTold, WithinTold};
 
 use flight_log::Limits;
 use receiver::Outcome;
+use refusals::Refusal;
 use steps::{Answer, Emptied, PayloadAt};
 
 // A delivered message: where its payload is, and how long.
@@ -24,7 +26,7 @@ fn place_numbers(place: PayloadAt, len: usize) -> [u64; host_state::ANSWERED]
 }
 
 fn answer_numbers(answer: Answer) -> [u64; host_state::ANSWERED]
-    ensures { result ≡ answer_numbers_lem answer }
+    ensures { result ≡ answer_numbers_lem (answer_told answer) }
 {
     match answer {
         Answer::Refused(_) => [0, 0, 0, 0],
@@ -65,7 +67,7 @@ fn tell(told: &mut [u64], name: &mut [u8], datagram: &[u8], outcome: Outcome) ->
 {
     let answer = outcome.answer;
     match answer {
-        Answer::Refused(n) => n,
+        Answer::Refused(refusal) => refusal.number(),
         Answer::Kept => put_outcome(told, name, datagram, outcome),
         Answer::Repeat => put_outcome(told, name, datagram, outcome),
         Answer::Delivered(_, _) => put_outcome(told, name, datagram, outcome),
@@ -97,7 +99,7 @@ pub extern "C" fn qm_receive(
     ensures { ReceiveTold (lent_before state names store ledger) sender datagram.now (buffer told) (buffer name) result (lent_after state names store ledger) }
 {
     if no_room(&*told, &*name) {
-        return 13;
+        return Refusal::NoRoom.number();
     }
     let outcome = receiver::receive(state, names, store, ledger, sender, datagram);
     tell(told, name, datagram, outcome)
@@ -121,7 +123,7 @@ pub extern "C" fn qm_receive_within(
         (buffer told) (buffer name) result (lent_after state names store ledger) }
 {
     if no_room(&*told, &*name) {
-        return 13;
+        return Refusal::NoRoom.number();
     }
     let limits = Limits { payload, fragments };
     let outcome = within_limits::receive_within(

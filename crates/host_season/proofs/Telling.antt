@@ -5,9 +5,8 @@ use Rattle.wire.specs.Slices.{◌⇒◌}
 use Rattle.wire.proofs.Overlays.{overlay-next}
 use Rattle.wire.proofs.Choices.{either, never}
 use Rattle.pit_marks.specs.declared.Sizes.{Sizes}
-use Rattle.stretch.specs.declared.Stretch.{Stretch}
-use Rattle.stretch.specs.declared.Stop.{Stop}
-use Rattle.stretch.specs.declared.Stop.TheVariants.{Taken, End, Broken, Refused}
+use Rattle.stretch.specs.Stop.{Stretch}
+use Rattle.stretch.specs.Stop.{Stop, Taken, End, Broken, Refused}
 use Rattle.stretch.specs.Stretch.{Desk, kit_of, CountsOn}
 use Rattle.stretch.proofs.Once.{count-on-once}
 use Rattle.host_season.specs.Numbers.{stretch_length, stop_numbers_lem, stretch_numbers}

@@ -1,8 +1,7 @@
 -- A stretch as the C host is told it: a run of numbers, in the order of the header. Definitions only.
 use Rattle.std.specs.Prelude.{List, [], ◌∷◌, ◌++◌, ℕ}
-use Rattle.stretch.specs.declared.Stop.{Stop}
-use Rattle.stretch.specs.declared.Stop.TheVariants.{Taken, End, Broken, Refused}
-use Rattle.stretch.specs.declared.Stretch.{Stretch}
+use Rattle.stretch.specs.Stop.{Stop, Taken, End, Broken, Refused}
+use Rattle.stretch.specs.Stop.{Stretch}
 
 -- why and where it stopped, entries and the answers, ten refusals, and three sizes
 abbrev pub stretch_length : ℕ

@@ -3,7 +3,7 @@ use Rattle.std.specs.Prelude.{◌≡◌, true, false, List, ℕ}
 use Rattle.wire.specs.Overlay.{overlay}
 use Rattle.wire.specs.Slices.{Buffer, short}
 use Rattle.pit_marks.specs.declared.Sizes.{Sizes}
-use Rattle.stretch.specs.declared.Stretch.{Stretch}
+use Rattle.stretch.specs.Stop.{Stretch}
 use Rattle.stretch.specs.Stretch.{Desk, CountsOn}
 use Rattle.host_season.specs.Numbers.{stretch_length, stretch_numbers}
 

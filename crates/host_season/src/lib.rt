@@ -7,10 +7,11 @@ ghost use Rattle.wire.specs.Slices.{buffer};
 ghost use Rattle.receiver.specs.Lent.{lent_before, lent_after};
 ghost use Rattle.pit_payloads.specs.Looks.{book_before, book_after};
 ghost use Rattle.stretch.specs.Stretch.{desk};
+ghost use Rattle.stretch.specs.Told.{stop_told, stretch_told};
 ghost use Rattle.host_season.specs.Numbers.{stop_numbers_lem, stretch_numbers};
 ghost use Rattle.host_season.specs.Told.{StretchTold};
 
-use pit_marks::Sizes;
+use pit_marks::{PitSets, Sizes};
 use stretch::{Stop, Stretch};
 
 // How many numbers tell of a stretch, and where each group begins.
@@ -24,19 +25,19 @@ const SIZES: usize = REFUSED + stretch::REFUSALS;
 
 // Why it stopped, and the number of the refusal.
 fn stop_numbers(stop: Stop) -> [u64; 2]
-    ensures { result ≡ stop_numbers_lem stop }
+    ensures { result ≡ stop_numbers_lem (stop_told stop) }
 {
     match stop {
         Stop::Taken => [0, 0],
         Stop::End => [1, 0],
-        Stop::Broken(e) => [2, e as u64],
-        Stop::Refused(e) => [3, e as u64],
+        Stop::Broken(e) => [2, e.number() as u64],
+        Stop::Refused(e) => [3, e.number() as u64],
     }
 }
 
 // The numbers of a stretch at the start of a list.
 fn put_stretch(list: &mut [u64], stretch: Stretch)
-    ensures { list.new ≡ overlay list.old 0 (stretch_numbers stretch) }
+    ensures { list.new ≡ overlay list.old 0 (stretch_numbers (stretch_told stretch)) }
 {
     let stop = stretch.stop;
     let totals = stretch.totals;
@@ -83,13 +84,18 @@ pub extern "C" fn qm_count_on(
     if told.len() < STRETCH {
         return 13;
     }
-    let had = Sizes {
-        tiles: had_tiles,
-        pits: had_pits,
-        sure: had_sure,
+    let mut sets = PitSets {
+        tiles,
+        pits,
+        sure,
+        sizes: Sizes {
+            tiles: had_tiles,
+            pits: had_pits,
+            sure: had_sure,
+        },
     };
     let done = stretch::count_on(
-        log, place, most, state, names, store, ledger, numbers, tiles, pits, sure, had,
+        log, place, most, state, names, store, ledger, numbers, &mut sets,
     );
     put_stretch(told, done);
     0

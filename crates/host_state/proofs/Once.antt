@@ -2,7 +2,7 @@
 use Rattle.wire.proofs.Basics.{◌∙◌, sym, ◌≡◌, ap, ℕ, List}
 use Rattle.wire.proofs.Once.{one_answer}
 use Rattle.receiver.specs.Calls.{refusal_of}
-use Rattle.receiver.specs.declared.Call.{Call}
+use Rattle.receiver.specs.Calls.{Call}
 use Rattle.receiver_laws.proofs.Once.{Alike, open-once, forget-once}
 use Rattle.host_state.specs.Calls.{call_code_lem, OpenTold, ForgetTold}
 use Rattle.host_state.specs.Lengths.{LengthsTold}

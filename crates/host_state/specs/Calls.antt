@@ -2,7 +2,7 @@
 use Rattle.std.specs.Prelude.{◌≡◌, List, ℕ}
 use Rattle.std.proofs.Math.Option.{Option, none, some}
 use Rattle.receiver.specs.Calls.{refusal_of, Forgets}
-use Rattle.receiver.specs.declared.Call.{Call}
+use Rattle.receiver.specs.Calls.{Call}
 use Rattle.open_and_payload.specs.Ends.{Opens}
 
 -- 0, or the number of the refusal

@@ -6,7 +6,7 @@ ghost use Rattle.receiver.specs.Calls.{refusal_of};
 ghost use Rattle.host_state.specs.Calls.{call_code_lem, OpenTold, ForgetTold};
 ghost use Rattle.host_state.specs.Lengths.{LengthsTold, version};
 
-use receiver::Call;
+use refusals::Refusal;
 
 // How many numbers tell of an answer, how many come after them, and how many tell of an outcome.
 pub const ANSWERED: usize = 4;
@@ -23,12 +23,12 @@ pub const VERSION: u32 = 100;
 
 // ---- opening and forgetting
 
-fn call_code(call: Call) -> u32
+fn call_code(call: Result<(), Refusal>) -> u32
     ensures { result ≡ call_code_lem (refusal_of call) }
 {
     match call {
-        Call::Done => 0,
-        Call::Refused(n) => n,
+        Ok(()) => 0,
+        Err(refusal) => refusal.number(),
     }
 }
 
@@ -56,7 +56,7 @@ pub extern "C" fn qm_lengths(lengths: &mut [u64]) -> u32
     ensures { LengthsTold lengths.old result lengths.new }
 {
     if lengths.len() < LENGTHS {
-        return 13;
+        return Refusal::NoRoom.number();
     }
     let all = [
         slots::SLOTS as u64,

@@ -6,15 +6,17 @@ use Rattle.wire.proofs.Choices.{or_l, or_r}
 use Rattle.flight_log.specs.Editions.{Edition, head_in, limits_of}
 use Rattle.flight_log.specs.Said.{first_of, first_in}
 use Rattle.flight_log.specs.declared.reader.Limits.{Limits}
-use Rattle.flight_log.specs.declared.reader.First.TheVariants as first
+use Rattle.flight_log.specs.First as first
 use Rattle.log_index.specs.Limits.{max_index, batch_rows}
 use Rattle.log_index.specs.Rows.{Row, sorted}
 use Rattle.log_index.specs.Index.{Gathered, gathered, stopped, rows_from, rows_behind, rows_in, rows_after, rows_added, Answer, holds, refuses, no_room_in, answer_in}
 use Rattle.log_index.specs.Words.{words_of, added_in}
 use Rattle.log_index.proofs.Batches.{added-fresh}
-use Rattle.index_builder.specs.declared.Indexed.{Indexed}
-use Rattle.index_builder.specs.declared.Indexed.TheVariants.{Entries, Refused}
-use Rattle.index_builder.specs.Adds.{says, index_words, extended_in, IndexesIn, Indexes, AddsIn, Adds, rows_onward, rows_on}
+use Rattle.std.proofs.Common.{Ok, Err}
+use Rattle.refusals.specs.declared.Refusal.{Refusal}
+use Rattle.refusals.specs.declared.Refusal.TheVariants.{IndexFull}
+use Rattle.refusals.specs.Numbers.{number_of}
+use Rattle.index_builder.specs.Adds.{Indexed, says, index_words, extended_in, IndexesIn, Indexes, AddsIn, Adds, rows_onward, rows_on}
 use Rattle.index_builder.specs.InsideWalk.{Walked}
 
 -- ---- room
@@ -25,9 +27,6 @@ module _ (most words n : ℕ) (room : no_room_in most words n ≡ false) where
 
   pub room_for : 3 * n ≤ words
   room_for = ltb-false words (3 * n) (or_r (ltb most n) (ltb words (3 * n)) room)
-
-pub room-before : (most words n k : ℕ) → no_room_in most words (n + k) ≡ false → n ≤ most
-room-before most words n k e = let m = room-rows most words (n + k) e in omega (arith, m)
 
 -- ---- the three answers
 
@@ -42,14 +41,14 @@ module _ (most words n : ℕ) (rs : List Row) where
 
 -- a walk without words told how many rows there are, or the refusal
 module _ (most b : ℕ) (v v' : List ℕ) (room : ℕ) (r : Indexed) where
-  pub adds-refused : (g : Gathered) (w : List ℕ) (n k : ℕ) → Walked g v 0 room r v' → r ≡ Refused k → AddsIn most b g w n r w
+  pub adds-refused : (g : Gathered) (w : List ℕ) (n : ℕ) (k : Refusal) → Walked g v 0 room r v' → r ≡ Err k → AddsIn most b g w n (Err k) w
   unfolding answer_in
   adds-refused (gathered rs) w n k f e =
-      let q : refuses k ≡ holds (0 + length rs) = sym (ap says e) ∙ f.answer in
+      let q : refuses (number_of k) ≡ holds (0 + length rs) = sym (ap says e) ∙ f.answer in
       absurd (let z : ◌≡◌ {A = ℕ} 0 1 = cc in omega arith)
-  adds-refused (stopped i) w n k f e = record { answer = f.answer; index = refl }
+  adds-refused (stopped i) w n k f e = record { answer = sym (ap says e) ∙ f.answer; index = refl }
 
-  pub adds-full : (g : Gathered) (w : List ℕ) (n k : ℕ) → Walked g v 0 room r v' → r ≡ Entries k → no_room_in most (length w) (n + k) ≡ true → AddsIn most b g w n (Refused 44) w
+  pub adds-full : (g : Gathered) (w : List ℕ) (n k : ℕ) → Walked g v 0 room r v' → r ≡ Ok k → no_room_in most (length w) (n + k) ≡ true → AddsIn most b g w n (Err IndexFull) w
   adds-full (stopped i) w n k f e h =
       let q : holds k ≡ refuses i = sym (ap says e) ∙ f.answer in
       absurd (let z : ◌≡◌ {A = ℕ} 0 1 = cc in omega arith)
@@ -60,7 +59,7 @@ module _ (most b : ℕ) (v v' : List ℕ) (room : ℕ) (r : Indexed) where
       let a = answer-full most (length w) n rs (ap (λ (i : ℕ). no_room_in most (length w) (n + i)) (sym d) ∙ h) in
       record { answer = sym a; index = ap (λ (x : Answer). extended_in b x (gathered rs) w n) (sym a) }
 
-  pub adds-all : (g : Gathered) (w : List ℕ) (n k : ℕ) → Walked g v 0 room r v' → r ≡ Entries k → no_room_in most (length w) (n + k) ≡ false
+  pub adds-all : (g : Gathered) (w : List ℕ) (n k : ℕ) → Walked g v 0 room r v' → r ≡ Ok k → no_room_in most (length w) (n + k) ≡ false
       → (s : Indexed) (w' : List ℕ) (size : ℕ) → b ≡ size / 3 → 1 ≤ b → Walked g w n size s w' → AddsIn most b g w n s w'
   adds-all (stopped i) w n k f e h s w' size m o l =
       let q : holds k ≡ refuses i = sym (ap says e) ∙ f.answer in
@@ -146,7 +145,7 @@ adds_same {most} {b} g h w n r w' e a = subst (λ (x : Gathered). AddsIn most b 
 pub adds-batch : {most b k : ℕ} {g : Gathered} {w : List ℕ} {n : ℕ} {r : Indexed} {w' : List ℕ} → AddsIn most b g w n r w' → b ≡ k → AddsIn most k g w n r w'
 adds-batch {most} {b} {k} {g} {w} {n} {r} {w'} a e = subst (λ (i : ℕ). AddsIn most i g w n r w') e a
 
-pub stops : {most b : ℕ} (g : Gathered) (w : List ℕ) (n k : ℕ) → g ≡ stopped k → AddsIn most b g w n (Refused k) w
+pub stops : {most b : ℕ} (g : Gathered) (w : List ℕ) (n : ℕ) (k : Refusal) → g ≡ stopped (number_of k) → AddsIn most b g w n (Err k) w
 unfolding answer_in
 stops g w n k e = rw e (record { answer = refl; index = refl })
 

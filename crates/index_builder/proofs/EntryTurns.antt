@@ -1,23 +1,22 @@
 -- The walk, an entry at a time: the rows entered and those to come are all. Assumes nothing.
-use Rattle.wire.proofs.Basics.{◌∙◌, sym, ◌≡◌, ap, refl, ℕ, ◌≤◌, ◌+◌, ◌<◌, ◌-◌, ◌*◌, ◌/◌, List, [], ◌++◌, append-nil, true, inl, inr, length, drop, take, length-append, take-append-drop, ltb, le-ltb}
-use Rattle.wire.proofs.Basics.{lt-ltb, dec_le, arith}
+use Rattle.wire.proofs.Basics.{◌∙◌, sym, ◌≡◌, ap, refl, ℕ, ◌≤◌, ◌+◌, ◌<◌, ◌-◌, ◌*◌, ◌/◌, List, [], ◌++◌, append-nil, inl, inr, length, drop, take, length-append, take-append-drop, ltb}
+use Rattle.wire.proofs.Basics.{dec_le, arith}
 use Rattle.wire.proofs.Choices.{either}
 use Rattle.wire.proofs.Overlays.{overlay-at}
-use Rattle.datagram.specs.declared.Read.{Read}
-use Rattle.datagram.specs.declared.Read.TheVariants.{Good, Refused}
+use Rattle.datagram.specs.Read.{Read, Good, Refused}
 use Rattle.datagram.specs.declared.Header.{Header}
 use Rattle.log_index.specs.Rows.{Row, row_of, sorted}
-use Rattle.log_index.specs.Index.{row_for, Gathered, gathered, stopped, holds, refuses, no_room_in}
+use Rattle.log_index.specs.Index.{row_for, Gathered, gathered, stopped, holds, refuses}
 use Rattle.log_index.specs.Words.{words_of, rank_in, entered, entered_all, merged, merged_rows, added_in}
 use Rattle.log_index.proofs.Sorts.{sorted-length}
 use Rattle.log_index.proofs.Wordings.{words-length}
 use Rattle.log_index.proofs.Fresh.{entered-sorted}
-use Rattle.log_index.proofs.Batches.{merged-batch, added_next, added-last}
+use Rattle.log_index.proofs.Batches.{rows-length, merged-batch, added_next, added-last}
 use Rattle.log_index.proofs.Moves.{inserted-length}
 use Rattle.log_index.proofs.Gathers.{ahead}
 use Rattle.log_index.proofs.Added.{ahead_none, ahead-both}
-use Rattle.index_builder.specs.declared.Indexed.{Indexed}
-use Rattle.index_builder.specs.InsideWalk.{total_of, Settles, Takes, Walked, Finishes}
+use Rattle.std.proofs.Common.{Ok}
+use Rattle.index_builder.specs.InsideWalk.{total_of, Settles, Takes, Walked}
 
 -- ---- the words stay as many
 
@@ -160,12 +159,13 @@ module _ (w : List ℕ) (n : ℕ) (g : Gathered) (room : ℕ) (v : List ℕ) (ro
       let z : ◌≡◌ {A = ℕ} 0 1 = cc in
       omega arith
 
-  pub going_done : h ≡ gathered [] → (r : Indexed) (v' : List ℕ) → Finishes v rows batch waiting r v' → Walked g w n room r v'
-  going_done e r v' d = record {
-    answer = d.answer ∙ (let z : rows + waiting ≡ rows + waiting + 0 = omega arith in ap holds z) ∙ ap (total_of (rows + waiting)) (sym e) ∙ f.total;
-    size = d.size ∙ f.size;
+  -- the last batch is merged
+  pub going_done : h ≡ gathered [] → (v' : List ℕ) → v' ≡ merged v rows batch waiting → Walked g w n room (Ok (rows + waiting)) v'
+  going_done e v' d = record {
+    answer = (let z : rows + waiting ≡ rows + waiting + 0 = omega arith in ap holds z) ∙ ap (total_of (rows + waiting)) (sym e) ∙ f.total;
+    size = ap length d ∙ rows-length _ _ _ _ ∙ f.size;
     words = λ o rs q.
-        d.words
+        d
         ∙ ap (merged v rows batch) f.number
         ∙ batch-merged v rows batch f.wait (f.sort o)
         ∙ sym (added-last (room / 3) o v rows f.wait (omega (arith, f.few)))
@@ -184,15 +184,3 @@ take_none sender at w n k r e = rw e (record { few = omega arith; next = omega a
 pub take-one : (sender at : ℕ) (w v : List ℕ) (n : ℕ) (h : Header) (r : Read) → r ≡ Good h → v ≡ entered w n (row_of sender h.sequence at) → Takes (row_for sender at r) w n (n + 1) v
 unfolding entered_all
 take-one sender at w v n h r e d = rw e (record { few = omega arith; next = refl; size = ap length d ∙ entered-length w n (row_of sender h.sequence at); words = d })
-
--- ---- room
-
-module _ (most words n k : ℕ) where
-  pub full-before : most < n → true ≡ no_room_in most words (n + k)
-  full-before h = rw (lt-ltb most (n + k) (omega arith)) refl
-
-  pub full-then : n ≤ most → most - n < k → true ≡ no_room_in most words (n + k)
-  full-then g h = rw (lt-ltb most (n + k) (omega arith)) refl
-
-  pub room-words : n ≤ most → k ≤ most - n → ltb words (3 * (n + k)) ≡ no_room_in most words (n + k)
-  room-words g h = rw (le-ltb most (n + k) (omega arith)) refl

@@ -21,9 +21,10 @@ use Rattle.log_index.proofs.Sorts.{sorted-length}
 use Rattle.log_index.proofs.Wordings.{words-length}
 use Rattle.log_index.proofs.Batches.{added-fresh}
 use Rattle.log_index.proofs.Looks.{found_first}
-use Rattle.index_builder.specs.declared.Indexed.{Indexed}
-use Rattle.index_builder.specs.declared.Indexed.TheVariants.{Entries, Refused}
-use Rattle.index_builder.specs.Adds.{says, index_words, extended_in, IndexOf, IndexesIn, Indexes, AddsIn, Extends, rows_onward, rows_on, IndexesOn}
+use Rattle.std.proofs.Common.{Ok, Err}
+use Rattle.refusals.specs.Numbers.{number_of}
+use Rattle.refusals.proofs.Names.{same_number}
+use Rattle.index_builder.specs.Adds.{Indexed, says, index_words, extended_in, IndexOf, IndexesIn, Indexes, AddsIn, Extends, rows_onward, rows_on, IndexesOn}
 use Rattle.index_builder.proofs.Answers.{room_for, answer-full, answer-holds, indexes_in, adds_same}
 
 -- ---- extended
@@ -145,10 +146,10 @@ index-words most log w n w' (gathered rs) e a i = elim (either (no_room_in most 
 ]
 
 -- what `index_log` leaves is the index of the log
-pub index-entries : {most : ℕ} (log w : List ℕ) (n : ℕ) (r : Indexed) (w' : List ℕ) → IndexesIn most log w r w' → r ≡ Entries n → IndexOf log w' n
+pub index-entries : {most : ℕ} (log w : List ℕ) (n : ℕ) (r : Indexed) (w' : List ℕ) → IndexesIn most log w r w' → r ≡ Ok n → IndexOf log w' n
 index-entries {most} log w n r w' i e = index-words most log w n w' (rows_in log) refl (sym (ap says e) ∙ i.answer) i.index
 
-pub index-left : {most : ℕ} (log w : List ℕ) (n : ℕ) (w' : List ℕ) → IndexesIn most log w (Entries n) w' → IndexOf log w' n
+pub index-left : {most : ℕ} (log w : List ℕ) (n : ℕ) (w' : List ℕ) → IndexesIn most log w (Ok n) w' → IndexOf log w' n
 index-left {most} log w n w' i = index-words most log w n w' (rows_in log) refl i.answer i.index
 
 -- in words for so many rows
@@ -172,10 +173,10 @@ finds-first log h w n i s q =
 -- ---- no second answer
 
 pub says-once : (r s : Indexed) → says r ≡ says s → r ≡ s
-says-once (Entries n) (Entries m) e = cc
-says-once (Entries n) (Refused k) e = absurd (let z : ◌≡◌ {A = ℕ} 0 1 = cc in omega arith)
-says-once (Refused k) (Entries m) e = absurd (let z : ◌≡◌ {A = ℕ} 0 1 = cc in omega arith)
-says-once (Refused k) (Refused i) e = cc
+says-once (Ok n) (Ok m) e = cc
+says-once (Ok n) (Err s) e = cc
+says-once (Err r) (Ok m) e = cc
+says-once (Err r) (Err s) e = let f : number_of r ≡ number_of s = cc in ap Err (same_number r s f)
 
 pub index-once : (log w : List ℕ) (r s : Indexed) (x y : List ℕ) → Indexes log w r x → Indexes log w s y → (r ≡ s) × (x ≡ y)
 index-once log w r s x y a b = (says-once r s (a.answer ∙ sym b.answer), a.index ∙ sym b.index)

@@ -1,6 +1,6 @@
 -- What the indexer answers and leaves: document 02, L11. "Added entries extend it"; "44 index full, after the log's own, and the index unchanged".
 -- Definitions only.
-use Rattle.std.specs.Prelude.{◌≡◌, List, ℕ, ◌-◌, ◌*◌, max, length, take}
+use Rattle.std.specs.Prelude.{◌≡◌, Result, Ok, Err, List, ℕ, ◌-◌, ◌*◌, max, length, take}
 use Rattle.wire.specs.Overlay.{overlay}
 use Rattle.wire.specs.Taken.{Taken, taken, refused}
 use Rattle.flight_log.specs.Editions.{Edition, head_in, limits_of}
@@ -8,13 +8,17 @@ use Rattle.log_index.specs.Limits.{max_index, batch_rows, large_batch}
 use Rattle.log_index.specs.Rows.{Row, sorted}
 use Rattle.log_index.specs.Index.{Gathered, gathered, stopped, rows_from, rows_in, rows_added, Answer, holds, refuses, answer_in}
 use Rattle.log_index.specs.Words.{words_of, added_in}
-use Rattle.index_builder.specs.declared.Indexed.{Indexed}
-use Rattle.index_builder.specs.declared.Indexed.TheVariants.{Entries, Refused}
+use Rattle.refusals.specs.declared.Refusal.{Refusal}
+use Rattle.refusals.specs.Numbers.{number_of}
 
--- the code's answer, in the paper's values
+-- the code's answer: how many rows the index has now, or the refusal
+abbrev pub Indexed : Type 0
+Indexed = Result ℕ Refusal
+
+-- in the paper's values
 abbrev pub says : Indexed → Answer
-says (Entries n) = holds n
-says (Refused k) = refuses k
+says (Ok n) = holds n
+says (Err r) = refuses (number_of r)
 
 -- ---- afresh: the sorted rows at the start of the lent words, and the rest stays; a refusal leaves all
 

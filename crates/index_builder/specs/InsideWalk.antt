@@ -3,8 +3,7 @@ use Rattle.std.specs.Prelude.{◌≡◌, List, ℕ, ◌+◌, ◌/◌, ◌≤◌,
 use Rattle.log_index.specs.Rows.{Row}
 use Rattle.log_index.specs.Index.{Gathered, gathered, stopped, Answer, holds, refuses}
 use Rattle.log_index.specs.Words.{entered_all, merged, added_in}
-use Rattle.index_builder.specs.declared.Indexed.{Indexed}
-use Rattle.index_builder.specs.Adds.{says}
+use Rattle.index_builder.specs.Adds.{Indexed, says}
 
 -- how many rows there are then
 abbrev pub total_of : ℕ → Gathered → Answer
@@ -30,9 +29,3 @@ pub record Walked (g : Gathered) (w : List ℕ) (n room : ℕ) (r : Indexed) (w'
   pub answer : says r ≡ total_of n g
   pub size : length w' ≡ length w
   pub words : 1 ≤ room / 3 → (rs : List Row) → g ≡ gathered rs → w' ≡ added_in (room / 3) w n rs
-
--- the last batch is merged
-pub record Finishes (w : List ℕ) (n : ℕ) (batch : List ℕ) (m : ℕ) (r : Indexed) (w' : List ℕ) : Type 0 where
-  pub answer : says r ≡ holds (n + m)
-  pub size : length w' ≡ length w
-  pub words : w' ≡ merged w n batch m

@@ -1,13 +1,13 @@
 -- The answers of the reader, and no second one. Assumes nothing.
-use Rattle.wire.proofs.Basics.{◌∙◌, sym, ◌≡◌, ap, refl, ℕ, ◌≤◌, ◌<◌, ◌*◌, List, true, false, Bool, ◌&&◌, length, ltb, le-ltb, lt-ltb, arith}
+use Rattle.wire.proofs.Basics.{◌∙◌, sym, ◌≡◌, ap, refl, subst, ℕ, ◌≤◌, ◌<◌, ◌*◌, List, true, false, Bool, ◌&&◌, length, ltb, le-ltb, lt-ltb, arith}
 use Rattle.wire.specs.Overlay.{overlay}
 use Rattle.wire.proofs.Once.{one_answer}
 use Rattle.log_index.specs.Rows.{Row}
-use Rattle.log_index.specs.Words.{words_of}
+use Rattle.log_index.specs.Words.{row_said, words_of}
 use Rattle.index_file.specs.File.{covered_in, count_in, is_file, file_row, first_rows, in_order_lem}
-use Rattle.index_file.specs.Files.{row_said, head_in, rows_answer, ReadsRows}
-use Rattle.index_file.specs.declared.FileRow.{FileRow}
-use Rattle.index_file.specs.declared.Head.TheVariants.{Of, Refused}
+use Rattle.index_file.specs.Files.{head_in, rows_answer, ReadsRows}
+use Rattle.log_index.specs.declared.Row as coded
+use Rattle.index_file.specs.Head.{Of, Refused}
 
 -- ---- the head
 
@@ -54,8 +54,8 @@ module _ (f w : List ℕ) where
   unfolding rows_answer
   reads_46 e = record { gave = rw e; left = rw e }
 
-  pub reads_other : (k : ℕ) → head_in f ≡ Refused k → ReadsRows f w 46 w
-  reads_other k e = reads_46 (rw (told-refused f k e).isnt)
+  pub reads_other : (k : ℕ) → head_in f ≡ Refused k → ReadsRows f w k w
+  reads_other k e = let t = told-refused f k e in subst (λ (n : ℕ). ReadsRows f w n w) (sym t.number) (reads_46 (rw t.isnt))
 
   module _ (covered n : ℕ) (head : head_in f ≡ Of covered n) where
     abbrev told : HeadTold f covered n
@@ -83,7 +83,7 @@ module _ (f w : List ℕ) where
 -- ---- no second answer
 
 -- the row that a contract tells
-pub row-once : (r s : FileRow) (x : Row) → row_said r ≡ x → row_said s ≡ x → r ≡ s
+pub row-once : (r s : coded.Row) (x : Row) → row_said r ≡ x → row_said s ≡ x → r ≡ s
 row-once r s x p q = let e = p ∙ sym q in λ j. record { sender = (e j).sender; sequence = (e j).sequence; place = (e j).place }
 
 pub reads-once : (f w : List ℕ) (x y : ℕ) (a b : List ℕ) → ReadsRows f w x a → ReadsRows f w y b → (x ≡ y) × (a ≡ b)

@@ -1,15 +1,15 @@
 -- What the functions do, a step at a time: a row is read, the head is judged, rows are copied. Assumes nothing.
-use Rattle.wire.proofs.Basics.{◌∙◌, sym, ◌≡◌, ap, refl, ℕ, ◌≤◌, ◌+◌, ◌<◌, ◌-◌, ◌*◌, ◌%◌, ◌/◌, List, [], ◌∷◌, ◌++◌, false, ◌&&◌, length, get_or, drop-drop, eqb, ltb, eq-eqb, le-ltb, ne_eqb, arith}
+use Rattle.wire.proofs.Basics.{◌∙◌, sym, ◌≡◌, ap, refl, ℕ, ◌≤◌, ◌+◌, ◌<◌, ◌-◌, ◌*◌, ◌%◌, ◌/◌, List, [], ◌∷◌, ◌++◌, false, ◌&&◌, length, get_or, drop-drop, eqb, eq-eqb, le-ltb, ne_eqb, arith}
 use Rattle.wire.specs.Bytes.{Number, be}
 use Rattle.wire.specs.Overlay.{overlay}
 use Rattle.wire.proofs.Choices.{and-of, and-false}
 use Rattle.wire.proofs.Overlays.{overlay-nil, overlay-next, length-overlay}
-use Rattle.log_index.specs.Rows.{Row, row_of, earlier}
+use Rattle.log_index.specs.Rows.{Row, row_of}
 use Rattle.log_index.specs.Words.{words_of}
 use Rattle.log_index.proofs.Wordings.{words_append, words-length}
 use Rattle.index_file.specs.File.{count_in, is_file, file_row, first_rows}
 use Rattle.index_file.specs.Files.{head_in}
-use Rattle.index_file.specs.declared.Head.TheVariants.{Of, Refused}
+use Rattle.index_file.specs.Head.{Of, Refused}
 use Rattle.index_file.proofs.Places.{first-length, first_next}
 use Rattle.index_file.proofs.Determines.{row_inside}
 use Rattle.index_file.proofs.Answers.{head-of, head-refused}
@@ -26,21 +26,6 @@ module _ (f : List ℕ) (i : ℕ) where
   row-some a b c h x y z =
       (λ j. row_of (x.value j) ((y.value ∙ ap (be 4) (sym (drop-drop 8 (17 + 20 * i) f))) j) ((z.value ∙ ap (be 8) (sym (drop-drop 12 (17 + 20 * i) f))) j))
       ∙ sym (row_inside f i h)
-
--- ---- a row comes before another
-
-module _ (a b : Row) where
-  pub before-sender : (a.sender ≡ b.sender → ⊥) → ltb a.sender b.sender ≡ earlier a b
-  unfolding earlier
-  before-sender h = rw (ne_eqb a.sender b.sender h) refl
-
-  pub before-sequence : a.sender ≡ b.sender → (a.sequence ≡ b.sequence → ⊥) → ltb a.sequence b.sequence ≡ earlier a b
-  unfolding earlier
-  before-sequence e h = rw (eq-eqb a.sender b.sender e, ne_eqb a.sequence b.sequence h) refl
-
-  pub before-place : a.sender ≡ b.sender → a.sequence ≡ b.sequence → ltb a.place b.place ≡ earlier a b
-  unfolding earlier
-  before-place e f = rw (eq-eqb a.sender b.sender e, eq-eqb a.sequence b.sequence f) refl
 
 -- ---- the head is judged
 

@@ -1,17 +1,12 @@
 -- What the reader of an index file answers and leaves. Definitions only.
-use Rattle.std.specs.Prelude.{◌≡◌, not, List, ℕ, ◌*◌, eqb, ltb, length}
+use Rattle.std.specs.Prelude.{◌≡◌, Result, Ok, Err, not, List, ℕ, ◌*◌, eqb, ltb, length}
 use Rattle.wire.specs.Choice.{pick, ◌when◌else◌}
 use Rattle.wire.specs.Overlay.{overlay}
-use Rattle.log_index.specs.Rows.{Row, row_of}
+use Rattle.refusals.specs.declared.Refusal.{Refusal}
+use Rattle.refusals.specs.Numbers.{number_of}
 use Rattle.log_index.specs.Words.{words_of}
 use Rattle.index_file.specs.File.{covered_in, count_in, is_file, rows_of_file, is_index_file}
-use Rattle.index_file.specs.declared.Head.{Head}
-use Rattle.index_file.specs.declared.Head.TheVariants.{Of, Refused}
-use Rattle.index_file.specs.declared.FileRow as coded
-
--- the code's row, in the paper's values
-abbrev pub row_said : coded.FileRow → Row
-row_said r = row_of r.sender r.sequence r.place
+use Rattle.index_file.specs.Head.{Head, Of, Refused}
 
 -- the head: covered length and rows; the rows are not looked at
 unfoldable pub head_in : List ℕ → Head
@@ -24,6 +19,11 @@ rows_answer f words =
     46 when not (is_index_file f) else
     13 when ltb words (3 * count_in f) else
     0
+
+-- the code's answer: 0, or the number of the refusal
+abbrev pub answer_told : Result Unit Refusal → ℕ
+answer_told (Ok u) = 0
+answer_told (Err r) = number_of r
 
 pub record ReadsRows (f w : List ℕ) (answer : ℕ) (w' : List ℕ) : Type 0 where
   pub gave : answer ≡ rows_answer f (length w)

@@ -10,16 +10,15 @@ use Rattle.datagram.specs.Limits.{max_datagram}
 use Rattle.datagram.specs.Read.{sequence_in, size_in, number_in, count_in, magic_in, small_magic, fragment_magic, small_to, read_small_lem, formed, fragment_header, good_form, zero_to, read_fragment_lem, read_datagram_lem, place}
 use Rattle.datagram.specs.Name.{name_length_lem}
 use Rattle.datagram.specs.declared.Header.{Header}
-use Rattle.datagram.specs.declared.Named.{Named}
-use Rattle.datagram.specs.declared.Named.TheVariants.{Nameless, Long}
+use Rattle.std.proofs.Common.{Option, Some, None}
 use Rattle.datagram.specs.declared.Place.{Place}
-use Rattle.datagram.specs.declared.Read.{Read}
-use Rattle.datagram.specs.declared.Read.TheVariants.{Good, Refused}
+use Rattle.datagram.specs.Read.{Read}
+use Rattle.datagram.specs.Read.{Good, Refused}
 use Rattle.flight_log.specs.Entries.{Entry, Keeps, AllKeep, entry_bytes, body_of}
 use Rattle.flight_log.specs.Listed.{entry_in}
 use Rattle.flight_log.specs.Said.{entry_at, step_of, step_in, next_at}
 use Rattle.flight_log.specs.declared.reader.Limits.{Limits}
-use Rattle.flight_log.specs.declared.reader.Step.TheVariants.{Found}
+use Rattle.flight_log.specs.Step.{Found}
 use Rattle.flight_log.proofs.LogRoundTrip.{entry-back, entry-some}
 use Rattle.flight_log.proofs.ReadingOn.{found_at}
 use Rattle.log_index.specs.Rows.{Row}
@@ -33,9 +32,9 @@ abbrev pub Says : List ℕ → Read → Type 0
 Says d (Good h) = h.sequence ≡ sequence_in d
 Says d (Refused n) = Unit {0}
 
-says-small : (d : List ℕ) (n : Named) → Says d (small_to d n)
-says-small d Nameless = tt
-says-small d (Long c) = refl
+says-small : (d : List ℕ) (n : Option ℕ) → Says d (small_to d n)
+says-small d None = tt
+says-small d (Some c) = refl
 
 says-pick : (d : List ℕ) (b : Bool) (x y : Read) → Says d x → Says d y → Says d (pick b x y)
 says-pick d true x y p q = p
@@ -45,9 +44,9 @@ says-formed : (d : List ℕ) (p : Place) (at : ℕ) → Says d (formed d p at)
 unfolding formed
 says-formed d p at = says-pick d (good_form (fragment_header d p at)) (Good (fragment_header d p at)) (Refused 7) refl (tt {0})
 
-says-zero : (d : List ℕ) (n : Named) → Says d (zero_to d n)
-says-zero d Nameless = tt
-says-zero d (Long c) = says-formed d (place 20 c) (21 + c)
+says-zero : (d : List ℕ) (n : Option ℕ) → Says d (zero_to d n)
+says-zero d None = tt
+says-zero d (Some c) = says-formed d (place 20 c) (21 + c)
 
 says-fragment : (m n : ℕ) (d : List ℕ) → Says d (read_fragment_lem m n d)
 unfolding read_fragment_lem

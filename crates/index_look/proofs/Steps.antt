@@ -1,36 +1,22 @@
 -- What the functions ask, a step at a time. Assumes nothing.
-use Rattle.wire.proofs.Basics.{◌∙◌, sym, ◌≡◌, ap, refl, ℕ, ◌≤◌, ◌<◌, suc, List, true, false, Bool, ◌&&◌, some, none, length, drop, take, eqb, ltb, eq-eqb, le-ltb, ne_eqb, lt-ltb, arith}
+use Rattle.wire.proofs.Basics.{◌∙◌, sym, ◌≡◌, ap, refl, ℕ, ◌≤◌, ◌<◌, List, true, false, Bool, ◌&&◌, some, none, length, drop, take, ltb, eq-eqb, le-ltb, ne_eqb, lt-ltb, arith}
 use Rattle.wire.specs.Choice.{pick}
 use Rattle.datagram.specs.Read.{read_datagram_lem}
-use Rattle.datagram.specs.declared.Read.{Read}
-use Rattle.datagram.specs.declared.Read.TheVariants as read
-use Rattle.datagram.specs.declared.Header.{Header}
 use Rattle.flight_log.specs.Said.{first_in, next_at}
 use Rattle.flight_log.specs.declared.reader.EntryAt.{EntryAt}
-use Rattle.flight_log.specs.declared.reader.First.TheVariants as first
+use Rattle.flight_log.specs.First as first
 use Rattle.flight_log.specs.declared.reader.Limits.{Limits}
-use Rattle.flight_log.specs.declared.reader.Step.TheVariants as step
+use Rattle.flight_log.specs.Step as step
 use Rattle.log_index.specs.Rows.{Row, row_of, is_of}
 use Rattle.log_index.specs.Words.{says}
-use Rattle.log_index.specs.declared.Found.{Found}
-use Rattle.log_index.specs.declared.Found.TheVariants as found
+use Rattle.std.proofs.Common.{Option}
 use Rattle.index_file.specs.File.{covered_in, count_in, file_row}
 use Rattle.index_file.specs.Files.{head_in}
-use Rattle.index_file.specs.declared.Head.TheVariants as head
+use Rattle.index_file.specs.Head as head
 use Rattle.index_file.proofs.Answers.{told_of_lem, told-refused}
-use Rattle.index_look.specs.Keys.{sequence_is_lem, entry_has, behind_head, has_key, leads, ends_lead_lem}
+use Rattle.index_look.specs.Keys.{sequence_is_lem, entry_has, behind_head, has_key, ends_lead_lem}
 use Rattle.index_look.specs.Look.{file_rank, at_rank, found_in_file, believed, looked_up_lem}
-use Rattle.index_look.specs.declared.Looked.{Looked}
-use Rattle.index_look.specs.declared.Looked.TheVariants.{At, Nowhere, Refused}
-
--- ---- a sequence
-
-module _ (q : ℕ) (r : Read) where
-  pub sequence-none : (n : ℕ) → r ≡ read.Refused n → false ≡ sequence_is_lem q r
-  sequence-none n e = sym (ap (sequence_is_lem q) e)
-
-  pub sequence-good : (h : Header) → r ≡ read.Good h → eqb h.sequence q ≡ sequence_is_lem q r
-  sequence-good h e = sym (ap (sequence_is_lem q) e)
+use Rattle.index_look.specs.Looked.{Looked, Refused}
 
 -- ---- the entry at a place
 
@@ -60,34 +46,6 @@ module _ (log : List ℕ) (place s q : ℕ) where
           ∙ ap (λ (l : List ℕ). sequence_is_lem q (read_datagram_lem m.payload m.fragments l)) c
           ∙ sym (behind ∙ ap (entry_has log m s q) d ∙ ap (λ b. b && sequence_is_lem q (read_datagram_lem m.payload m.fragments (take x.len (drop x.at log)))) (eq-eqb x.sender s n))
 
--- ---- the first and the last row
-
-module _ (log : List ℕ) (row : ℕ → Row) where
-  pub ends-none : (n : ℕ) → n ≡ 0 → true ≡ ends_lead_lem log row n
-  ends-none n e = sym (ap (ends_lead_lem log row) e)
-
-  module _ (n j : ℕ) (e : n ≡ suc j) where
-    ends-both : ends_lead_lem log row n ≡ (leads log (row 0) && leads log (row j))
-    ends-both = ap (ends_lead_lem log row) e
-
-    pub ends-first : leads log (row 0) ≡ false → false ≡ ends_lead_lem log row n
-    ends-first h = sym (ends-both ∙ ap (λ b. b && leads log (row j)) h)
-
-    pub ends_last : leads log (row 0) ≡ true → (r : Bool) → r ≡ leads log (row j) → r ≡ ends_lead_lem log row n
-    ends_last h r t = t ∙ sym (ends-both ∙ ap (λ b. b && leads log (row j)) h)
-
--- ---- a row has a key
-
-module _ (i n s q : ℕ) (row : Row) where
-  pub of-out : n ≤ i → false ≡ (ltb i n && is_of s q row)
-  of-out h = rw (le-ltb i n h) refl
-
-  pub of_other : i < n → (row.sender ≡ s → ⊥) → false ≡ (ltb i n && is_of s q row)
-  of_other h e = rw (lt-ltb i n h, ne_eqb row.sender s e) refl
-
-  pub of-sender : i < n → row.sender ≡ s → eqb row.sequence q ≡ (ltb i n && is_of s q row)
-  of-sender h e = rw (lt-ltb i n h, eq-eqb row.sender s e) refl
-
 -- ---- a key at its place
 
 module _ (f : List ℕ) (n s q i : ℕ) (r : i ≡ file_rank f n (row_of s q 0)) (row : Row) (e : row ≡ file_row f i) where
@@ -100,22 +58,6 @@ module _ (f : List ℕ) (n s q i : ℕ) (r : i ≡ file_rank f n (row_of s q 0))
 
   pub found_none : (ltb i n && is_of s q row) ≡ false → none ≡ found_in_file f n s q
   found_none h = ap (λ (t : Bool). pick t (some row.place) none) (sym h) ∙ at-its-rank
-
--- ---- believed or not
-
-module _ (log : List ℕ) (s q : ℕ) (x : Found) where
-  pub judge-none : x ≡ found.Nowhere → Nowhere ≡ believed log s q (says x)
-  judge-none e = sym (ap (λ (y : Found). believed log s q (says y)) e)
-
-  module _ (place : ℕ) (e : x ≡ found.At place) where
-    told : believed log s q (says x) ≡ pick (has_key log place s q) (At place) (Refused 47)
-    told = ap (λ (y : Found). believed log s q (says y)) e
-
-    pub judge-at : has_key log place s q ≡ true → At place ≡ believed log s q (says x)
-    judge-at h = sym (told ∙ ap (λ (b : Bool). pick b (At place) (Refused 47)) h)
-
-    pub judge-other : has_key log place s q ≡ false → Refused 47 ≡ believed log s q (says x)
-    judge-other h = sym (told ∙ ap (λ (b : Bool). pick b (At place) (Refused 47)) h)
 
 -- ---- all of it
 
@@ -142,7 +84,7 @@ module _ (log f : List ℕ) (s q : ℕ) where
         let d : ends_lead_lem log (file_row f) (count_in f) ≡ false = ap (ends_lead_lem log (file_row f)) (sym t.count) ∙ l in
         rw (t.is, b, d) refl
 
-    pub looks-found : covered ≤ length log → ends_lead_lem log (file_row f) n ≡ true → (r : Looked) (x : Found) → says x ≡ found_in_file f n s q → r ≡ believed log s q (says x) → r ≡ looked_up_lem log f s q
+    pub looks-found : covered ≤ length log → ends_lead_lem log (file_row f) n ≡ true → (r : Looked) (x : Option ℕ) → says x ≡ found_in_file f n s q → r ≡ believed log s q (says x) → r ≡ looked_up_lem log f s q
     unfolding looked_up_lem
     looks-found h l r x g j =
         let t = told_of_lem f covered n e in

@@ -4,8 +4,8 @@ use Rattle.std.proofs.Math.Option.{Option, none, some}
 use Rattle.log_index.specs.Rows.{Row, sorted}
 use Rattle.log_index.specs.Index.{gathered, rows_in}
 use Rattle.index_file.specs.File.{file_of}
-use Rattle.index_look.specs.declared.Looked.{Looked}
-use Rattle.index_look.specs.declared.Looked.TheVariants.{At, Nowhere}
+use Rattle.index_look.specs.Looked.{Looked}
+use Rattle.index_look.specs.Looked.{At, Nowhere}
 
 -- the file of a log: it covers the whole log, and its rows are the log's, sorted
 pub record FileOf (log f : List ℕ) : Type 0 where

@@ -1,14 +1,14 @@
 -- Whether the entry at a place of a log has a key: "the entry at the place is looked at before it is believed". Definitions only.
 use Rattle.std.specs.Prelude.{Bool, true, false, ◌&&◌, List, ℕ, zero, suc, eqb, take, drop}
 use Rattle.datagram.specs.Read.{read_datagram_lem}
-use Rattle.datagram.specs.declared.Read.{Read}
-use Rattle.datagram.specs.declared.Read.TheVariants as read
+use Rattle.datagram.specs.Read.{Read}
+use Rattle.datagram.specs.Read as read
 use Rattle.flight_log.specs.Said.{first_in, next_at}
-use Rattle.flight_log.specs.declared.reader.First.{First}
-use Rattle.flight_log.specs.declared.reader.First.TheVariants as first
+use Rattle.flight_log.specs.First.{First}
+use Rattle.flight_log.specs.First as first
 use Rattle.flight_log.specs.declared.reader.Limits.{Limits}
-use Rattle.flight_log.specs.declared.reader.Step.{Step}
-use Rattle.flight_log.specs.declared.reader.Step.TheVariants as step
+use Rattle.flight_log.specs.Step.{Step}
+use Rattle.flight_log.specs.Step as step
 use Rattle.log_index.specs.Rows.{Row}
 
 -- what the datagram reader accepts has a sequence

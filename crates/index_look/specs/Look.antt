@@ -6,8 +6,8 @@ use Rattle.wire.specs.Halving.{halve}
 use Rattle.log_index.specs.Rows.{Row, row_of, earlier, is_of}
 use Rattle.index_file.specs.File.{covered_in, count_in, is_file, file_row}
 use Rattle.index_look.specs.Keys.{has_key, ends_lead_lem}
-use Rattle.index_look.specs.declared.Looked.{Looked}
-use Rattle.index_look.specs.declared.Looked.TheVariants.{At, Nowhere, Refused}
+use Rattle.index_look.specs.Looked.{Looked}
+use Rattle.index_look.specs.Looked.{At, Nowhere, Refused}
 
 -- ---- by halving, in the file's bytes
 

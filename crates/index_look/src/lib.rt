@@ -4,24 +4,15 @@
 ghost use Rattle.std.specs.Prelude.{◌≡◌, ◌&&◌, ◌≤◌, ltb};
 ghost use Rattle.datagram.specs.Read.{read_datagram_lem};
 ghost use Rattle.log_index.specs.Rows.{is_of};
-ghost use Rattle.log_index.specs.Words.{says};
+ghost use Rattle.log_index.specs.Words.{row_said, says};
 ghost use Rattle.index_file.specs.File.{file_row};
-ghost use Rattle.index_file.specs.Files.{row_said};
 ghost use Rattle.index_look.specs.Keys.{sequence_is_lem, has_key, leads, ends_lead_lem};
 ghost use Rattle.index_look.specs.Look.{file_rank, found_in_file, believed, looked_up_lem};
+ghost use Rattle.index_look.specs.Looked.{looked_told};
 
-use datagram::Read;
-use flight_log::{First, Limits, Step};
-use index_file::{FileRow, Head};
-use log_index::Found;
-
-// Where the first entry of a key begins in the log, or the refusal.
-#[derive(Clone, Copy)]
-pub enum Looked {
-    At(u64),
-    Nowhere,
-    Refused(u32),
-}
+use flight_log::Limits;
+use log_index::Row;
+use refusals::Refusal;
 
 // ---- the log
 
@@ -29,8 +20,7 @@ pub enum Looked {
 fn sequence_is(datagram: &[u8], limits: Limits, sequence: u64) -> bool
     ensures { result ≡ sequence_is_lem sequence (read_datagram_lem limits.payload limits.fragments datagram.now) }
 {
-    let read = datagram::read_datagram(datagram, limits.payload, limits.fragments);
-    let Read::Good(header) = read else {
+    let Ok(header) = datagram::read_datagram(datagram, limits.payload, limits.fragments) else {
         return false;
     };
     header.sequence as u64 == sequence
@@ -40,26 +30,21 @@ fn sequence_is(datagram: &[u8], limits: Limits, sequence: u64) -> bool
 fn has_key(log: &[u8], place: u64, sender: u64, sequence: u64) -> bool
     ensures { result ≡ has_key log.now place sender sequence }
 {
-    let first = flight_log::first_entry(log);
-    let First::At(_, limits) = first else {
+    let Ok((_, limits)) = flight_log::first_entry(log) else {
         return false;
     };
-    let step = flight_log::next_entry(log, place as usize);
-    match step {
-        Step::Found(entry) => {
-            if entry.sender != sender {
-                return false;
-            }
-            let datagram = wire::part(log, entry.at, entry.len);
-            return sequence_is(datagram, limits, sequence);
-        }
-        Step::End => return false,
-        Step::Refused(_) => return false,
-    }
+    let Ok(step) = flight_log::next_entry(log, place as usize) else {
+        return false;
+    };
+    let Some(entry) = step else {
+        return false;
+    };
+    let datagram = wire::part(log, entry.at, entry.len);
+    entry.sender == sender && sequence_is(datagram, limits, sequence)
 }
 
 // A row leads to an entry of its own key.
-fn is_led(log: &[u8], row: FileRow) -> bool
+fn is_led(log: &[u8], row: Row) -> bool
     ensures { result ≡ leads log.now (row_said row) }
 {
     has_key(log, row.place, row.sender, row.sequence)
@@ -72,49 +57,33 @@ fn ends_lead(log: &[u8], file: &[u8], n: usize) -> bool
     if n == 0 {
         return true;
     }
-    if !is_led(log, index_file::row_at(file, 0)) {
-        return false;
-    }
-    is_led(log, index_file::row_at(file, n - 1))
+    is_led(log, index_file::row_at(file, 0)) && is_led(log, index_file::row_at(file, n - 1))
 }
 
 // ---- the file
 
 // The place of a row among the first n.
-fn rank(file: &[u8], n: usize, row: FileRow) -> usize
+fn rank(file: &[u8], n: usize, row: Row) -> usize
     ensures { (result ≡ file_rank file.now n (row_said row)) × (result ≤ n) }
 {
-    let mut low: usize = 0;
-    let mut high = n;
-    while low < high {
-        let mid = low + (high - low) / 2;
-        if index_file::is_before(index_file::row_at(file, mid), row) {
-            low = mid + 1;
-        } else {
-            high = mid;
-        }
-    }
-    low
+    halving::partition_point(
+        n,
+        |i| log_index::is_before(index_file::row_at(file, i), row),
+    )
 }
 
 // A row, of those before n, has a key.
-fn is_of(row: FileRow, i: usize, n: usize, sender: u64, sequence: u64) -> bool
+fn is_of(row: Row, i: usize, n: usize, sender: u64, sequence: u64) -> bool
     ensures { result ≡ (ltb i n && is_of sender sequence (row_said row)) }
 {
-    if n <= i {
-        return false;
-    }
-    if row.sender != sender {
-        return false;
-    }
-    row.sequence == sequence
+    i < n && row.sender == sender && row.sequence == sequence
 }
 
 // Where the first entry of a key begins, by the first n rows.
-fn find_in(file: &[u8], n: usize, sender: u64, sequence: u64) -> Found
+fn find_in(file: &[u8], n: usize, sender: u64, sequence: u64) -> Option<u64>
     ensures { says result ≡ found_in_file file.now n sender sequence }
 {
-    let key = FileRow {
+    let key = Row {
         sender,
         sequence,
         place: 0,
@@ -122,37 +91,34 @@ fn find_in(file: &[u8], n: usize, sender: u64, sequence: u64) -> Found
     let i = rank(file, n, key);
     let row = index_file::row_at(file, i);
     if is_of(row, i, n, sender, sequence) {
-        return Found::At(row.place);
+        return Some(row.place);
     }
-    Found::Nowhere
+    None
 }
 
 // What was found is believed where the entry there has the key.
-fn judge(log: &[u8], sender: u64, sequence: u64, found: Found) -> Looked
-    ensures { result ≡ believed log.now sender sequence (says found) }
+fn judge(log: &[u8], sender: u64, sequence: u64, found: Option<u64>) -> Result<Option<u64>, Refusal>
+    ensures { looked_told result ≡ believed log.now sender sequence (says found) }
 {
-    let Found::At(place) = found else {
-        return Looked::Nowhere;
+    let Some(place) = found else {
+        return Ok(None);
     };
     if has_key(log, place, sender, sequence) {
-        return Looked::At(place);
+        return Ok(Some(place));
     }
-    Looked::Refused(47)
+    Err(Refusal::AnotherLog)
 }
 
 // Where the first entry of a key begins in a log, by its index file.
-pub fn look_up(log: &[u8], file: &[u8], sender: u64, sequence: u64) -> Looked
-    ensures { result ≡ looked_up_lem log.now file.now sender sequence }
+pub fn look_up(log: &[u8], file: &[u8], sender: u64, sequence: u64) -> Result<Option<u64>, Refusal>
+    ensures { looked_told result ≡ looked_up_lem log.now file.now sender sequence }
 {
-    let head = index_file::read_head(file);
-    let Head::Of(covered, n) = head else {
-        return Looked::Refused(46);
-    };
+    let (covered, n) = index_file::read_head(file)?;
     if (log.len() as u64) < covered {
-        return Looked::Refused(47);
+        return Err(Refusal::AnotherLog);
     }
     if !ends_lead(log, file, n) {
-        return Looked::Refused(47);
+        return Err(Refusal::AnotherLog);
     }
     judge(log, sender, sequence, find_in(file, n, sender, sequence))
 }

@@ -3,13 +3,14 @@
 
 ghost use Rattle.std.specs.Prelude.{◌≡◌, ◌+◌, ◌*◌, ◌≤◌, length};
 ghost use Rattle.wire.specs.Overlay.{overlay};
-ghost use Rattle.log_index.specs.Words.{row_at};
+ghost use Rattle.log_index.specs.Words.{row_said, row_at};
 ghost use Rattle.index_file.specs.File.{head_of, row_bytes, rows_bytes, first_rows};
-ghost use Rattle.index_file.specs.Files.{row_said};
+ghost use Rattle.index_file.specs.Files.{answer_told};
 ghost use Rattle.index_writer.specs.Writes.{WritesFile};
 ghost use Rattle.index_writer.specs.Inside.{Holds};
 
-use index_file::FileRow;
+use log_index::Row;
+use refusals::Refusal;
 
 // The head of n rows.
 fn put_head(file: &mut [u8], covered: u64, n: usize)
@@ -21,7 +22,7 @@ fn put_head(file: &mut [u8], covered: u64, n: usize)
 }
 
 // A row at a place.
-fn put_row(file: &mut [u8], at: usize, row: FileRow)
+fn put_row(file: &mut [u8], at: usize, row: Row)
     requires { at + 20 ≤ length file.old }
     ensures { file.new ≡ overlay file.old at (row_bytes (row_said row)) }
 {
@@ -30,42 +31,44 @@ fn put_row(file: &mut [u8], at: usize, row: FileRow)
     wire::put_number(&mut *file, at + 12, 8, row.place);
 }
 
+// Row i of some words.
+fn row_at(index: &[u64], i: usize) -> Row
+    requires { 3 * i + 3 ≤ length index.now }
+    ensures { row_said result ≡ row_at index.now i }
+{
+    let at = 3 * i;
+    Row {
+        sender: index[at],
+        sequence: index[at + 1],
+        place: index[at + 2],
+    }
+}
+
 // The first n rows of some words behind the head.
 fn put_rows(index: &[u64], n: usize, file: &mut [u8])
     requires { (3 * n ≤ length index.now) × Holds file.old n }
     ensures { file.new ≡ overlay file.old 17 (rows_bytes (first_rows n (row_at index.now))) }
 {
-    let mut i: usize = 0;
-    while i < n {
-        let k = 3 * i;
-        let row = FileRow {
-            sender: index[k],
-            sequence: index[k + 1],
-            place: index[k + 2],
-        };
-        put_row(
-            &mut *file,
-            index_file::HEAD_LENGTH + index_file::ROW_LENGTH * i,
-            row,
-        );
-        i += 1;
+    for i in 0..n {
+        let at = index_file::HEAD_LENGTH + index_file::ROW_LENGTH * i;
+        put_row(&mut *file, at, row_at(index, i));
     }
 }
 
-// The index file of the first n rows of lent words, at the start of lent bytes: 0, or the number of the refusal.
-pub fn write_file(index: &[u64], n: usize, covered: u64, file: &mut [u8]) -> u32
-    ensures { WritesFile index.now n covered file.old result file.new }
+// The index file of the first n rows of lent words, at the start of lent bytes.
+pub fn write_file(index: &[u64], n: usize, covered: u64, file: &mut [u8]) -> Result<(), Refusal>
+    ensures { WritesFile index.now n covered file.old (answer_told result) file.new }
 {
     if index.len() / 3 < n {
-        return 13;
+        return Err(Refusal::NoRoom);
     }
     if file.len() < index_file::HEAD_LENGTH {
-        return 13;
+        return Err(Refusal::NoRoom);
     }
     if (file.len() - index_file::HEAD_LENGTH) / index_file::ROW_LENGTH < n {
-        return 13;
+        return Err(Refusal::NoRoom);
     }
     put_head(&mut *file, covered, n);
     put_rows(index, n, file);
-    0
+    Ok(())
 }

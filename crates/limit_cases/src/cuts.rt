@@ -1,66 +1,63 @@
 // The cutter, and the parts of what it makes. A case is: the letter of the name and its length, the payload's length, M, the datagram asked for,
 // and the length of the output; of the parts, how much of the datagram is read.
 use cutter::Cut;
-use std::io::Stdout;
+use output::Output;
+use refusals::Refusal;
 
-// The first `room` bytes of d get the datagram that a case asks for.
-fn made(case: &[u8], payload: &[u8], d: &mut [u8], room: usize) -> Cut {
-    let letter = (wire::number(case, 0, 8) % 256) as u8;
-    let name = [letter; 65];
-    let size = wire::least(room, d.len());
-    cutter::cut_datagram(
-        wire::part(&name, 0, crate::number(case, 8)),
-        wire::part(payload, 0, crate::number(case, 16)),
-        7,
-        crate::number(case, 24),
-        crate::number(case, 32),
-        &mut d[..size],
-    )
+// One byte more than a payload may have.
+const PAYLOAD: usize = datagram::MAX_PAYLOAD + 1;
+
+// A payload, all of the letter A, and room for any datagram of it.
+#[derive(Drop)]
+pub(crate) struct Cutting {
+    payload: [u8; PAYLOAD],
+    d: [u8; cutter::MOST_SIZE],
 }
 
-// The number of datagrams and the length of the one asked for, or the refusal.
-pub(crate) fn cut(
-    stdout: Stdout,
-    out: &mut [u8],
-    at: usize,
-    case: &[u8],
-    payload: &[u8],
-    d: &mut [u8],
-) -> usize {
-    let cut = made(case, payload, d, crate::number(case, 40));
-    match cut {
-        Cut::Made { count, len } => {
-            let next = output::pour_counted(stdout, out, at, b"datagrams ", count as u64);
-            output::pour_counted(stdout, out, next, b" length ", len as u64)
+impl Cutting {
+    pub(crate) fn new() -> Cutting {
+        Cutting {
+            payload: [65u8; PAYLOAD],
+            d: [0u8; cutter::MOST_SIZE],
         }
-        Cut::Refused(n) => output::pour_counted(stdout, out, at, b"refused ", n as u64),
     }
-}
 
-// How much of what was made is read.
-fn front_of(case: &[u8], cut: Cut) -> usize {
-    match cut {
-        Cut::Made { count: _, len } => wire::least(len, crate::number(case, 40)),
-        Cut::Refused(_) => 0,
+    // The first `room` bytes get the datagram that a case asks for.
+    fn made(&mut self, case: &[u8], room: usize) -> Result<Cut, Refusal> {
+        let letter = (wire::number(case, 0, 8) % 256) as u8;
+        let name = [letter; 65];
+        let size = room.min(cutter::MOST_SIZE);
+        let payload = wire::part(&self.payload, 0, crate::number(case, 16));
+        let d = &mut self.d[..];
+        cutter::cut_datagram(
+            wire::part(&name, 0, crate::number(case, 8)),
+            payload,
+            7,
+            crate::number(case, 24),
+            crate::number(case, 32),
+            &mut d[..size],
+        )
     }
-}
 
-fn pour_parts(stdout: Stdout, out: &mut [u8], at: usize, d: &[u8]) -> usize {
-    let a = output::pour(stdout, out, at, b"name:");
-    let b = output::pour_hex(stdout, out, a, parts::name_part(d));
-    let c = output::pour(stdout, out, b, b" payload:");
-    output::pour_hex(stdout, out, c, parts::payload_part(d))
-}
+    // The number of datagrams and the length of the one asked for, or the refusal.
+    pub(crate) fn cut(&mut self, out: &mut Output, case: &[u8]) {
+        match self.made(case, crate::number(case, 40)) {
+            Ok(cut) => {
+                out.pour_counted(b"datagrams ", cut.count as u64);
+                out.pour_counted(b" length ", cut.len as u64);
+            }
+            Err(refusal) => crate::pour_refused(out, refusal),
+        }
+    }
 
-// The name part and the payload part of what was made, or of the front of it.
-pub(crate) fn parts(
-    stdout: Stdout,
-    out: &mut [u8],
-    at: usize,
-    case: &[u8],
-    payload: &[u8],
-    d: &mut [u8],
-) -> usize {
-    let cut = made(case, payload, d, d.len());
-    pour_parts(stdout, out, at, wire::part(d, 0, front_of(case, cut)))
+    // The name part and the payload part of what was made, or of the front of it. Of nothing, where it was refused.
+    pub(crate) fn parts(&mut self, out: &mut Output, case: &[u8]) {
+        let made = self.made(case, cutter::MOST_SIZE);
+        let len = made.map_or(0, |cut| cut.len.min(crate::number(case, 40)));
+        let d = wire::part(&self.d, 0, len);
+        out.pour(b"name:");
+        out.pour_hex(parts::name_part(d));
+        out.pour(b" payload:");
+        out.pour_hex(parts::payload_part(d));
+    }
 }

@@ -3,20 +3,40 @@
 // and two words of a state, each as what it holds and a value.
 ghost use Rattle.std.specs.Prelude.{◌≤◌};
 
-use receiver::Call;
-use std::io::Stdout;
+use output::Output;
 use steps::Answer;
 
 // The bytes of the store at opening.
 const STORE: usize = 64;
 
-// How many words and bytes are lent, by a case.
-fn state_words(case: &[u8]) -> usize {
-    receiver::STATE_WORDS - 1 + wire::least(crate::number(case, 0), 2)
+// One more of each than must be, and twice the store.
+const STATE_WORDS: usize = receiver::STATE_WORDS + 1;
+
+const NAME_BYTES: usize = receiver::NAME_BYTES + 1;
+
+const STORE_BYTES: usize = 2 * STORE;
+
+const LEDGER: usize = receiver::LEDGER + 1;
+
+#[derive(Drop)]
+struct Lent {
+    state: [u64; STATE_WORDS],
+    names: [u8; NAME_BYTES],
+    store: [u8; STORE_BYTES],
+    ledger: [u32; LEDGER],
 }
 
-fn name_bytes(case: &[u8]) -> usize {
-    receiver::NAME_BYTES - 1 + wire::least(crate::number(case, 8), 2)
+// How many words and bytes are lent: of 0 one too few, of 1 as many as must be, of more one more.
+fn state_words(which: usize) -> usize
+    ensures { result ≤ STATE_WORDS }
+{
+    receiver::STATE_WORDS - 1 + which.min(2)
+}
+
+fn name_bytes(which: usize) -> usize
+    ensures { result ≤ NAME_BYTES }
+{
+    receiver::NAME_BYTES - 1 + which.min(2)
 }
 
 // The words before those of the last slot, and of the memory before its last sender's.
@@ -39,139 +59,92 @@ fn spot(which: usize) -> usize {
     }
 }
 
-// A fresh state, and two words of it as the case has them from a place on.
-fn prepare(case: &[u8], place: usize, state: &mut [u64], names: &mut [u8])
-    requires { place ≤ 64 }
-{
-    let w = wire::least(receiver::STATE_WORDS, state.len());
-    let b = wire::least(receiver::NAME_BYTES, names.len());
-    let _ = open_and_payload::open(&mut state[..w], &mut names[..b], STORE);
-    words::put_word(
-        state,
-        spot(crate::number(case, place)),
-        wire::number(case, place + 8, 8),
-    );
-    words::put_word(
-        state,
-        spot(crate::number(case, place + 16)),
-        wire::number(case, place + 24, 8),
-    );
+impl Lent {
+    fn new() -> Lent {
+        Lent {
+            state: [0u64; STATE_WORDS],
+            names: [0u8; NAME_BYTES],
+            store: [0u8; STORE_BYTES],
+            ledger: [0u32; LEDGER],
+        }
+    }
+
+    // A word of the state as the case has it from a place on.
+    fn alter(&mut self, case: &[u8], place: usize)
+        requires { place ≤ 64 }
+    {
+        words::put_word(
+            &mut self.state,
+            spot(crate::number(case, place)),
+            wire::number(case, place + 8, 8),
+        );
+    }
+
+    // A fresh state, and two words of it as the case has them from a place on.
+    fn prepared(case: &[u8], place: usize) -> Lent
+        requires { place ≤ 32 }
+    {
+        let mut lent = Lent::new();
+        let _ = open_and_payload::open(
+            &mut lent.state[..state_words(1)],
+            &mut lent.names[..name_bytes(1)],
+            STORE,
+        );
+        lent.alter(case, place);
+        lent.alter(case, place + 16);
+        lent
+    }
 }
 
-fn pour_call(stdout: Stdout, out: &mut [u8], at: usize, call: Call, done: &[u8]) -> usize {
-    match call {
-        Call::Done => output::pour(stdout, out, at, done),
-        Call::Refused(n) => output::pour_counted(stdout, out, at, b"refused ", n as u64),
+pub(crate) fn pour_answer(out: &mut Output, answer: Answer) {
+    match answer {
+        Answer::Refused(refusal) => crate::pour_refused(out, refusal),
+        Answer::Kept => out.pour(b"kept"),
+        Answer::Repeat => out.pour(b"repeat"),
+        Answer::Delivered(_, n) => out.pour_counted(b"delivered ", n as u64),
     }
 }
 
 // The slot size of a store of so many bytes.
-fn opened_in(
-    stdout: Stdout,
-    out: &mut [u8],
-    at: usize,
-    case: &[u8],
-    state: &mut [u64],
-    names: &mut [u8],
-) -> usize {
-    let w = wire::least(state_words(case), state.len());
-    let b = wire::least(name_bytes(case), names.len());
-    let call = open_and_payload::open(&mut state[..w], &mut names[..b], crate::number(case, 16));
-    if let Call::Done = call {
-        return output::pour_counted(stdout, out, at, b"slot size ", words::word(state, spot(1)));
+pub(crate) fn opened(out: &mut Output, case: &[u8]) {
+    let mut lent = Lent::new();
+    let opened = open_and_payload::open(
+        &mut lent.state[..state_words(crate::number(case, 0))],
+        &mut lent.names[..name_bytes(crate::number(case, 8))],
+        crate::number(case, 16),
+    );
+    match opened {
+        Ok(()) => out.pour_counted(b"slot size ", words::word(&lent.state, spot(1))),
+        Err(refusal) => crate::pour_refused(out, refusal),
     }
-    pour_call(stdout, out, at, call, b"")
 }
 
 // What is answered to a small message over what is lent.
-fn answered(
-    case: &[u8],
-    state: &mut [u64],
-    names: &mut [u8],
-    store: &mut [u8],
-    ledger: &mut [u32],
-) -> Answer {
-    let w = wire::least(state_words(case), state.len());
-    let b = wire::least(name_bytes(case), names.len());
-    let s = wire::least(crate::number(case, 16), store.len());
-    let l = wire::least(crate::number(case, 24), ledger.len());
+pub(crate) fn received(out: &mut Output, case: &[u8]) {
+    let mut lent = Lent::prepared(case, 32);
+    let store = crate::number(case, 16).min(STORE_BYTES);
+    let ledger = crate::number(case, 24).min(LEDGER);
     let outcome = receiver::receive(
-        &mut state[..w],
-        &mut names[..b],
-        &mut store[..s],
-        &mut ledger[..l],
+        &mut lent.state[..state_words(crate::number(case, 0))],
+        &mut lent.names[..name_bytes(crate::number(case, 8))],
+        &mut lent.store[..store],
+        &mut lent.ledger[..ledger],
         0,
         b"LC02\x00\x00\x00\x07P\x00A",
     );
-    outcome.answer
-}
-
-fn pour_answer(stdout: Stdout, out: &mut [u8], at: usize, answer: Answer) -> usize {
-    match answer {
-        Answer::Refused(n) => output::pour_counted(stdout, out, at, b"refused ", n as u64),
-        Answer::Kept => output::pour(stdout, out, at, b"kept"),
-        Answer::Repeat => output::pour(stdout, out, at, b"repeat"),
-        Answer::Delivered(_, n) => output::pour_counted(stdout, out, at, b"delivered ", n as u64),
-    }
-}
-
-fn received_in(
-    stdout: Stdout,
-    out: &mut [u8],
-    at: usize,
-    case: &[u8],
-    state: &mut [u64],
-    names: &mut [u8],
-    store: &mut [u8],
-    ledger: &mut [u32],
-) -> usize {
-    prepare(case, 32, state, names);
-    let answer = answered(case, state, names, store, ledger);
-    pour_answer(stdout, out, at, answer)
+    pour_answer(out, outcome.answer);
 }
 
 // What is answered to forgetting sender 0.
-fn forgotten_in(
-    stdout: Stdout,
-    out: &mut [u8],
-    at: usize,
-    case: &[u8],
-    state: &mut [u64],
-    names: &mut [u8],
-) -> usize {
-    prepare(case, 16, state, names);
-    let w = wire::least(state_words(case), state.len());
-    let b = wire::least(name_bytes(case), names.len());
-    let call = receiver::forget(&mut state[..w], &mut names[..b], 0);
-    pour_call(stdout, out, at, call, b"done")
-}
-
-// The same over arrays that are one longer than must be.
-pub(crate) fn opened(stdout: Stdout, out: &mut [u8], at: usize, case: &[u8]) -> usize {
-    let mut state = [0u64; receiver::STATE_WORDS + 1];
-    let mut names = [0u8; receiver::NAME_BYTES + 1];
-    opened_in(stdout, out, at, case, &mut state, &mut names)
-}
-
-pub(crate) fn received(stdout: Stdout, out: &mut [u8], at: usize, case: &[u8]) -> usize {
-    let mut state = [0u64; receiver::STATE_WORDS + 1];
-    let mut names = [0u8; receiver::NAME_BYTES + 1];
-    let mut store = [0u8; 2 * STORE];
-    let mut ledger = [0u32; receiver::LEDGER + 1];
-    received_in(
-        stdout,
-        out,
-        at,
-        case,
-        &mut state,
-        &mut names,
-        &mut store,
-        &mut ledger,
-    )
-}
-
-pub(crate) fn forgotten(stdout: Stdout, out: &mut [u8], at: usize, case: &[u8]) -> usize {
-    let mut state = [0u64; receiver::STATE_WORDS + 1];
-    let mut names = [0u8; receiver::NAME_BYTES + 1];
-    forgotten_in(stdout, out, at, case, &mut state, &mut names)
+pub(crate) fn forgotten(out: &mut Output, case: &[u8]) {
+    let mut lent = Lent::prepared(case, 16);
+    let forgot = receiver::forget(
+        &mut lent.state[..state_words(crate::number(case, 0))],
+        &mut lent.names[..name_bytes(crate::number(case, 8))],
+        0,
+    );
+    match forgot {
+        Ok(()) => out.pour(b"done"),
+        Err(refusal) => crate::pour_refused(out, refusal),
+    }
 }

@@ -4,9 +4,19 @@
 // message comes.
 ghost use Rattle.std.specs.Prelude.{◌≤◌};
 
+use output::Output;
 use receiver::Outcome;
-use std::io::Stdout;
 use steps::{Answer, Emptied, PayloadAt};
+
+// What is lent to the receiver, and the datagram that comes.
+#[derive(Drop)]
+struct Tied {
+    state: [u64; receiver::STATE_WORDS],
+    names: [u8; receiver::NAME_BYTES],
+    store: [u8; 64],
+    ledger: [u32; receiver::LEDGER],
+    d: [u8; 23],
+}
 
 // A small message of one byte, of the name P. Answers its length.
 fn small(d: &mut [u8], sequence: u64) -> usize {
@@ -32,141 +42,100 @@ fn fragment(d: &mut [u8], sequence: u64, k: u64, n: u64) -> usize {
     21
 }
 
-// The eight messages are opened, one in each slot.
-fn open_all(
-    state: &mut [u64],
-    names: &mut [u8],
-    store: &mut [u8],
-    ledger: &mut [u32],
-    d: &mut [u8],
-) {
-    let _ = open_and_payload::open(state, names, store.len());
-    let mut i: u64 = 0;
-    while i < 8 {
-        let n = fragment(d, i, 0, 2);
-        let _ = receiver::receive(state, names, store, ledger, 0, wire::part(d, 0, n));
-        i += 1;
-    }
-}
-
 // The word of a state that a case names from a place on.
 fn spot(case: &[u8], place: usize) -> usize
     requires { place ≤ 72 }
 {
     let slot = crate::number(case, place);
     if slot < slots::SLOTS {
-        return slots::HEAD
-            + slots::BLOCK * slot
-            + wire::least(crate::number(case, place + 8), slots::TURN);
+        return slots::HEAD + slots::BLOCK * slot + crate::number(case, place + 8).min(slots::TURN);
     }
     if slot == 9 {
-        return receiver_state::MEMORY + wire::least(crate::number(case, place + 8), memory::WORDS);
+        return receiver_state::MEMORY + crate::number(case, place + 8).min(memory::WORDS);
     }
     receiver::STATE_WORDS
 }
 
-// The four words as the case has them.
-fn alter(case: &[u8], state: &mut [u64]) {
-    let mut i: usize = 0;
-    while i < 4 {
-        let place = 24 * i;
-        words::put_word(state, spot(case, place), wire::number(case, place + 16, 8));
-        i += 1;
-    }
-}
-
-fn pour_delivered(stdout: Stdout, out: &mut [u8], at: usize, place: PayloadAt, n: usize) -> usize {
-    let next = output::pour_counted(stdout, out, at, b"delivered ", n as u64);
-    match place {
-        PayloadAt::InDatagram(p) => output::pour_counted(
-            stdout,
-            out,
-            next,
-            b" datagram ",
-            p as u64,
-        ),
-        PayloadAt::InStore(p) => output::pour_counted(stdout, out, next, b" store ", p as u64),
-    }
-}
-
-fn pour_answer(stdout: Stdout, out: &mut [u8], at: usize, answer: Answer) -> usize {
-    match answer {
-        Answer::Refused(n) => output::pour_counted(stdout, out, at, b"refused ", n as u64),
-        Answer::Kept => output::pour(stdout, out, at, b"kept"),
-        Answer::Repeat => output::pour(stdout, out, at, b"repeat"),
-        Answer::Delivered(place, n) => pour_delivered(stdout, out, at, place, n),
-    }
-}
-
-fn pour_emptied(stdout: Stdout, out: &mut [u8], at: usize, emptied: Emptied) -> usize {
-    match emptied {
-        Emptied::Nobody => at,
-        Emptied::Was(key) => output::pour_counted(stdout, out, at, b" emptied ", key.sequence),
-    }
-}
-
-fn pour_outcome(stdout: Stdout, out: &mut [u8], at: usize, outcome: Outcome) -> usize {
-    let answer = outcome.answer;
-    let emptied = outcome.emptied;
-    let next = pour_answer(stdout, out, at, answer);
-    pour_emptied(stdout, out, next, emptied)
-}
-
 // What comes, by the case.
-fn coming(case: &[u8], d: &mut [u8]) -> usize {
-    let n = wire::number(case, 112, 8);
-    if n == 0 {
-        return small(d, wire::number(case, 96, 8));
+fn coming(d: &mut [u8], case: &[u8]) -> usize {
+    let sequence = wire::number(case, 96, 8);
+    match wire::number(case, 112, 8) {
+        0 => small(d, sequence),
+        n => fragment(d, sequence, wire::number(case, 104, 8), n),
     }
-    fragment(d, wire::number(case, 96, 8), wire::number(case, 104, 8), n)
 }
 
-// The case's datagram is received.
-fn received(
-    case: &[u8],
-    state: &mut [u64],
-    names: &mut [u8],
-    store: &mut [u8],
-    ledger: &mut [u32],
-    d: &mut [u8],
-) -> Outcome {
-    let n = coming(case, d);
-    receiver::receive(state, names, store, ledger, 0, wire::part(d, 0, n))
+impl Tied {
+    // A fresh receiver.
+    fn new() -> Tied {
+        let mut tied = Tied {
+            state: [0u64; receiver::STATE_WORDS],
+            names: [0u8; receiver::NAME_BYTES],
+            store: [0u8; 64],
+            ledger: [0u32; receiver::LEDGER],
+            d: [0u8; 23],
+        };
+        let _ = open_and_payload::open(&mut tied.state, &mut tied.names, 64);
+        tied
+    }
+
+    // The first n bytes of the datagram are received.
+    fn receive(&mut self, n: usize) -> Outcome {
+        receiver::receive(
+            &mut self.state,
+            &mut self.names,
+            &mut self.store,
+            &mut self.ledger,
+            0,
+            wire::part(&self.d, 0, n),
+        )
+    }
+
+    // The eight messages are opened, one in each slot.
+    fn open_all(&mut self) {
+        for i in 0..8 {
+            let n = fragment(&mut self.d, i, 0, 2);
+            let _ = self.receive(n);
+        }
+    }
+
+    // The four words as the case has them.
+    fn alter(&mut self, case: &[u8]) {
+        for i in 0..4usize {
+            let place = 24 * i;
+            words::put_word(
+                &mut self.state,
+                spot(case, place),
+                wire::number(case, place + 16, 8),
+            );
+        }
+    }
 }
 
-// What is answered to it over such a state.
-fn answered_in(
-    stdout: Stdout,
-    out: &mut [u8],
-    at: usize,
-    case: &[u8],
-    state: &mut [u64],
-    names: &mut [u8],
-    store: &mut [u8],
-    ledger: &mut [u32],
-    d: &mut [u8],
-) -> usize {
-    open_all(state, names, store, ledger, d);
-    alter(case, state);
-    let outcome = received(case, state, names, store, ledger, d);
-    pour_outcome(stdout, out, at, outcome)
+fn pour_delivered(out: &mut Output, place: PayloadAt, n: usize) {
+    out.pour_counted(b"delivered ", n as u64);
+    match place {
+        PayloadAt::InDatagram(p) => out.pour_counted(b" datagram ", p as u64),
+        PayloadAt::InStore(p) => out.pour_counted(b" store ", p as u64),
+    }
 }
 
-pub(crate) fn answered(stdout: Stdout, out: &mut [u8], at: usize, case: &[u8]) -> usize {
-    let mut state = [0u64; receiver::STATE_WORDS];
-    let mut names = [0u8; receiver::NAME_BYTES];
-    let mut store = [0u8; 64];
-    let mut ledger = [0u32; receiver::LEDGER];
-    let mut d = [0u8; 23];
-    answered_in(
-        stdout,
-        out,
-        at,
-        case,
-        &mut state,
-        &mut names,
-        &mut store,
-        &mut ledger,
-        &mut d,
-    )
+fn pour_outcome(out: &mut Output, answer: Answer, emptied: Emptied) {
+    match answer {
+        Answer::Delivered(place, n) => pour_delivered(out, place, n),
+        _ => crate::lent::pour_answer(out, answer),
+    }
+    if let Emptied::Was(key) = emptied {
+        out.pour_counted(b" emptied ", key.sequence);
+    }
+}
+
+// What is answered to the case's datagram over such a state.
+pub(crate) fn answered(out: &mut Output, case: &[u8]) {
+    let mut tied = Tied::new();
+    tied.open_all();
+    tied.alter(case);
+    let n = coming(&mut tied.d, case);
+    let outcome = tied.receive(n);
+    pour_outcome(out, outcome.answer, outcome.emptied);
 }

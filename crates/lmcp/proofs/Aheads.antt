@@ -1,6 +1,6 @@
 -- The walks that write: what is not refused as a whole is refused nowhere, and what is laid of each part is laid of the whole. Assumes nothing.
 use Rattle.wire.proofs.Basics.{◌∙◌, sym, ◌≡◌, ap, refl, subst, ℕ, ◌≤◌, ◌+◌, ◌<◌, ◌-◌, List, [], ◌++◌, length, drop, length-append, sets, arith}
-use Rattle.lmcp.specs.declared.Went.TheVariants.{To}
+use Rattle.lmcp.specs.InsideEnds.{went}
 use Rattle.lmcp.specs.Run.{Run, got, Tag, tag, and_then, after}
 use Rattle.lmcp.specs.Table.{Table, fields_of}
 use Rattle.lmcp.specs.Walk.{Way, fields, object}
@@ -19,7 +19,7 @@ module _ {A B : Type 0} where
   ahead_more l m h = record { ys = h.ys; rest = h.rest; is = h.is; fits = omega (arith, h.fits); small = m }
 
   pub laid_as : {X Y : Run A B} {s : List A} {out : List B} {q : ℕ} (p' q' : ℕ) (out' : List B) → Y ≡ X → Lays s out q X p' q' out' → Lays s out q Y p' q' out'
-  laid_as {X} {Y} {s} {out} {q} p' q' out' e g = same-run Few0 s out q (To p' q') out' e g
+  laid_as {X} {Y} {s} {out} {q} p' q' out' e g = same-run Few0 s out q (went p' q') out' e g
 
   -- one part and then another
   module _ (Y : Run A B) (k : List A → Run A B) {q room : ℕ} (h : Ahead (and_then Y k) q room) where
@@ -53,7 +53,7 @@ module _ {A B : Type 0} where
         (omega (arith, h.fits, z), record { ys = t.more; rest = h.rest; is = sym y ∙ t.then; fits = omega (arith, h.fits, z); small = h.small })
 
     pub after-laid : {q : ℕ} {out o1 : List B} {q1 : ℕ} → p ≤ length s → o1 ≡ sets out q ys → q1 ≡ q + length ys → (p' q' : ℕ) (out' : List B) → Lays s o1 q1 (k n (drop p s)) p' q' out' → Lays s out q (after X k) p' q' out'
-    after-laid w o f p' q' out' g = marked-then {Few = Few0} (record { ys = ys; whole = e; laid = o; place = f; fewer = tt; within = w }) k (To p' q') out' g
+    after-laid w o f p' q' out' g = marked-then {Few = Few0} (record { ys = ys; whole = e; laid = o; place = f; fewer = tt; within = w }) k (went p' q') out' g
 
 -- ---- an object of a declared type t at a place
 

@@ -6,10 +6,8 @@ use Rattle.wire.specs.Bytes.{Bytes}
 use Rattle.wire.specs.Overlay.{overlay}
 use Rattle.wire.proofs.Overlays.{overlay-at}
 use Rattle.wire.proofs.Parts.{front_of}
-use Rattle.lmcp.specs.declared.Found.{Found}
-use Rattle.lmcp.specs.declared.Found.TheVariants.{Numbers, Refused as Unread}
-use Rattle.lmcp.specs.declared.Made.{Made}
-use Rattle.lmcp.specs.declared.Made.TheVariants.{Bytes as Wrote, Refused as Unwritten}
+use Rattle.lmcp.specs.Found.{Found, Numbers, Refused as Unread}
+use Rattle.lmcp.specs.Made.{Made, Bytes as Wrote, Refused as Unwritten}
 use Rattle.lmcp.specs.Run.{got, refused}
 use Rattle.lmcp.specs.Table.{Table, Sound}
 use Rattle.lmcp.specs.Read.{Read}

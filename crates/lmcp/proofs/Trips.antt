@@ -8,7 +8,7 @@ use Rattle.wire.specs.Same.{same}
 use Rattle.wire.proofs.Choices.{or_l, or_r}
 use Rattle.wire.proofs.Parts.{same_true}
 use Rattle.wire.proofs.Numbers.{length-bytes, be-bytes, be-lt, bytes-be}
-use Rattle.lmcp.specs.declared.Found.TheVariants.{Numbers}
+use Rattle.lmcp.specs.Found.{Numbers}
 use Rattle.lmcp.specs.Limits.{max_message, magic}
 use Rattle.lmcp.specs.Run.{Run, got, refused, whole}
 use Rattle.lmcp.specs.Table.{Table, Sound}

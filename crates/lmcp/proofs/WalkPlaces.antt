@@ -5,14 +5,14 @@ use native.Mathlib.Nat.{add-zero, le_antisymm}
 use lib.Seq.{slice-cons, slice_empty}
 use Rattle.lmcp.specs.declared.Row.{Row}
 use Rattle.lmcp.specs.Limits.{deepest}
-use Rattle.lmcp.specs.declared.Went.{Went}
-use Rattle.lmcp.specs.declared.Went.TheVariants.{To, Stopped}
-use Rattle.lmcp.specs.declared.Mark.{Mark}
-use Rattle.lmcp.specs.declared.Mark.TheVariants.{Of, Bad}
+use Rattle.std.proofs.Common.{Result, Ok, Err}
+use Rattle.refusals.specs.declared.Refusal.{Refusal}
+use Rattle.refusals.specs.Numbers.{number_of}
+use Rattle.lmcp.specs.declared.Spot.{Spot}
 use Rattle.lmcp.specs.Run.{Run, got, refused, Tag, tag, bad, prepend, and_then, after, repeat, whole}
 use Rattle.lmcp.specs.Table.{object_kind, Table, fields_of, nothing}
 use Rattle.lmcp.specs.Walk.{Way, item, field, fields, is_null, object, root}
-use Rattle.lmcp.specs.InsideEnds.{begun, Sofar, EndsBy, Marked, MarksBy}
+use Rattle.lmcp.specs.InsideEnds.{went, marks, begun, Sofar, EndsBy, Marked, MarksBy}
 
 pub sets-append : {B : Type 0} (l : List B) (i : ℕ) (a b : List B) → sets l i (a ++ b) ≡ sets (sets l i a) (i + length a) b
 sets-append l i [] b = rw add-zero
@@ -32,18 +32,18 @@ module _ {A B : Type 0} where
   prepend-append a b (refused n) = refl
 
   -- another name for the same run
-  pub same-run : (Few : ℕ → ℕ → Type 0) (s : List A) (out : List B) (to : ℕ) {X Y : Run A B} (r : Went) (out' : List B) → Y ≡ X → EndsBy Few (begun s out to) X r out' → EndsBy Few (begun s out to) Y r out'
+  pub same-run : (Few : ℕ → ℕ → Type 0) (s : List A) (out : List B) (to : ℕ) {X Y : Run A B} (r : Result Spot Refusal) (out' : List B) → Y ≡ X → EndsBy Few (begun s out to) X r out' → EndsBy Few (begun s out to) Y r out'
   same-run Few s out to r out' e h = subst (λ (X : Run A B). EndsBy Few (begun s out to) X r out') (sym e) h
 
   module _ {Few : ℕ → ℕ → Type 0} {s : List A} where
     -- a leaf made ys
     pub made : {X : Run A B} {out out' : List B} {to : ℕ} (ys : List B) (at' to' : ℕ) → X ≡ got ys (drop at' s) → out' ≡ sets out to ys → to' ≡ to + length ys → Few to' at' → at' ≤ length s
-        → EndsBy Few (begun s out to) X (To at' to') out'
+        → EndsBy Few (begun s out to) X (went at' to') out'
     unfolding prepend
     made ys at' to' e o p f w = record { ys = ys; whole = e ∙ ap (λ (l : List B). got l (drop at' s)) (sym (append-nil ys)); laid = o; place = p; fewer = f; within = w }
 
     pub marked : {X : Tag A B} {out out' : List B} {to : ℕ} (n : ℕ) (ys : List B) (at' to' : ℕ) → X ≡ tag n ys (drop at' s) → out' ≡ sets out to ys → to' ≡ to + length ys → Few to' at' → at' ≤ length s
-        → MarksBy Few (begun s out to) X (Of n at' to') out'
+        → MarksBy Few (begun s out to) X (marks n at' to') out'
     marked n ys at' to' e o p f w = record { ys = ys; whole = e; laid = o; place = p; fewer = f; within = w }
 
     -- a walk begins
@@ -74,25 +74,25 @@ module _ {A B : Type 0} where
       next-stops rest' n e g = h.whole ∙ ap (prepend h.ys) (e ∙ ap (λ (Y : Run A B). and_then Y rest') g)
 
       -- nothing is left to do
-      pub ends : rest (drop at s) ≡ got [] (drop at s) → EndsBy Few (begun s o0 t0) X (To at to) out
+      pub ends : rest (drop at s) ≡ got [] (drop at s) → EndsBy Few (begun s o0 t0) X (went at to) out
       ends e = record { ys = h.ys; whole = h.whole ∙ ap (prepend h.ys) e; laid = h.laid; place = h.place; fewer = h.fewer; within = h.within }
 
     -- after a count or a type
     module _ {X : Tag A B} {n at to t0 : ℕ} {o0 out : List B} (h : Marked Few (begun s o0 t0) X n at to out) (k : ℕ → List A → Run A B) where
-      pub marked-then : (r : Went) (out' : List B) → EndsBy Few (begun s out to) (k n (drop at s)) r out' → EndsBy Few (begun s o0 t0) (after X k) r out'
+      pub marked-then : (r : Result Spot Refusal) (out' : List B) → EndsBy Few (begun s out to) (k n (drop at s)) r out' → EndsBy Few (begun s o0 t0) (after X k) r out'
       unfolding prepend after
-      marked-then (Stopped m) out' g = ap (λ (Y : Tag A B). after Y k) h.whole ∙ ap (prepend h.ys) g
-      marked-then (To a t) out' g =
+      marked-then (Err m) out' g = ap (λ (Y : Tag A B). after Y k) h.whole ∙ ap (prepend h.ys) g
+      marked-then (Ok y) out' g =
           record {
             ys = h.ys ++ g.ys;
-            whole = ap (λ (Y : Tag A B). after Y k) h.whole ∙ ap (prepend h.ys) g.whole ∙ sym (prepend-append h.ys g.ys (got [] (drop a s)));
+            whole = ap (λ (Y : Tag A B). after Y k) h.whole ∙ ap (prepend h.ys) g.whole ∙ sym (prepend-append h.ys g.ys (got [] (drop y.p s)));
             laid = cc (sets-append o0 t0 h.ys g.ys, h.laid, h.place, g.laid);
             place = simp length-append (omega (arith, h.place, g.place));
             fewer = g.fewer;
             within = g.within;
           }
 
-      pub marked-end : k n (drop at s) ≡ got [] (drop at s) → EndsBy Few (begun s o0 t0) (after X k) (To at to) out
+      pub marked-end : k n (drop at s) ≡ got [] (drop at s) → EndsBy Few (begun s o0 t0) (after X k) (went at to) out
       unfolding after
       marked-end e =
           record { ys = h.ys; whole = ap (λ (Y : Tag A B). after Y k) h.whole ∙ ap (prepend h.ys) e; laid = h.laid; place = h.place; fewer = h.fewer; within = h.within }
@@ -168,38 +168,38 @@ module _ {A B : Type 0} (W : Way A B) (T : Table) where
 
 module _ {A B : Type 0} (Few : ℕ → ℕ → Type 0) {s : List A} {o0 : List B} {t0 : ℕ} {X : Run A B} where
   module _ (f : List A → Run A B) (n k : ℕ) {p q : ℕ} {out : List B} (h : Sofar Few (begun s o0 t0) X (repeat (n - k) f) p q out) where
-    module _ (more : k < n) (r : Went) (out' : List B) (g : EndsBy Few (begun s out q) (f (drop p s)) r out') where
-      pub items-turn : (a t : ℕ) → r ≡ To a t → Sofar Few (begun s o0 t0) X (repeat (n - (k + 1)) f) a t out'
-      items-turn a t e = next h (repeat (n - (k + 1)) f) (repeat-more f (drop p s) n k more) (subst (λ (w : Went). EndsBy Few (begun s out q) (f (drop p s)) w out') e g)
+    module _ (more : k < n) (r : Result Spot Refusal) (out' : List B) (g : EndsBy Few (begun s out q) (f (drop p s)) r out') where
+      pub items-turn : (y : Spot) → r ≡ Ok y → Sofar Few (begun s o0 t0) X (repeat (n - (k + 1)) f) y.p y.q out'
+      items-turn y e = next h (repeat (n - (k + 1)) f) (repeat-more f (drop p s) n k more) (subst (λ (w : Result Spot Refusal). EndsBy Few (begun s out q) (f (drop p s)) w out') e g)
 
-      pub items-stop : (m : ℕ) → r ≡ Stopped m → X ≡ refused m
-      items-stop m e = next-stops h (repeat (n - (k + 1)) f) m (repeat-more f (drop p s) n k more) (subst (λ (w : Went). EndsBy Few (begun s out q) (f (drop p s)) w out') e g)
+      pub items-stop : (m : Refusal) → r ≡ Err m → X ≡ refused (number_of m)
+      items-stop m e = next-stops h (repeat (n - (k + 1)) f) (number_of m) (repeat-more f (drop p s) n k more) (subst (λ (w : Result Spot Refusal). EndsBy Few (begun s out q) (f (drop p s)) w out') e g)
 
-    pub items-end : n ≤ k → EndsBy Few (begun s o0 t0) X (To p q) out
+    pub items-end : n ≤ k → EndsBy Few (begun s o0 t0) X (went p q) out
     items-end l = ends h (repeat-end f (drop p s) n k l)
 
   module _ (W : Way A B) (obj : ℕ → List A → Run A B) (rows : List Row) (i e : ℕ) {p q : ℕ} {out : List B} (h : Sofar Few (begun s o0 t0) X (fields W obj (slice i e rows)) p q out) where
-    module _ (more : i < e) (inside : e ≤ length rows) (r : Went) (out' : List B) (g : EndsBy Few (begun s out q) (field W obj (get_or rows i nothing) (drop p s)) r out') where
-      pub fields-turn : (a t : ℕ) → r ≡ To a t → Sofar Few (begun s o0 t0) X (fields W obj (slice (i + 1) e rows)) a t out'
-      fields-turn a t c =
+    module _ (more : i < e) (inside : e ≤ length rows) (r : Result Spot Refusal) (out' : List B) (g : EndsBy Few (begun s out q) (field W obj (get_or rows i nothing) (drop p s)) r out') where
+      pub fields-turn : (y : Spot) → r ≡ Ok y → Sofar Few (begun s o0 t0) X (fields W obj (slice (i + 1) e rows)) y.p y.q out'
+      fields-turn y c =
           next h (fields W obj (slice (i + 1) e rows)) (fields-more W obj rows i e (drop p s) more inside)
-          (subst (λ (w : Went). EndsBy Few (begun s out q) (field W obj (get_or rows i nothing) (drop p s)) w out') c g)
+          (subst (λ (w : Result Spot Refusal). EndsBy Few (begun s out q) (field W obj (get_or rows i nothing) (drop p s)) w out') c g)
 
-      pub fields-stop : (m : ℕ) → r ≡ Stopped m → X ≡ refused m
+      pub fields-stop : (m : Refusal) → r ≡ Err m → X ≡ refused (number_of m)
       fields-stop m c =
-          next-stops h (fields W obj (slice (i + 1) e rows)) m (fields-more W obj rows i e (drop p s) more inside)
-          (subst (λ (w : Went). EndsBy Few (begun s out q) (field W obj (get_or rows i nothing) (drop p s)) w out') c g)
+          next-stops h (fields W obj (slice (i + 1) e rows)) (number_of m) (fields-more W obj rows i e (drop p s) more inside)
+          (subst (λ (w : Result Spot Refusal). EndsBy Few (begun s out q) (field W obj (get_or rows i nothing) (drop p s)) w out') c g)
 
-    pub fields-done : e ≤ i → i ≤ e → EndsBy Few (begun s o0 t0) X (To p q) out
+    pub fields-done : e ≤ i → i ≤ e → EndsBy Few (begun s o0 t0) X (went p q) out
     fields-done l u = ends h (fields-end W obj rows i e (drop p s) l u)
 
 module _ {A B : Type 0} (Few : ℕ → ℕ → Type 0) (s : List A) (o0 : List B) (t0 : ℕ) where
   -- what a count or a head gave
-  pub mark-stop : {X : Tag A B} (r : Mark) (out : List B) → MarksBy Few (begun s o0 t0) X r out → (m : ℕ) → r ≡ Bad m → X ≡ bad m
-  mark-stop {X} r out g m e = subst (λ (w : Mark). MarksBy Few (begun s o0 t0) X w out) e g
+  pub mark-stop : {X : Tag A B} (r : Result (ℕ × Spot) Refusal) (out : List B) → MarksBy Few (begun s o0 t0) X r out → (m : Refusal) → r ≡ Err m → X ≡ bad (number_of m)
+  mark-stop {X} r out g m e = subst (λ (w : Result (ℕ × Spot) Refusal). MarksBy Few (begun s o0 t0) X w out) e g
 
-  pub mark_on : {X : Tag A B} (r : Mark) (out : List B) → MarksBy Few (begun s o0 t0) X r out → (n a t : ℕ) → r ≡ Of n a t → Marked Few (begun s o0 t0) X n a t out
-  mark_on {X} r out g n a t e = subst (λ (w : Mark). MarksBy Few (begun s o0 t0) X w out) e g
+  pub mark_on : {X : Tag A B} (r : Result (ℕ × Spot) Refusal) (out : List B) → MarksBy Few (begun s o0 t0) X r out → (n : ℕ) (y : Spot) → r ≡ Ok (n, y) → Marked Few (begun s o0 t0) X n y.p y.q out
+  mark_on {X} r out g n y e = subst (λ (w : Result (ℕ × Spot) Refusal). MarksBy Few (begun s o0 t0) X w out) e g
 
 -- ---- a root
 

@@ -7,6 +7,8 @@ pub mod Walk
 pub mod Value
 pub mod Read
 pub mod Write
+pub mod Found
+pub mod Made
 pub mod Message
 pub mod Lists
 pub mod InsideEnds

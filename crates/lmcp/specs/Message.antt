@@ -6,10 +6,8 @@ use Rattle.wire.specs.Bytes.{be, bytes}
 use Rattle.wire.specs.Sum.{sum}
 use Rattle.wire.specs.Same.{same}
 use Rattle.wire.specs.Overlay.{overlay}
-use Rattle.lmcp.specs.declared.Found.{Found}
-use Rattle.lmcp.specs.declared.Found.TheVariants.{Numbers, Refused as Unread}
-use Rattle.lmcp.specs.declared.Made.{Made}
-use Rattle.lmcp.specs.declared.Made.TheVariants.{Bytes, Refused as Unwritten}
+use Rattle.lmcp.specs.Found.{Found, Numbers, Refused as Unread}
+use Rattle.lmcp.specs.Made.{Made, Bytes, Refused as Unwritten}
 use Rattle.lmcp.specs.Limits.{max_message, magic}
 use Rattle.lmcp.specs.Run.{got, refused, whole}
 use Rattle.lmcp.specs.Table.{Table}

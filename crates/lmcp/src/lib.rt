@@ -1,4 +1,4 @@
-// Survey messages: the message table of series PITSURV, and what the reader and the writer answer.
+// Survey messages: the message table of series PITSURV.
 #![tactic(auto)]
 
 ghost use Rattle.std.specs.Prelude.{◌≡◌, ◌-◌, ◌*◌, ◌^◌, ◌<◌, min, get_or};
@@ -40,32 +40,11 @@ pub const CHAR_KIND: u8 = 3;
 
 pub const OBJECT_KIND: u8 = 4;
 
-// Where a walk stands: its place in what it reads and in what it writes; or the number of the refusal.
+// Where a walk stands: its place in what it reads, and its place in what it writes.
 #[derive(Clone, Copy)]
-pub enum Went {
-    To(usize, usize),
-    Stopped(u32),
-}
-
-// A count or a type on the way, and the two places after it; or the number of the refusal.
-#[derive(Clone, Copy)]
-pub enum Mark {
-    Of(usize, usize, usize),
-    Bad(u32),
-}
-
-// What the reader answers: how many numbers the list now begins with, or the number of the refusal.
-#[derive(Clone, Copy)]
-pub enum Found {
-    Numbers(usize),
-    Refused(u32),
-}
-
-// What the writer answers: how many bytes the output now begins with, or the number of the refusal.
-#[derive(Clone, Copy)]
-pub enum Made {
-    Bytes(usize),
-    Refused(u32),
+pub struct Spot {
+    pub p: usize,
+    pub q: usize,
 }
 
 // What stands past the last row.
@@ -302,6 +281,25 @@ pub fn table(version: u64) -> [[u8; 8]; 22]
         return SECOND;
     }
     FIRST
+}
+
+// The table of a version, as the walks go by it.
+#[derive(Drop)]
+pub struct Packed {
+    pub rows: [[u8; 8]; 22],
+    pub version: u64,
+    ghost packed: { rows ≡ packed_of version },
+}
+
+impl Packed {
+    pub fn of(version: u64) -> Packed
+        ensures { result.version ≡ version }
+    {
+        Packed {
+            rows: table(version),
+            version,
+        }
+    }
 }
 
 // A byte of a table. It stands in the four crates that walk the table too: a public function asks nothing of its caller, so one for all of them would

@@ -3,8 +3,7 @@ use Rattle.wire.proofs.Basics.{◌∙◌, ◌≡◌, ap, refl, ℕ, ◌≤◌, �
 use Rattle.wire.specs.Choice.{pick}
 use Rattle.wire.specs.Overlay.{overlay}
 use Rattle.wire.proofs.Overlays.{overlay-at}
-use Rattle.lmcp.specs.declared.Made.{Made}
-use Rattle.lmcp.specs.declared.Made.TheVariants.{Bytes, Refused}
+use Rattle.lmcp.specs.Made.{Made, Bytes, Refused}
 use Rattle.lmcp.specs.Run.{got, refused}
 use Rattle.lmcp.specs.Write.{Write}
 use Rattle.lmcp.specs.Message.{made, written, WrittenTo}

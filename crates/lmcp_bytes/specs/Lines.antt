@@ -5,15 +5,20 @@ use Rattle.wire.specs.Choice.{pick, ◌when◌else◌}
 use Rattle.wire.specs.Text.{ascii}
 use Rattle.wire.specs.Bytes.{be}
 use Rattle.wire.specs.Signed.{signed}
-use Rattle.lmcp.specs.declared.Made.{Made}
+use Rattle.lmcp.specs.Made.{Made}
 use Rattle.lmcp.specs.Run.{got, refused}
 use Rattle.lmcp.specs.Write.{Write}
 use Rattle.lmcp.specs.Message.{WrittenTo}
 use Rattle.lmcp.specs.Lists.{write_list}
 use Rattle.text.specs.Text.{decimal, hex}
-use Rattle.output.specs.Output.{Pours}
+use Rattle.output.specs.declared.Output.{Output}
+use Rattle.output.specs.Output.{Adds}
 use Rattle.record_lines.specs.Streams.{Rec, Stream, numbers_in}
 use Rattle.record_lines.specs.Lines.{lines_of}
+
+-- the numbers that the program holds
+abbrev pub list_limit : ℕ
+list_limit = 262_144
 
 -- in two's complement
 abbrev pub numbers_of : ℕ → List ℕ → List ℤ
@@ -48,19 +53,21 @@ list_text most room calculate body =
     longer_text most when ltb most (length body / 8) else
     write_text room (write_list calculate (numbers_of (length body / 8) body))
 
+abbrev pub list_line : ℕ → ℕ → ℕ → Bool → List ℕ → List ℕ
+list_line most room n calculate body = decimal n ++ list_text most room calculate body
+
 -- line n, of a record
 abbrev pub line : ℕ → ℕ → ℕ → Rec → List ℕ
-line most room n x = decimal n ++ list_text most room (calculated x.head) x.body
+line most room n x = list_line most room n (calculated x.head) x.body
 
 -- of all records, with the last line
 abbrev pub lines : ℕ → ℕ → Stream → List ℕ
 lines most room = lines_of (line most room)
 
--- what the program holds: the number list, the message's bytes, and the output
+-- what the program holds: the number list and the message's bytes
 pub record Holds : Type 0 where
   pub list : List ℤ
   pub bytes : List ℕ
-  pub out : List ℕ
 
 -- The list that a body holds was written as a message.
 pub record Made' (calculate : Bool) (body : List ℕ) (h h' : Holds) : Type 0 where
@@ -78,6 +85,6 @@ by_length true calculate body h h' = Longer h h'
 by_length false calculate body h h' = Made' calculate body h h'
 
 -- So of a record, and line n gives the message's bytes or its refusal, or says that the list is longer.
-pub record Written (calculate : Bool) (body : List ℕ) (n : ℕ) (h : Holds) (at : ℕ) (h' : Holds) (r : ℕ) : Type 0 where
+pub record Written (calculate : Bool) (body : List ℕ) (n : ℕ) (h : Holds) (out : Output) (h' : Holds) (out' : Output) : Type 0 where
   pub held : by_length (ltb (length h.list) (length body / 8)) calculate body h h'
-  pub said : Pours h.out at (decimal n ++ list_text (length h.list) (length h.bytes) calculate body) h'.out r
+  pub said : Adds out (list_line (length h.list) (length h.bytes) n calculate body) out'

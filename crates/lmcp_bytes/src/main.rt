@@ -1,21 +1,25 @@
 // Survey messages from lists of numbers. Standard input holds lists, each as one byte (0: leave the checksum zero, else calculate it), a
 // 4-byte big-endian count and that many 8-byte big-endian two's-complement numbers; a line gives the bytes of each, or its refusal, or says
 // that the list is longer than the program holds.
-#![tactic(auto)]
+#![tactic(auto, using(output::proofs::Adding::adds_then))]
 
-ghost use Rattle.std.specs.Prelude.{◌≡◌, ◌/◌, ◌≤◌, length, take};
+ghost use Rattle.std.specs.Prelude.{◌≡◌, ◌/◌, ◌≤◌, length};
 ghost use Rattle.std.proofs.lemmas.List.Edits.{sets};
 ghost use Rattle.wire.specs.Slices.{buffer};
 ghost use Rattle.wire.specs.Signed.{signed};
 ghost use Rattle.stream.specs.declared.Kind.TheVariants.{Numbers};
-ghost use Rattle.output.specs.Output.{Pours, line_limit};
-ghost use Rattle.record_lines.specs.Lines.{Tells};
-ghost use Rattle.lmcp_bytes.specs.Lines.{numbers_of, calculated, longer_text, Written, lines};
-ghost use Rattle.lmcp_bytes.specs.Inside.{holds_before, holds_after, made_text};
+ghost use Rattle.output.specs.Output.{Adds, line_limit};
+ghost use Rattle.record_lines.specs.Lines.{Tells, each};
+ghost use Rattle.lmcp.specs.Limits.{max_message};
+ghost use Rattle.lmcp.specs.Made.{made_told};
+ghost use Rattle.lmcp_bytes.specs.Lines.{numbers_of, calculated, list_limit, list_line, longer_text, Written, line, lines};
+ghost use Rattle.lmcp_bytes.specs.Inside.{holds, made_text};
 
-use lmcp::Made;
+use output::Output;
+use record_lines::Teller;
+use refusals::Refusal;
 use std::io::{Stdin, Stdout};
-use stream::{Input, Kind, Next};
+use stream::{Input, Kind};
 
 // The numbers that the program holds.
 const NUMBERS: usize = 262144;
@@ -27,12 +31,7 @@ const BUFFER: usize = 8 * NUMBERS + 256;
 fn signed_of(u: u64) -> i64
     ensures { result ≡ signed 64 u }
 {
-    if u < 9223372036854775808 {
-        return u as i64;
-    }
-    let k = 18446744073709551615 - u;
-    let m = k as i64;
-    -1 - m
+    u.cast_signed()
 }
 
 // The numbers of a record's body, which the list holds.
@@ -41,21 +40,11 @@ fn take_list(body: &[u8], list: &mut [i64]) -> usize
     ensures { (result ≡ length body.now / 8) × (list.new ≡ sets list.old 0 (numbers_of (length body.now / 8) body.now)) }
 {
     let n = body.len() / 8;
-    let mut i: usize = 0;
-    while i < n {
+    for i in 0..n {
         let z = signed_of(wire::number(body, 8 * i, 8));
         list[i] = z;
-        i += 1;
     }
     n
-}
-
-// The first n numbers of a list.
-fn front(list: &[i64], n: usize) -> &[i64]
-    ensures { result.now ≡ take n list.now }
-{
-    let k = wire::least(n, list.len());
-    &list[..k]
 }
 
 // The byte before the count says whether to calculate.
@@ -65,46 +54,69 @@ fn calculates(head: &[u8]) -> bool
     wire::number(head, 0, 1) != 0
 }
 
-fn pour_longer(stdout: Stdout, out: &mut [u8], at: usize, n: usize) -> usize
-    ensures { Pours out.old at (longer_text n) out.new result }
+fn pour_longer(out: &mut Output, n: usize)
+    ensures { Adds out.old (longer_text n) out.new }
 {
-    let next = output::pour_counted(stdout, out, at, b" longer than ", n as u64);
-    output::pour(stdout, out, next, b" numbers\n")
+    out.pour_counted(b" longer than ", n as u64);
+    out.pour(b" numbers\n");
 }
 
-fn pour_made(stdout: Stdout, out: &mut [u8], at: usize, bytes: &[u8], made: Made) -> usize
-    ensures { Pours out.old at (made_text bytes.now made) out.new result }
+fn pour_made(out: &mut Output, bytes: &[u8], made: Result<usize, Refusal>)
+    ensures { Adds out.old (made_text bytes.now (made_told made)) out.new }
 {
     match made {
-        Made::Bytes(n) => {
-            let a = output::pour(stdout, out, at, b" bytes ");
-            let b = output::pour_hex(stdout, out, a, wire::part(bytes, 0, n));
-            output::pour(stdout, out, b, b"\n")
+        Ok(n) => {
+            out.pour(b" bytes ");
+            out.pour_hex(wire::part(bytes, 0, n));
+            out.pour(b"\n");
         }
-        Made::Refused(e) => output::pour_counted_line(stdout, out, at, b" refused ", e as u64),
+        Err(refusal) => out.pour_counted_line(b" refused ", u64::from(refusal.number())),
     }
 }
 
-// List n is written, and its line goes out. Answers the place after it.
+// List n is written, and its line goes out.
 fn one_more(
-    stdout: Stdout,
-    out: &mut [u8],
-    at: usize,
+    out: &mut Output,
     n: u64,
     calculate: bool,
     list: &mut [i64],
     bytes: &mut [u8],
     body: &[u8],
-) -> usize
-    ensures { Written calculate body.now n (holds_before list bytes out) at (holds_after list bytes out) result }
+)
+    requires { (length list.old ≡ list_limit) × (length bytes.old ≡ max_message) }
+    ensures written { Written calculate body.now n (holds list.old bytes.old) out.old (holds list.new bytes.new) out.new }
+    ensures line { Adds out.old (list_line list_limit max_message n calculate body.now) out.new }
 {
-    let next = output::pour_decimal(stdout, out, at, n);
+    out.pour_decimal(n);
     if list.len() < body.len() / 8 {
-        return pour_longer(stdout, out, next, list.len());
+        pour_longer(out, list.len());
+        return;
     }
     let count = take_list(body, list);
-    let made = lmcp_writer::write_message(front(list, count), calculate, bytes);
-    pour_made(stdout, out, next, bytes, made)
+    let made = lmcp_writer::write_message(&list[..count], calculate, bytes);
+    pour_made(out, bytes, made);
+}
+
+// The memory of a list of numbers and of its message.
+#[derive(Drop)]
+struct Writes<'a> {
+    list: &'a mut [i64],
+    bytes: &'a mut [u8],
+}
+
+impl<'a> Teller for Writes<'a> {
+    ghost Known = { Unit {0} };
+
+    ghost says = { each (line list_limit max_message) };
+
+    ghost known = { λ _. tt };
+
+    ghost sound = { λ w. (length w.list.now ≡ list_limit) × (length w.bytes.now ≡ max_message) };
+
+    fn line(&mut self, out: &mut Output, n: u64, head: &[u8], body: &[u8]) {
+        let calculate = calculates(head);
+        one_more(out, n, calculate, self.list, self.bytes, body);
+    }
 }
 
 // One line a list of the input, and the last line. Answers whether the system took all of them; it stops where it did not.
@@ -117,35 +129,12 @@ fn run(
     bytes: &mut [u8],
     out: &mut [u8],
 ) -> bool
-    requires { line_limit ≤ length out.old }
-    ensures { Tells Numbers (lines (length list.old) (length bytes.old)) buf.old input (buffer out) 0 result }
+    requires { ((length list.old ≡ list_limit) × (length bytes.old ≡ max_message)) × (line_limit ≤ length out.old) }
+    ensures { Tells Numbers (lines list_limit max_message) buf.old input (buffer out) 0 result }
 {
-    let mut rest = input;
-    let mut at: usize = 0;
-    let mut n: u64 = 0;
-    while n < stream::MANY {
-        let next = stream::next_record(stdin, buf, rest, Kind::Numbers);
-        let Next::Record(from, len, left) = next else {
-            return output::finish(stdout, out, at, n, next);
-        };
-        n += 1;
-        rest = left;
-        let calculate = calculates(stream::head(buf, from, Kind::Numbers));
-        at = one_more(
-            stdout,
-            out,
-            at,
-            n,
-            calculate,
-            list,
-            bytes,
-            wire::part(buf, from, len),
-        );
-        if at == output::CLOSED {
-            return false;
-        }
-    }
-    output::finish(stdout, out, at, n, Next::Cut)
+    let mut out = Output::new(stdout, out);
+    let mut writes = Writes { list, bytes };
+    record_lines::tell(stdin, buf, input, Kind::Numbers, &mut out, &mut writes)
 }
 
 fn main(rt: HostRuntime) {

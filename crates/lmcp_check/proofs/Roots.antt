@@ -1,6 +1,10 @@
 -- From the walk of a root to what is wrong with it, and from there to what is wrong with the message. Assumes nothing.
-use Rattle.wire.proofs.Basics.{◌∙◌, sym, ◌≡◌, ap, refl, ℕ, ◌≤◌, ◌+◌, ◌<◌, ◌-◌, List, [], ◌∷◌, append-nil, true, false, Bool, ◌||◌, not, length, drop, take, length-drop, drop_of_length-le, eqb, ltb, ℤ}
+use Rattle.wire.proofs.Basics.{◌∙◌, sym, ◌≡◌, ap, refl, subst, ℕ, ◌≤◌, ◌+◌, ◌<◌, ◌-◌, List, [], ◌∷◌, append-nil, true, false, Bool, ◌||◌, not, length, drop, take, length-drop, drop_of_length-le, eqb, ltb, ℤ}
 use Rattle.wire.proofs.Basics.{pos, eq-eqb, ne_eqb, ltb-false, arith}
+use Rattle.std.proofs.Common.{Result, Ok, Err}
+use Rattle.refusals.specs.declared.Refusal.{Refusal}
+use Rattle.refusals.specs.Numbers.{number_of}
+use Rattle.refusals.proofs.Names.{some_number, same_number}
 use Rattle.wire.specs.Choice.{pick}
 use Rattle.wire.specs.Bytes.{be}
 use Rattle.wire.specs.Same.{same}
@@ -11,9 +15,9 @@ use Rattle.lmcp.specs.Read.{Read, reading}
 use Rattle.lmcp.specs.Message.{root_of, before, stored, checksum_of, frame, read_message_lem}
 use Rattle.lmcp.specs.Lists.{version_of_lem, read_as, read_list}
 use Rattle.lmcp.proofs.WalkPlaces.{whole-none, whole-more, root-stops, root-null, root-object}
-use Rattle.lmcp_check.specs.Refusal.{refusal_of}
+use Rattle.lmcp_check.specs.Refusal.{refusal_of, told}
 use Rattle.lmcp_check.specs.InsideSteps.{read_object, read_root}
-use Rattle.lmcp_check.specs.InsideChecks.{fault0, Checks}
+use Rattle.lmcp_check.specs.InsideChecks.{Upto, Checks}
 use Rattle.lmcp_check.proofs.ReadCases.{head-short, head-null, root-some}
 use Rattle.wire.proofs.Choices.{or_l}
 
@@ -37,27 +41,30 @@ module _ (v : ℕ) (s : List ℕ) where
   pub null-root : 1 ≤ length s → be 1 s ≡ 0 → 23 ≡ refusal_of (whole (read_root v s))
   null-root l z = stops 23 (root-null (reading (pitsurv v)) (pitsurv v) s (head-null (pitsurv v) deepest 0 s l (be 1 s) refl z))
 
-  module _ (some : be 1 s ≡ 0 → ⊥) (end : ℕ) (g : Checks s (read_object v deepest 0 s) end) where
+  module _ (some : be 1 s ≡ 0 → ⊥) (end : Result ℕ Refusal) (g : Checks s (read_object v deepest 0 s) end) where
     root_is : read_root v s ≡ read_object v deepest 0 s
     root_is = root-object (reading (pitsurv v)) (pitsurv v) s (root-some (pitsurv v) deepest 0 s some)
 
-    pub root-refused : fault0 ≤ end → end - fault0 ≡ refusal_of (whole (read_root v s))
-    root-refused l = stops (end - fault0) (root_is ∙ g.wrong l)
+    pub root-refused : (e : Refusal) → end ≡ Err e → number_of e ≡ refusal_of (whole (read_root v s))
+    root-refused e q = stops (number_of e) (root_is ∙ subst (Checks s (read_object v deepest 0 s)) q g)
 
-    module _ (l : end < fault0) where
-      found : read_root v s ≡ got (g.good l).ys (drop end s)
+    module _ (at : ℕ) (q : end ≡ Ok at) where
+      upto : Upto s (read_object v deepest 0 s) (got []) at
+      upto = subst (Checks s (read_object v deepest 0 s)) q g
+
+      found : read_root v s ≡ got upto.ys (drop at s)
       unfolding prepend
-      found = root_is ∙ (g.good l).whole ∙ ap (λ (m : List ℤ). got m (drop end s)) (append-nil (g.good l).ys)
+      found = root_is ∙ upto.whole ∙ ap (λ (m : List ℤ). got m (drop at s)) (append-nil upto.ys)
 
-      pub root-left : (end ≡ length s → ⊥) → 28 ≡ refusal_of (whole (read_root v s))
+      pub root-left : (at ≡ length s → ⊥) → 28 ≡ refusal_of (whole (read_root v s))
       root-left d =
-          let k : 0 < length (drop end s) = rw length-drop (omega (arith, (g.good l).within, d)) in
-          ap refusal_of (sym (ap whole found ∙ whole-more (g.good l).ys (drop end s) k))
+          let k : 0 < length (drop at s) = rw length-drop (omega (arith, upto.within, d)) in
+          ap refusal_of (sym (ap whole found ∙ whole-more upto.ys (drop at s) k))
 
-      pub root-good : end ≡ length s → 0 ≡ refusal_of (whole (read_root v s))
+      pub root-good : at ≡ length s → 0 ≡ refusal_of (whole (read_root v s))
       root-good d =
-          let k : length s ≤ end = omega arith in
-          ap refusal_of (sym (ap whole found ∙ whole-none (g.good l).ys (drop end s) (drop_of_length-le s k)))
+          let k : length s ≤ at = omega arith in
+          ap refusal_of (sym (ap whole found ∙ whole-none upto.ys (drop at s) (drop_of_length-le s k)))
 
 -- ---- a frame
 
@@ -98,3 +105,11 @@ module _ (m : List ℕ) (n : ℕ) (e : n ≡ frame m) where
       let k : u ≡ v = is ∙ ap version_of_lem same in
       let f : whole (read_root u b) ≡ read_message_lem (pitsurv v) m = ap (λ (l : List ℕ). whole (read_root u l)) same ∙ ap (λ (j : ℕ). whole (read_root j (root_of m))) k ∙ simp (eq-eqb (frame m) 0 (sym e ∙ z)) in
       h ∙ ap refusal_of f ∙ listed
+
+-- ---- no second answer
+
+pub check-once : (r s : Result Unit Refusal) → told r ≡ told s → r ≡ s
+check-once (Ok u) (Ok w) e = refl
+check-once (Ok u) (Err s) e = absurd (let z : ⊥ = omega (arith, some_number s, e) in z)
+check-once (Err r) (Ok w) e = absurd (let z : ⊥ = omega (arith, some_number r, e) in z)
+check-once (Err r) (Err s) e = ap Err (same_number r s e)

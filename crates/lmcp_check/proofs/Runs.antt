@@ -4,6 +4,8 @@ use Rattle.wire.proofs.Basics.{get_or-drop, eqb, ltb, ℤ, eqb-true, ltb-false, 
 use Rattle.wire.specs.Choice.{pick}
 use Rattle.wire.specs.Bytes.{be}
 use Rattle.wire.proofs.Choices.{never, and_l, and_r}
+use Rattle.std.proofs.Common.{Result}
+use Rattle.refusals.specs.declared.Refusal.{Refusal}
 use Rattle.lmcp.specs.declared.Row.{Row}
 use Rattle.lmcp.specs.Run.{got, refused, prepend, and_then, repeat}
 use Rattle.lmcp.specs.Table.{unsigned_kind, signed_kind, bool_kind, char_kind, object_kind, Table}
@@ -14,9 +16,9 @@ use Rattle.lmcp.proofs.WalkPlaces.{item-value, field_fixed}
 use Rattle.lmcp_check.proofs.ReadCases.{value-short, value-bad, value-good, sound-plain, sound-bool, fault-bool}
 use Rattle.lmcp.specs.Packed.{plain, single, run_bytes, run_bool}
 use Rattle.lmcp.proofs.Rows.{none, is_run}
-use Rattle.lmcp_check.specs.InsideChecks.{fault0, Checks, Ran, cut, odd, bare, truly}
+use Rattle.lmcp_check.specs.InsideChecks.{Checks, Ran, cut, odd, bare, truly}
 use Rattle.lmcp.proofs.RunParts.{then-nil}
-use Rattle.lmcp_check.proofs.CheckTurns.{made, stopped, fields-one}
+use Rattle.lmcp_check.proofs.CheckTurns.{made, fields-one}
 
 -- a step that takes w bytes, and of which nothing can be wrong but that they are not there
 pub record Strict (w : ℕ) (f : List ℕ → Read) : Type 0 where
@@ -216,21 +218,21 @@ module _ (T : Table) (obj : ℕ → List ℕ → Read) where
       by again false e = says-single f fs l e h
 
   -- the answer of a run is that of its rows
-  pub ran_checks : (s : List ℕ) (p b e r : ℕ) (rs : List Row) → length s < fault0 → p ≤ length s → is_run rs ≡ true → b ≡ run_bytes rs → e ≡ run_bool rs → Ran s p b e r → Checks s (fields (reading T) obj rs (drop p s)) r
-  ran_checks s p b e r rs short h run bs es (cut k) =
-      stopped 25 (omega arith) ((says rs run (drop p s)).short (rw length-drop (omega (arith, bs))))
-  ran_checks s p b e r rs short h run bs es (odd k z o) =
+  pub ran_checks : (s : List ℕ) (p b e : ℕ) (r : Result ℕ Refusal) (rs : List Row) → p ≤ length s → is_run rs ≡ true → b ≡ run_bytes rs → e ≡ run_bool rs → Ran s p b e r → Checks s (fields (reading T) obj rs (drop p s)) r
+  ran_checks s p b e r rs h run bs es (cut k) =
+      (says rs run (drop p s)).short (rw length-drop (omega (arith, bs)))
+  ran_checks s p b e r rs h run bs es (odd k z o) =
       let g = flag-some rs run (λ y. z (es ∙ y)) (drop p s) in
       let j : p + (run_bytes rs - 1) ≡ p + b - 1 = omega (arith, bs, g.0) in
       let v : flag rs (drop p s) ≡ get_or s (p + b - 1) 0 = g.1 ∙ get_or-drop p s (run_bytes rs - 1) 0 ∙ ap (λ (i : ℕ). get_or s i 0) j in
-      stopped 23 (omega arith) ((says rs run (drop p s)).odd (rw length-drop (omega (arith, bs))) (omega (arith, v)))
-  ran_checks s p b e r rs short h run bs es (bare k z) =
+      (says rs run (drop p s)).odd (rw length-drop (omega (arith, bs))) (omega (arith, v))
+  ran_checks s p b e r rs h run bs es (bare k z) =
       let v = flag-none rs run (sym es ∙ z) (drop p s) in
       let y = says rs run (drop p s) in
-      made y.ys (p + b) short (y.fine (rw length-drop (omega (arith, bs))) (omega (arith, v)) ∙ ap (got y.ys) (drop-drop (run_bytes rs) p s ∙ ap (λ (n : ℕ). drop (p + n) s) (sym bs))) (omega arith)
-  ran_checks s p b e r rs short h run bs es (truly k z o) =
+      made y.ys (p + b) (y.fine (rw length-drop (omega (arith, bs))) (omega (arith, v)) ∙ ap (got y.ys) (drop-drop (run_bytes rs) p s ∙ ap (λ (n : ℕ). drop (p + n) s) (sym bs))) (omega arith)
+  ran_checks s p b e r rs h run bs es (truly k z o) =
       let g = flag-some rs run (λ y. z (es ∙ y)) (drop p s) in
       let j : p + (run_bytes rs - 1) ≡ p + b - 1 = omega (arith, bs, g.0) in
       let v : flag rs (drop p s) ≡ get_or s (p + b - 1) 0 = g.1 ∙ get_or-drop p s (run_bytes rs - 1) 0 ∙ ap (λ (i : ℕ). get_or s i 0) j in
       let y = says rs run (drop p s) in
-      made y.ys (p + b) short (y.fine (rw length-drop (omega (arith, bs))) (omega (arith, v)) ∙ ap (got y.ys) (drop-drop (run_bytes rs) p s ∙ ap (λ (n : ℕ). drop (p + n) s) (sym bs))) (omega arith)
+      made y.ys (p + b) (y.fine (rw length-drop (omega (arith, bs))) (omega (arith, v)) ∙ ap (got y.ys) (drop-drop (run_bytes rs) p s ∙ ap (λ (n : ℕ). drop (p + n) s) (sym bs))) (omega arith)

@@ -1,9 +1,13 @@
 -- The steps of the walk that checks, by the table's bytes: a run, an object, an array; fields; an object's head. Assumes nothing.
-use Rattle.wire.proofs.Basics.{◌∙◌, sym, ◌≡◌, ap, refl, ℕ, ◌≤◌, ◌+◌, ◌<◌, ◌-◌, suc, zero, List, [], ◌∷◌, ◌++◌, length, drop, get_or, take, length-drop, take-append-drop, drop-drop, slice, take-take}
+use Rattle.wire.proofs.Basics.{◌∙◌, sym, ◌≡◌, ap, refl, subst, ℕ, ◌≤◌, ◌+◌, ◌<◌, ◌-◌, suc, zero, List, [], ◌∷◌, ◌++◌, length, drop, get_or, take, length-drop, take-append-drop, drop-drop, slice, take-take}
 use Rattle.wire.proofs.Basics.{pos, arith}
+use Rattle.std.proofs.Common.{Option, Some, None, Result, Ok, Err}
 use Rattle.wire.specs.Bytes.{Number}
+use Rattle.refusals.specs.declared.Refusal.{Refusal}
+use Rattle.refusals.specs.declared.Refusal.TheVariants.{EndsInside}
+use Rattle.refusals.specs.Numbers.{number_of}
 use Rattle.lmcp.specs.declared.Row.{Row}
-use Rattle.lmcp.specs.Run.{tag, and_then, after, repeat}
+use Rattle.lmcp.specs.Run.{refused, tag, and_then, after, repeat}
 use Rattle.lmcp.specs.Table.{char_kind, object_kind, rows_of, starts_of, fields_of, nothing, pitsurv}
 use Rattle.lmcp.specs.Read.{Read, reading, read_value, read_count, read_head}
 use Rattle.lmcp.proofs.WalkPlaces.{item-object, item-value, field_fixed, field-counted, inside, object-is, inside-null, inside-fields, marked-stops, fields-end}
@@ -13,14 +17,14 @@ use Rattle.lmcp_check.specs.InsideSteps.{read_object, read_item, read_field, rea
 use Rattle.lmcp_check.proofs.ReadCases.{number_is, count-short, count-good}
 use Rattle.lmcp.specs.Packed.{packed_of}
 use Rattle.lmcp.specs.InsidePacked.{cell}
-use Rattle.lmcp_check.specs.InsideChecks.{fault0, Upto, Checks, Heads, Ran, step_rows}
-use Rattle.lmcp_check.proofs.CheckTurns.{made, stopped, next, next-stops, ends, same-run, marked-then, fields-append, fields-one}
+use Rattle.lmcp_check.specs.InsideChecks.{Upto, Checks, Typed, Heads, Ran, step_rows}
+use Rattle.lmcp_check.proofs.CheckTurns.{made, next, next-stops, ends, same-run, marked-then, fields-append, fields-one}
 use Rattle.lmcp_check.proofs.Runs.{ran_checks}
 use Rattle.lmcp.proofs.Rows.{row_of, run-says, run-is-row, object-row, count_fits, char-row, objects-row, type-of, few-rows}
 
 -- ---- one step
 
-module _ (v d i : ℕ) (h : i < length (rows_of (pitsurv v))) (s : List ℕ) (at : ℕ) (short : length s < fault0) (within : at ≤ length s) (tab : List (List ℕ)) (q : tab ≡ packed_of v) where
+module _ (v d i : ℕ) (h : i < length (rows_of (pitsurv v))) (s : List ℕ) (at : ℕ) (within : at ≤ length s) (tab : List (List ℕ)) (q : tab ≡ packed_of v) where
   abbrev rows : List Row
   rows = rows_of (pitsurv v)
 
@@ -30,11 +34,11 @@ module _ (v d i : ℕ) (h : i < length (rows_of (pitsurv v))) (s : List ℕ) (at
   byte : (j : ℕ) {b : ℕ} → b ≡ cell tab i j → b ≡ cell (packed_of v) i j
   byte j e = e ∙ ap (λ (l : List (List ℕ)). cell l i j) q
 
-  pub step_run : (b e r : ℕ) → b ≡ cell tab i 4 → (b ≡ 0 → ⊥) → e ≡ cell tab i 6 → Ran s at b e r → Checks s (read_fields v d (step_rows v i) (drop at s)) r
+  pub step_run : (b e : ℕ) (r : Result ℕ Refusal) → b ≡ cell tab i 4 → (b ≡ 0 → ⊥) → e ≡ cell tab i 6 → Ran s at b e r → Checks s (read_fields v d (step_rows v i) (drop at s)) r
   step_run b e r bs some es g =
       let R = row_of v i h in
       let S = run-says (packed_of v) rows i R (λ z. some (byte 4 bs ∙ z)) in
-      ran_checks (pitsurv v) (read_object v d) s at b e r (step_rows v i) short within S.is-run (byte 4 bs ∙ S.bytes-are) (byte 6 es ∙ S.bool_is) g
+      ran_checks (pitsurv v) (read_object v d) s at b e r (step_rows v i) within S.is-run (byte 4 bs ∙ S.bytes-are) (byte 6 es ∙ S.bool_is) g
 
   module _ (b w : ℕ) (bs : b ≡ cell tab i 4) (none : b ≡ 0) (ws : w ≡ cell tab i 0) where
     empty : cell (packed_of v) i 4 ≡ 0
@@ -46,12 +50,12 @@ module _ (v d i : ℕ) (h : i < length (rows_of (pitsurv v))) (s : List ℕ) (at
     one : read_fields v d (step_rows v i) (drop at s) ≡ read_field v d f (drop at s)
     one = ap (λ (fs : List Row). read_fields v d fs (drop at s)) (run-is-row (packed_of v) rows i (row_of v i h) empty) ∙ fields-one (reading (pitsurv v)) (read_object v d) f (drop at s)
 
-    pub step-object : w ≡ 0 → (arg r : ℕ) → arg ≡ cell tab i 3 → Checks s (read_object v d arg (drop at s)) r → Checks s (read_fields v d (step_rows v i) (drop at s)) r
+    pub step-object : w ≡ 0 → (arg : ℕ) (r : Result ℕ Refusal) → arg ≡ cell tab i 3 → Checks s (read_object v d arg (drop at s)) r → Checks s (read_fields v d (step_rows v i) (drop at s)) r
     unfolding repeat
     step-object z arg r args g =
         let o = object-row (packed_of v) rows i (row_of v i h) empty (sym count-is ∙ z) in
         let a : arg ≡ f.arg = byte 3 args ∙ (row_of v i h).arg_is in
-        same-run
+        same-run s r
         (one ∙ field_fixed (reading (pitsurv v)) (read_object v d) f (drop at s) (sym count-is ∙ z) ∙ ap (λ (m : ℕ). repeat m (read_item v d f) (drop at s)) o.1
         ∙ then-nil (read_item v d f (drop at s)) ∙ item-object (reading (pitsurv v)) (read_object v d) f (drop at s) o.0 ∙ ap (λ (t : ℕ). read_object v d t (drop at s)) (sym a)) g
 
@@ -59,33 +63,33 @@ module _ (v d i : ℕ) (h : i < length (rows_of (pitsurv v))) (s : List ℕ) (at
       counted : read_fields v d (step_rows v i) (drop at s) ≡ after (read_count w (drop at s)) (λ n. repeat n (read_item v d f))
       counted = one ∙ field-counted (reading (pitsurv v)) (read_object v d) f (drop at s) (λ z. some (count-is ∙ z)) ∙ ap (λ (k : ℕ). after (read_count k (drop at s)) (λ n. repeat n (read_item v d f))) (sym count-is)
 
-      pub step_cut : length s - at < w → Checks s (read_fields v d (step_rows v i) (drop at s)) (fault0 + 25)
-      step_cut l = stopped 25 (omega arith) (counted ∙ marked-stops 25 (λ n. repeat n (read_item v d f)) (count-short 0 w (drop at s) (rw length-drop l)))
+      pub step_cut : length s - at < w → Checks s (read_fields v d (step_rows v i) (drop at s)) (Err EndsInside)
+      step_cut l = counted ∙ marked-stops 25 (λ n. repeat n (read_item v d f)) (count-short 0 w (drop at s) (rw length-drop l))
 
       pub few : w ≤ 7
       few = let k = count_fits (packed_of v) rows i (row_of v i h) empty (λ z. some (count-is ∙ z)) in omega (arith, k, count-is)
 
-      module _ (l : w ≤ length s - at) (n : ℕ) (number : Number s at w n) (r : ℕ) where
+      module _ (l : w ≤ length s - at) (n : ℕ) (number : Number s at w n) (r : Result ℕ Refusal) where
         tagged : read_count w (drop at s) ≡ tag n (pos n ∷ []) (drop (at + w) s)
         tagged =
             let e = number_is s at w n (omega (arith, few)) number in
             count-good 0 w (drop at s) (rw length-drop l) n e.0 ∙ ap (tag n (pos n ∷ [])) (drop-drop w at s)
 
         items : Checks s (repeat n (read_item v d f) (drop (at + w) s)) r → Checks s (read_fields v d (step_rows v i) (drop at s)) r
-        items g = same-run counted (marked-then n (at + w) (pos n ∷ []) tagged (λ n. repeat n (read_item v d f)) r g)
+        items g = same-run s r counted (marked-then s n (at + w) (pos n ∷ []) tagged (λ n. repeat n (read_item v d f)) r g)
 
         pub step-chars : (k : ℕ) → k ≡ cell tab i 2 → k ≡ 3 → Checks s (repeat n (read_value char_kind 1) (drop (at + w) s)) r → Checks s (read_fields v d (step_rows v i) (drop at s)) r
         step-chars k ks c g =
             let e : f.kind ≡ char_kind = sym (byte 2 ks ∙ (row_of v i h).kind-is) ∙ c in
             let a = char-row (packed_of v) rows i (row_of v i h) empty (λ z. some (count-is ∙ z)) e in
-            items (same-run (repeat-same (read_item v d f) (read_value char_kind 1)
+            items (same-run s r (repeat-same (read_item v d f) (read_value char_kind 1)
             (λ m. item-value (reading (pitsurv v)) (read_object v d) f m (λ z. (let y : ⊥ = omega (arith, z, e) in y)) ∙ ap (λ (j : ℕ). read_value j f.arg m) e ∙ ap (λ (j : ℕ). read_value char_kind j m) a) n (drop (at + w) s)) g)
 
         pub step_objects : (k arg : ℕ) → k ≡ cell tab i 2 → (k ≡ 3 → ⊥) → arg ≡ cell tab i 3 → Checks s (repeat n (read_object v d arg) (drop (at + w) s)) r → Checks s (read_fields v d (step_rows v i) (drop at s)) r
         step_objects k arg ks c args g =
             let e : f.kind ≡ object_kind = objects-row (packed_of v) rows i (row_of v i h) empty (λ z. some (count-is ∙ z)) (λ z. c (byte 2 ks ∙ (row_of v i h).kind-is ∙ z)) in
             let a : arg ≡ f.arg = byte 3 args ∙ (row_of v i h).arg_is in
-            items (same-run (repeat-same (read_item v d f) (read_object v d arg)
+            items (same-run s r (repeat-same (read_item v d f) (read_object v d arg)
             (λ m. item-object (reading (pitsurv v)) (read_object v d) f m e ∙ ap (λ (t : ℕ). read_object v d t m) (sym a)) n (drop (at + w) s)) g)
 
 -- ---- fields
@@ -100,26 +104,22 @@ slice-split : (i m e : ℕ) (x : List Row) → i ≤ m → m ≤ e → slice i e
 slice-split i m e x h k = split i m (take e x) h ∙ ap (λ (l : List Row). drop i l ++ drop m (take e x)) (take-take m e x k)
 
 module _ (v d i e : ℕ) (s : List ℕ) (X : Read) (p : ℕ) (u : Upto s X (read_fields v d (slice i e (rows_of (pitsurv v)))) p) where
-  module _ (n : ℕ) (is : n ≡ cell (packed_of v) i 5) (m : i + n ≤ e) (r : ℕ) (g : Checks s (read_fields v d (step_rows v i) (drop p s)) r) where
+  module _ (n : ℕ) (is : n ≡ cell (packed_of v) i 5) (m : i + n ≤ e) (r : Result ℕ Refusal) (g : Checks s (read_fields v d (step_rows v i) (drop p s)) r) where
     parts : read_fields v d (slice i e (rows_of (pitsurv v))) (drop p s) ≡ and_then (read_fields v d (step_rows v i) (drop p s)) (read_fields v d (slice (i + n) e (rows_of (pitsurv v))))
     parts =
         ap (λ (fs : List Row). read_fields v d fs (drop p s)) (slice-split i (i + n) e (rows_of (pitsurv v)) (omega arith) m)
         ∙ fields-append (reading (pitsurv v)) (read_object v d) (slice i (i + n) (rows_of (pitsurv v))) (slice (i + n) e (rows_of (pitsurv v))) (drop p s)
         ∙ ap (λ (k : ℕ). and_then (read_fields v d (slice i (i + k) (rows_of (pitsurv v))) (drop p s)) (read_fields v d (slice (i + n) e (rows_of (pitsurv v))))) is
 
-    pub fields-turn : r < fault0 → Upto s X (read_fields v d (slice (i + n) e (rows_of (pitsurv v)))) r
-    fields-turn l = next u (read_fields v d (slice (i + n) e (rows_of (pitsurv v)))) parts (g.good l)
+    pub fields-turn : (q : ℕ) → r ≡ Ok q → Upto s X (read_fields v d (slice (i + n) e (rows_of (pitsurv v)))) q
+    fields-turn q c = next u (read_fields v d (slice (i + n) e (rows_of (pitsurv v)))) parts (subst (Checks s (read_fields v d (step_rows v i) (drop p s))) c g)
 
-    pub fields-stop : fault0 ≤ r → Checks s X r
-    fields-stop l =
-        record {
-          good = λ k. absurd (let z : ⊥ = omega arith in z);
-          wrong = λ k. next-stops u (read_fields v d (slice (i + n) e (rows_of (pitsurv v)))) (r - fault0) parts (g.wrong l);
-          small = g.small;
-        }
+    pub fields-stop : (w : Refusal) → r ≡ Err w → X ≡ refused (number_of w)
+    fields-stop w c =
+        next-stops u (read_fields v d (slice (i + n) e (rows_of (pitsurv v)))) (number_of w) parts (subst (Checks s (read_fields v d (step_rows v i) (drop p s))) c g)
 
-  pub fields-done : length s < fault0 → e ≤ i → i ≤ e → Checks s X p
-  fields-done short l k = ends u short (fields-end (reading (pitsurv v)) (read_object v d) (rows_of (pitsurv v)) i e (drop p s) l k)
+  pub fields-done : e ≤ i → i ≤ e → Checks s X (Ok p)
+  fields-done l k = ends u (fields-end (reading (pitsurv v)) (read_object v d) (rows_of (pitsurv v)) i e (drop p s) l k)
 
 -- no step passes the end of its type
 pub step-inside : (v t i e n : ℕ) → t < 8 → e ≡ get_or (starts_of (pitsurv v)) (t + 1) 0 → e ≤ length (rows_of (pitsurv v)) → get_or (starts_of (pitsurv v)) t 0 ≤ i → i < e → n ≡ cell (packed_of v) i 5 → (1 ≤ n) × (i + n ≤ e)
@@ -130,32 +130,30 @@ step-inside v t i e n h es k l m is =
 
 -- ---- objects
 
-module _ (v d t : ℕ) (s : List ℕ) (at : ℕ) (short : length s < fault0) (n : ℕ) (g : Heads s at (read_head (pitsurv v) d t (drop at s)) n) where
-  pub object-null : n ≡ 0 → Checks s (read_object v d t (drop at s)) (at + 1)
+module _ (v d t : ℕ) (s : List ℕ) (at : ℕ) (h : Result (Option ℕ) Refusal) (g : Heads s at (read_head (pitsurv v) d t (drop at s)) h) where
+  given : (k : Result (Option ℕ) Refusal) → h ≡ k → Heads s at (read_head (pitsurv v) d t (drop at s)) k
+  given k e = subst (Heads s at (read_head (pitsurv v) d t (drop at s))) e g
+
+  pub object-null : h ≡ Ok None → Checks s (read_object v d t (drop at s)) (Ok (at + 1))
   object-null z =
-      let e = g.null z in
-      same-run (object-is (reading (pitsurv v)) (pitsurv v) d t (drop at s))
-      (marked-then 0 (at + 1) (pos 0 ∷ []) e.0 (inside (reading (pitsurv v)) (pitsurv v) d) (at + 1)
-      (made [] (at + 1) short (inside-null (reading (pitsurv v)) (pitsurv v) d (drop (at + 1) s) refl) e.1))
+      let e = given (Ok None) z in
+      same-run s (Ok (at + 1)) (object-is (reading (pitsurv v)) (pitsurv v) d t (drop at s))
+      (marked-then s 0 (at + 1) (pos 0 ∷ []) e.0 (inside (reading (pitsurv v)) (pitsurv v) d) (Ok (at + 1))
+      (made [] (at + 1) (inside-null (reading (pitsurv v)) (pitsurv v) d (drop (at + 1) s) refl) e.1))
 
-  pub object-stops : fault0 ≤ n → Checks s (read_object v d t (drop at s)) n
-  object-stops l =
-      record {
-        good = λ k. absurd (let z : ⊥ = omega arith in z);
-        wrong = λ k. object-is (reading (pitsurv v)) (pitsurv v) d t (drop at s) ∙ marked-stops (n - fault0) (inside (reading (pitsurv v)) (pitsurv v) d) (g.wrong l);
-        small = g.small;
-      }
+  pub object-stops : (w : Refusal) → h ≡ Err w → read_object v d t (drop at s) ≡ refused (number_of w)
+  object-stops w z = object-is (reading (pitsurv v)) (pitsurv v) d t (drop at s) ∙ marked-stops (number_of w) (inside (reading (pitsurv v)) (pitsurv v) d) (given (Err w) z)
 
-  module _ (z : n ≡ 0 → ⊥) (l : n < fault0) where
+  module _ (n : ℕ) (z : h ≡ Ok (Some n)) where
     pub object-some : (0 < d) × ((n < 8) × (at + 15 ≤ length s))
     object-some =
-        let e = g.some z l in
-        let y = read_some (pitsurv v) d t n z (drop at s) e.0 in
-        (y.deep, (y.within, e.1))
+        let e : Typed s at (read_head (pitsurv v) d t (drop at s)) n = given (Ok (Some n)) z in
+        let y = read_some (pitsurv v) d t n e.some (drop at s) e.is in
+        (y.deep, (y.within, e.within))
 
-    pub object-fields : (r : ℕ) → Checks s (read_fields v (d - 1) (fields_of (pitsurv v) n) (drop (at + 15) s)) r → Checks s (read_object v d t (drop at s)) r
+    pub object-fields : (r : Result ℕ Refusal) → Checks s (read_fields v (d - 1) (fields_of (pitsurv v) n) (drop (at + 15) s)) r → Checks s (read_object v d t (drop at s)) r
     object-fields r k =
-        let e = g.some z l in
-        same-run (object-is (reading (pitsurv v)) (pitsurv v) d t (drop at s))
-        (marked-then n (at + 15) (pos n ∷ []) e.0 (inside (reading (pitsurv v)) (pitsurv v) d) r
-        (same-run (inside-fields (reading (pitsurv v)) (pitsurv v) d n (drop (at + 15) s) object-some.0) k))
+        let e : Typed s at (read_head (pitsurv v) d t (drop at s)) n = given (Ok (Some n)) z in
+        same-run s r (object-is (reading (pitsurv v)) (pitsurv v) d t (drop at s))
+        (marked-then s n (at + 15) (pos n ∷ []) e.is (inside (reading (pitsurv v)) (pitsurv v) d) r
+        (same-run s r (inside-fields (reading (pitsurv v)) (pitsurv v) d n (drop (at + 15) s) object-some.0) k))

@@ -3,8 +3,7 @@ use Rattle.wire.proofs.Basics.{◌∙◌, ◌≡◌, ap, refl, ℕ, List, ◌++�
 use Rattle.wire.specs.Choice.{pick}
 use Rattle.wire.specs.Text.{ascii}
 use Rattle.wire.proofs.Parts.{front_of}
-use Rattle.lmcp.specs.declared.Found.{Found}
-use Rattle.lmcp.specs.declared.Found.TheVariants.{Numbers, Refused}
+use Rattle.lmcp.specs.Found.{Found, Numbers, Refused}
 use Rattle.lmcp.specs.Run.{got, refused}
 use Rattle.lmcp.specs.Read.{Read}
 use Rattle.lmcp.specs.Message.{found, listed, ReadTo}

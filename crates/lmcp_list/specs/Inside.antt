@@ -1,8 +1,7 @@
 -- INSIDE: a line by the reader's answer and the list that it left. Definitions only; no promise rests on them.
 use Rattle.std.specs.Prelude.{List, ◌++◌, ℕ, ℤ, take}
 use Rattle.wire.specs.Text.{ascii}
-use Rattle.lmcp.specs.declared.Found.{Found}
-use Rattle.lmcp.specs.declared.Found.TheVariants.{Numbers, Refused}
+use Rattle.lmcp.specs.Found.{Found, Numbers, Refused}
 use Rattle.text.specs.Text.{decimal}
 use Rattle.lmcp_list.specs.Lines.{spaced, refused_text}
 

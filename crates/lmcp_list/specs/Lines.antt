@@ -2,15 +2,20 @@
 use Rattle.std.specs.Prelude.{List, [], ◌∷◌, ◌++◌, ℕ, leb, ℤ, length}
 use Rattle.wire.specs.Choice.{pick}
 use Rattle.wire.specs.Text.{ascii}
-use Rattle.lmcp.specs.declared.Found.{Found}
+use Rattle.lmcp.specs.Found.{Found}
 use Rattle.lmcp.specs.Run.{got, refused}
 use Rattle.lmcp.specs.Read.{Read}
 use Rattle.lmcp.specs.Message.{ReadTo}
 use Rattle.lmcp.specs.Lists.{read_list}
 use Rattle.text.specs.Text.{decimal, signed_decimal}
-use Rattle.output.specs.Output.{Pours}
+use Rattle.output.specs.declared.Output.{Output}
+use Rattle.output.specs.Output.{Adds}
 use Rattle.record_lines.specs.Streams.{Stream}
 use Rattle.record_lines.specs.Lines.{lines_of}
+
+-- the numbers that the program holds
+abbrev pub list_limit : ℕ
+list_limit = 262144
 
 -- each number after a space
 abbrev pub spaced : List ℤ → List ℕ
@@ -35,7 +40,7 @@ abbrev pub lines : ℕ → Stream → List ℕ
 lines most = lines_of (λ n x. line most n x.body)
 
 -- The message was read into the list, and line n gives its numbers or its refusal.
-pub record Listed (message : List ℕ) (n : ℕ) (list : List ℤ) (out : List ℕ) (at : ℕ) (list' : List ℤ) (out' : List ℕ) (r : ℕ) : Type 0 where
+pub record Listed (message : List ℕ) (n : ℕ) (list : List ℤ) (out : Output) (list' : List ℤ) (out' : Output) : Type 0 where
   pub found : Found
   pub read : ReadTo (read_list message) list found list'
-  pub said : Pours out at (line (length list) n message) out' r
+  pub said : Adds out (line (length list) n message) out'

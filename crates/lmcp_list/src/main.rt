@@ -1,71 +1,84 @@
 // What is in survey messages. Standard input holds messages, each after a 4-byte big-endian length; a line gives the numbers of each,
 // or its refusal.
-#![tactic(auto)]
+#![tactic(auto, using(output::proofs::Adding::adds_then))]
 
-ghost use Rattle.std.specs.Prelude.{◌≤◌, take, length};
+ghost use Rattle.std.specs.Prelude.{◌≡◌, ◌≤◌, length};
 ghost use Rattle.wire.specs.Slices.{buffer};
 ghost use Rattle.stream.specs.declared.Kind.TheVariants.{Bytes4};
-ghost use Rattle.output.specs.Output.{Pours, line_limit};
-ghost use Rattle.record_lines.specs.Lines.{Tells};
-ghost use Rattle.lmcp_list.specs.Lines.{spaced, lines, Listed};
+ghost use Rattle.output.specs.Output.{Adds, line_limit};
+ghost use Rattle.record_lines.specs.Lines.{Tells, each};
+ghost use Rattle.lmcp.specs.Found.{found_told};
+ghost use Rattle.lmcp_list.specs.Lines.{spaced, list_limit, line, lines, Listed};
 ghost use Rattle.lmcp_list.specs.Inside.{found_text, found_line};
 
-use lmcp::Found;
+use output::Output;
+use record_lines::Teller;
+use refusals::Refusal;
 use std::io::{Stdin, Stdout};
-use stream::{Input, Kind, Next};
+use stream::{Input, Kind};
 
 // The numbers that the program holds.
 const NUMBERS: usize = 262144;
 
-// The first n numbers of the list, each after a space.
-fn pour_numbers(stdout: Stdout, out: &mut [u8], at: usize, list: &[i64], n: usize) -> usize
-    ensures { Pours out.old at (spaced (take n list.now)) out.new result }
+// Numbers, each after a space.
+fn pour_numbers(out: &mut Output, list: &[i64])
+    ensures { Adds out.old (spaced list.now) out.new }
 {
-    let most = wire::least(n, list.len());
-    let mut next = at;
-    let mut i: usize = 0;
-    while i < most {
-        let after = output::pour(stdout, out, next, b" ");
-        next = output::pour_signed(stdout, out, after, list[i]);
-        i += 1;
+    for z in list {
+        out.pour(b" ");
+        out.pour_signed(*z);
     }
-    next
 }
 
-fn pour_found(stdout: Stdout, out: &mut [u8], at: usize, list: &[i64], found: Found) -> usize
-    ensures { Pours out.old at (found_text list.now found) out.new result }
+fn pour_found(out: &mut Output, list: &[i64], found: Result<usize, Refusal>)
+    ensures { Adds out.old (found_text list.now (found_told found)) out.new }
 {
     match found {
-        Found::Numbers(n) => {
-            let next = output::pour(stdout, out, at, b" list");
-            pour_numbers(stdout, out, next, list, n)
+        Ok(n) => {
+            out.pour(b" list");
+            pour_numbers(out, &list[..n.min(list.len())]);
         }
-        Found::Refused(e) => output::pour_counted(stdout, out, at, b" refused ", e as u64),
+        Err(refusal) => out.pour_counted(b" refused ", u64::from(refusal.number())),
     }
 }
 
 // Line n.
-fn pour_line(stdout: Stdout, out: &mut [u8], at: usize, n: u64, list: &[i64], found: Found) -> usize
-    ensures { Pours out.old at (found_line n list.now found) out.new result }
+fn pour_line(out: &mut Output, n: u64, list: &[i64], found: Result<usize, Refusal>)
+    ensures { Adds out.old (found_line n list.now (found_told found)) out.new }
 {
-    let a = output::pour_decimal(stdout, out, at, n);
-    let b = pour_found(stdout, out, a, list, found);
-    output::pour(stdout, out, b, b"\n")
+    out.pour_decimal(n);
+    pour_found(out, list, found);
+    out.pour(b"\n");
 }
 
-// Message n is read into the list, and its line goes out. Answers the place after it.
-fn one_more(
-    stdout: Stdout,
-    out: &mut [u8],
-    at: usize,
-    n: u64,
-    list: &mut [i64],
-    message: &[u8],
-) -> usize
-    ensures { Listed message.now n list.old out.old at list.new out.new result }
+// Message n is read into the list, and its line goes out.
+fn one_more(out: &mut Output, n: u64, list: &mut [i64], message: &[u8])
+    requires { length list.old ≡ list_limit }
+    ensures listed { Listed message.now n list.old out.old list.new out.new }
+    ensures line { Adds out.old (line list_limit n message.now) out.new }
 {
     let found = lmcp_reader::read_message(message, list);
-    pour_line(stdout, out, at, n, list, found)
+    pour_line(out, n, list, found);
+}
+
+// The memory of a message's numbers.
+#[derive(Drop)]
+struct Reads<'a> {
+    list: &'a mut [i64],
+}
+
+impl<'a> Teller for Reads<'a> {
+    ghost Known = { Unit {0} };
+
+    ghost says = { each (λ n x. line list_limit n x.body) };
+
+    ghost known = { λ _. tt };
+
+    ghost sound = { λ r. length r.list.now ≡ list_limit };
+
+    fn line(&mut self, out: &mut Output, n: u64, _head: &[u8], body: &[u8]) {
+        one_more(out, n, self.list, body);
+    }
 }
 
 // One line a message of the input, and the last line. Answers whether the system took all of them; it stops where it did not.
@@ -77,25 +90,12 @@ fn run(
     list: &mut [i64],
     out: &mut [u8],
 ) -> bool
-    requires { line_limit ≤ length out.old }
-    ensures { Tells Bytes4 (lines (length list.old)) buf.old input (buffer out) 0 result }
+    requires { (length list.old ≡ list_limit) × (line_limit ≤ length out.old) }
+    ensures { Tells Bytes4 (lines list_limit) buf.old input (buffer out) 0 result }
 {
-    let mut rest = input;
-    let mut at: usize = 0;
-    let mut n: u64 = 0;
-    while n < stream::MANY {
-        let next = stream::next_record(stdin, buf, rest, Kind::Bytes4);
-        let Next::Record(from, len, left) = next else {
-            return output::finish(stdout, out, at, n, next);
-        };
-        n += 1;
-        rest = left;
-        at = one_more(stdout, out, at, n, list, wire::part(buf, from, len));
-        if at == output::CLOSED {
-            return false;
-        }
-    }
-    output::finish(stdout, out, at, n, Next::Cut)
+    let mut out = Output::new(stdout, out);
+    let mut reads = Reads { list };
+    record_lines::tell(stdin, buf, input, Kind::Bytes4, &mut out, &mut reads)
 }
 
 // The buffer holds more than the longest message, so that a longer one is refused by its front.

@@ -3,8 +3,7 @@ use Rattle.wire.proofs.Basics.{◌∙◌, sym, ◌≡◌, ap, refl, subst, ℕ, 
 use Rattle.wire.proofs.Basics.{eqb-true, le-leb, arith}
 use Rattle.wire.specs.Choice.{pick}
 use Rattle.lmcp.specs.Limits.{deepest}
-use Rattle.lmcp.specs.declared.Found.{Found}
-use Rattle.lmcp.specs.declared.Found.TheVariants.{Numbers, Refused}
+use Rattle.lmcp.specs.Found.{Found, Numbers, Refused}
 use Rattle.lmcp.specs.Run.{got, refused, prepend, whole}
 use Rattle.lmcp.specs.Table.{pitsurv}
 use Rattle.lmcp.specs.Read.{Read, read_head}

@@ -2,36 +2,21 @@
 // writes what is in order, so that it need not look again.
 #![tactic(auto)]
 
-ghost use Rattle.std.specs.Prelude.{◌≡◌, [], ◌∷◌, ◌+◌, ◌-◌, ◌*◌, ◌^◌, ◌≤◌, ◌<◌, min, pos, length, drop, set};
+ghost use Rattle.std.specs.Prelude.{◌≡◌, [], ◌∷◌, ◌+◌, ◌^◌, ◌≤◌, ◌<◌, pos, length, drop, set};
 ghost use Rattle.std.proofs.lemmas.List.Edits.{sets};
-ghost use Rattle.wire.specs.Signed.{signed};
 ghost use Rattle.wire.specs.Bytes.{be};
 ghost use Rattle.lmcp.specs.Run.{repeat, prepend, whole};
 ghost use Rattle.lmcp.specs.Table.{fields_of, rows_of, pitsurv};
-ghost use Rattle.lmcp.specs.InsidePacked.{cell, width_of};
+ghost use Rattle.lmcp.specs.InsidePacked.{width_of};
 ghost use Rattle.lmcp.specs.InsideAhead.{Lays};
+ghost use Rattle.lmcp.specs.Found.{found_told};
 ghost use Rattle.lmcp.specs.Message.{ReadTo};
 ghost use Rattle.lmcp.specs.Lists.{read_list};
 ghost use Rattle.lmcp_check.specs.InsideSteps.{read_object, read_row, read_fields, read_root};
-ghost use Rattle.lmcp_check.specs.InsideChecks.{Lent};
 ghost use Rattle.lmcp_reader.specs.InsidePuts.{Ahead, Rooms, coded, bytes_as_numbers};
 
-use lmcp::Found;
-
-// Where the walk stands, in the bytes and in the list.
-#[derive(Drop)]
-struct Spot {
-    p: usize,
-    q: usize,
-}
-
-// A byte of the table.
-fn entry(table: &[[u8; 8]; 22], i: usize, k: usize) -> usize
-    requires { (i < 22) × (k < 8) }
-    ensures { result ≡ cell table.now i k }
-{
-    wire::wide(table[i][k]) as usize
-}
+use lmcp::{Packed, Spot};
+use refusals::Refusal;
 
 // The number z at a place, if the list reaches so far.
 fn put(list: &mut [i64], q: usize, z: i64)
@@ -42,25 +27,35 @@ fn put(list: &mut [i64], q: usize, z: i64)
     }
 }
 
-fn two(s: &[u8], at: usize) -> u64
+// Kept: `two` and `four` stand in `lmcp_check` too, since a public function asks nothing of its caller and a shared one would test each place again.
+fn two(s: &[u8], at: usize) -> u16
     requires { at + 2 ≤ length s.now }
-    ensures { (result ≡ be 2 (drop at s.now)) × (result < 65536) }
+    ensures { result ≡ be 2 (drop at s.now) }
 {
-    wire::wide(s[at]) * 256 + wire::wide(s[at + 1])
+    u16::from_be_bytes([s[at], s[at + 1]])
 }
 
-fn four(s: &[u8], at: usize) -> u64
+fn four(s: &[u8], at: usize) -> u32
     requires { at + 4 ≤ length s.now }
-    ensures { (result ≡ be 4 (drop at s.now)) × (result < 4294967296) }
+    ensures { result ≡ be 4 (drop at s.now) }
 {
-    two(s, at) * 65536 + two(s, at + 2)
+    u32::from_be_bytes([s[at], s[at + 1], s[at + 2], s[at + 3]])
 }
 
 fn eight(s: &[u8], at: usize) -> u64
     requires { at + 8 ≤ length s.now }
-    ensures { (result ≡ be 8 (drop at s.now)) × (result < 18446744073709551616) }
+    ensures { result ≡ be 8 (drop at s.now) }
 {
-    four(s, at) * 4294967296 + four(s, at + 4)
+    u64::from_be_bytes([
+        s[at],
+        s[at + 1],
+        s[at + 2],
+        s[at + 3],
+        s[at + 4],
+        s[at + 5],
+        s[at + 6],
+        s[at + 7],
+    ])
 }
 
 // A number that is not signed.
@@ -71,226 +66,199 @@ fn plain_of(v: u64) -> i64
     v as i64
 }
 
-// The signed number of w bytes whose bits are v; h is half of their range.
-fn signed_of(w: usize, h: u64, v: u64) -> i64
-    requires { (((1 ≤ w) × (w ≤ 8)) × (v < 256 ^ w)) × (h ≡ 2 ^ (8 * min w 8 - 1)) }
-    ensures { result ≡ signed (8 * w) v }
-{
-    if v < h {
-        return v as i64;
-    }
-    let k = (h - 1) - (v - h);
-    let m = k as i64;
-    -1 - m
-}
-
 // The number of a code at a place.
-fn value_of(s: &[u8], p: usize, code: usize) -> i64
+fn value_of(s: &[u8], p: usize, code: u8) -> i64
     requires { p + width_of code ≤ length s.now }
     ensures { result ≡ coded code (drop p s.now) }
 {
-    if code == 0 {
-        return plain_of(wire::wide(s[p]));
+    if code == lmcp::BYTE_CODE {
+        return i64::from(s[p]);
     }
-    if code == 1 {
-        return plain_of(two(s, p));
+    if code == lmcp::UINT16_CODE {
+        return i64::from(two(s, p));
     }
-    if code == 2 {
-        return plain_of(four(s, p));
+    if code == lmcp::UINT32_CODE {
+        return i64::from(four(s, p));
     }
-    if code == 3 {
-        return signed_of(2, 32768, two(s, p));
+    if code == lmcp::INT16_CODE {
+        return i64::from(two(s, p).cast_signed());
     }
-    if code == 4 {
-        return signed_of(4, 2147483648, four(s, p));
+    if code == lmcp::INT32_CODE {
+        return i64::from(four(s, p).cast_signed());
     }
-    signed_of(8, 9223372036854775808, eight(s, p))
+    eight(s, p).cast_signed()
 }
 
 // n numbers of one byte each: every array of plain numbers in the table is of bytes. So `value_of` has one caller, and is inlined there.
-fn put_bytes_as_numbers(s: &[u8], p: usize, q: usize, n: usize, list: &mut [i64])
-    requires { ((p + n ≤ length s.now) × (q + n ≤ 4294967296)) × (length s.now < 4294967296) }
-    ensures { list.new ≡ sets list.old q (bytes_as_numbers n (drop p s.now)) }
+fn put_bytes_as_numbers(s: &[u8], from: Spot, n: usize, list: &mut [i64])
+    requires { ((from.p + n ≤ length s.now) × (from.q + n ≤ 4294967296)) × (length s.now < 4294967296) }
+    ensures { list.new ≡ sets list.old from.q (bytes_as_numbers n (drop from.p s.now)) }
 {
-    let mut k: usize = 0;
-    while k < n {
-        put(list, q + k, plain_of(wire::wide(s[p + k])));
-        k += 1;
+    for k in 0..n {
+        put(list, from.q + k, i64::from(s[from.p + k]));
     }
 }
 
-// One field: row i of the table.
-#[cycle(put_fields_put_object_put_objects_put_row)]
-fn put_row(
-    s: &[u8],
-    p: usize,
-    q: usize,
-    table: &[[u8; 8]; 22],
-    version: u64,
-    deep: usize,
-    i: usize,
-    list: &mut [i64],
-) -> Spot
-    requires { Lent s.now p table.now version × (((i < 20) × (i < length (rows_of (pitsurv version)))) × Ahead (read_row version deep i (drop p s.now)) q) }
-    ensures { Lays s.now list.old q (read_row version deep i (drop p s.now)) result.p result.q list.new }
-{
-    let code = entry(table, i, lmcp::CODE);
-    let w = entry(table, i, lmcp::COUNT);
-    let arg = entry(table, i, lmcp::ARG);
-    if w == 0 {
-        if code == 6 {
-            return put_object(s, p, q, table, version, deep, arg, list);
-        }
-        let n = entry(table, i, lmcp::FIXED);
-        if n == 1 {
-            put(list, q, value_of(s, p, code));
+// A walk over the bytes of a root that is in order, by the table of its version. It has no more bytes than a count can have.
+#[derive(Drop)]
+struct Walk<'a> {
+    s: &'a [u8],
+    packed: Packed,
+    ghost short: { length s.now < 4294967296 },
+}
+
+impl Walk<'_> {
+    // One field: row i of the table.
+    #[cycle(walk)]
+    fn put_row(&self, from: Spot, deep: usize, i: usize, list: &mut [i64]) -> Spot
+        requires { let s = self.now.s.now in (from.p ≤ length s)
+            × (((i < 20) × (i < length (rows_of (pitsurv self.now.packed.version)))) × Ahead (read_row self.now.packed.version deep i (drop from.p s)) from.q) }
+        ensures { let s = self.now.s.now in Lays s list.old from.q (read_row self.now.packed.version deep i (drop from.p s)) result.p result.q list.new }
+    {
+        let row = self.packed.rows[i];
+        let code = row[lmcp::CODE];
+        let w = row[lmcp::COUNT] as usize;
+        let arg = row[lmcp::ARG] as usize;
+        if w == 0 {
+            if code == lmcp::OBJECT_CODE {
+                return self.put_object(from, deep, arg, list);
+            }
+            let n = row[lmcp::FIXED] as usize;
+            if n == 1 {
+                put(list, from.q, value_of(self.s, from.p, code));
+                return Spot {
+                    p: from.p + arg,
+                    q: from.q + 1,
+                };
+            }
+            put_bytes_as_numbers(self.s, from, n, list);
             return Spot {
-                p: p + arg,
-                q: q + 1,
+                p: from.p + n,
+                q: from.q + n,
             };
         }
-        put_bytes_as_numbers(s, p, q, n, list);
-        return Spot { p: p + n, q: q + n };
-    }
-    let count = wire::number(s, p, w);
-    put(list, q, plain_of(count));
-    let m = count as usize;
-    if code == 6 {
-        return put_objects(s, p + w, q + 1, table, version, deep, arg, m, list);
-    }
-    put_bytes_as_numbers(s, p + w, q + 1, m, list);
-    Spot {
-        p: p + w + m,
-        q: q + 1 + m,
-    }
-}
-
-// All fields of type t.
-#[cycle(put_fields_put_object_put_objects_put_row)]
-fn put_fields(
-    s: &[u8],
-    p: usize,
-    q: usize,
-    table: &[[u8; 8]; 22],
-    version: u64,
-    deep: usize,
-    t: usize,
-    list: &mut [i64],
-) -> Spot
-    requires { Lent s.now p table.now version × ((t < 8) × Ahead (read_fields version deep (fields_of (pitsurv version) t) (drop p s.now)) q) }
-    ensures { Lays s.now list.old q (read_fields version deep (fields_of (pitsurv version) t) (drop p s.now)) result.p result.q list.new }
-{
-    let mut a = p;
-    let mut b = q;
-    let mut i = entry(table, lmcp::BEGINS, t);
-    let end = entry(table, lmcp::ENDS, t);
-    while i < end {
-        let r = put_row(s, a, b, table, version, deep, i, list);
-        a = r.p;
-        b = r.q;
-        i += 1;
-    }
-    Spot { p: a, q: b }
-}
-
-// n objects of a declared type. A null is laid without a call.
-#[cycle(put_fields_put_object_put_objects_put_row)]
-fn put_objects(
-    s: &[u8],
-    p: usize,
-    q: usize,
-    table: &[[u8; 8]; 22],
-    version: u64,
-    deep: usize,
-    declared: usize,
-    n: usize,
-    list: &mut [i64],
-) -> Spot
-    requires { Lent s.now p table.now version × Ahead (repeat n (read_object version deep declared) (drop p s.now)) q }
-    ensures { Lays s.now list.old q (repeat n (read_object version deep declared) (drop p s.now)) result.p result.q list.new }
-{
-    let mut a = p;
-    let mut b = q;
-    let mut k: usize = 0;
-    while k < n {
-        if s[a] == 0 {
-            put(list, b, 0);
-            a += 1;
-            b += 1;
-            k += 1;
-            continue;
+        let count = wire::number(self.s, from.p, w);
+        put(list, from.q, plain_of(count));
+        let m = count as usize;
+        let next = Spot {
+            p: from.p + w,
+            q: from.q + 1,
+        };
+        if code == lmcp::OBJECT_CODE {
+            return self.put_objects(next, deep, arg, m, list);
         }
-        let r = put_object(s, a, b, table, version, deep, declared, list);
-        a = r.p;
-        b = r.q;
-        k += 1;
+        put_bytes_as_numbers(self.s, next, m, list);
+        Spot {
+            p: next.p + m,
+            q: next.q + m,
+        }
     }
-    Spot { p: a, q: b }
-}
 
-// An object of a declared type.
-#[cycle(put_fields_put_object_put_objects_put_row)]
-fn put_object(
-    s: &[u8],
-    p: usize,
-    q: usize,
-    table: &[[u8; 8]; 22],
-    version: u64,
-    deep: usize,
-    declared: usize,
-    list: &mut [i64],
-) -> Spot
-    requires { Lent s.now p table.now version × Ahead (read_object version deep declared (drop p s.now)) q }
-    ensures { Lays s.now list.old q (read_object version deep declared (drop p s.now)) result.p result.q list.new }
-{
-    let exists = wire::wide(s[p]);
-    if exists == 0 {
-        put(list, q, 0);
-        return Spot { p: p + 1, q: q + 1 };
+    // All fields of type t.
+    #[cycle(walk)]
+    fn put_fields(&self, from: Spot, deep: usize, t: usize, list: &mut [i64]) -> Spot
+        requires { let s = self.now.s.now in let v = self.now.packed.version in (from.p ≤ length s) × ((t < 8) × Ahead (read_fields v deep (fields_of (pitsurv v) t) (drop from.p s)) from.q) }
+        ensures { let s = self.now.s.now in let v = self.now.packed.version in Lays s list.old from.q (read_fields v deep (fields_of (pitsurv v) t) (drop from.p s)) result.p result.q list.new }
+    {
+        let mut spot = from;
+        let first = self.packed.rows[lmcp::BEGINS][t] as usize;
+        let end = self.packed.rows[lmcp::ENDS][t] as usize;
+        for i in first..end {
+            spot = self.put_row(spot, deep, i, list);
+        }
+        spot
     }
-    let t = four(s, p + 9);
-    put(list, q, plain_of(t));
-    put_fields(s, p + 15, q + 1, table, version, deep - 1, t as usize, list)
-}
 
-// Whether the list has room for the version and the numbers of a root that is in order. A number takes a byte at least, so a list longer than
-// the root has; else the walk goes once over no list at all, and counts.
-fn has_room(s: &[u8], table: &[[u8; 8]; 22], version: u64, list: &mut [i64]) -> bool
-    requires { Lent s.now 0 table.now version × Ahead (read_object version 16 0 s.now) 1 }
-    ensures { (list.new ≡ list.old) × Rooms (read_object version 16 0 s.now) (length list.old) result }
-{
-    if s.len() < list.len() {
-        return true;
+    // n objects of a declared type. A null is laid without a call.
+    #[cycle(walk)]
+    fn put_objects(
+        &self,
+        from: Spot,
+        deep: usize,
+        declared: usize,
+        n: usize,
+        list: &mut [i64],
+    ) -> Spot
+        requires { let s = self.now.s.now in (from.p ≤ length s) × Ahead (repeat n (read_object self.now.packed.version deep declared) (drop from.p s)) from.q }
+        ensures { let s = self.now.s.now in Lays s list.old from.q (repeat n (read_object self.now.packed.version deep declared) (drop from.p s)) result.p result.q list.new }
+    {
+        let mut spot = from;
+        for _ in 0..n {
+            if self.s[spot.p] == 0 {
+                put(list, spot.q, 0);
+                spot = Spot {
+                    p: spot.p + 1,
+                    q: spot.q + 1,
+                };
+                continue;
+            }
+            spot = self.put_object(spot, deep, declared, list);
+        }
+        spot
     }
-    let none = 0;
-    let done = put_object(s, 0, 1, table, version, lmcp::DEEPEST, 0, &mut list[..none]);
-    let most = done.q;
-    most <= list.len()
+
+    // An object of a declared type.
+    #[cycle(walk)]
+    fn put_object(&self, from: Spot, deep: usize, declared: usize, list: &mut [i64]) -> Spot
+        requires { let s = self.now.s.now in (from.p ≤ length s) × Ahead (read_object self.now.packed.version deep declared (drop from.p s)) from.q }
+        ensures { let s = self.now.s.now in Lays s list.old from.q (read_object self.now.packed.version deep declared (drop from.p s)) result.p result.q list.new }
+    {
+        let exists = self.s[from.p];
+        if exists == 0 {
+            put(list, from.q, 0);
+            return Spot {
+                p: from.p + 1,
+                q: from.q + 1,
+            };
+        }
+        let t = four(self.s, from.p + 9);
+        put(list, from.q, i64::from(t));
+        let next = Spot {
+            p: from.p + 15,
+            q: from.q + 1,
+        };
+        self.put_fields(next, deep - 1, t as usize, list)
+    }
+
+    // Whether the list has room for the version and the numbers of the root. A number takes a byte at least, so a list longer than the root
+    // has; else the walk goes once over no list at all, and counts.
+    fn has_room(&self, list: &mut [i64]) -> bool
+        requires { Ahead (read_object self.now.packed.version 16 0 self.now.s.now) 1 }
+        ensures { (list.new ≡ list.old) × Rooms (read_object self.now.packed.version 16 0 self.now.s.now) (length list.old) result }
+    {
+        if self.s.len() < list.len() {
+            return true;
+        }
+        let none = 0;
+        let done = self.put_object(Spot { p: 0, q: 1 }, lmcp::DEEPEST, 0, &mut list[..none]);
+        let most = done.q;
+        most <= list.len()
+    }
 }
 
 // The version, and behind it the numbers of a root that is in order, where the list has room for them.
-fn put_list(s: &[u8], version: u64, list: &mut [i64]) -> Found
+fn put_list(s: &[u8], version: u64, list: &mut [i64]) -> Result<usize, Refusal>
     requires { (version < 2 ^ 63) × ((length s.now < 4294967296) × Ahead (whole (read_root version s.now)) 1) }
-    ensures { ReadTo (prepend (pos version ∷ []) (whole (read_root version s.now))) list.old result list.new }
+    ensures { ReadTo (prepend (pos version ∷ []) (whole (read_root version s.now))) list.old (found_told result) list.new }
 {
-    let table = lmcp::table(version);
-    if !has_room(s, &table, version, list) {
-        return Found::Refused(13);
+    let walk = Walk {
+        s,
+        packed: Packed::of(version),
+    };
+    if !walk.has_room(list) {
+        return Err(Refusal::NoRoom);
     }
     put(list, 0, plain_of(version));
-    let done = put_object(s, 0, 1, &table, version, lmcp::DEEPEST, 0, list);
+    let done = walk.put_object(Spot { p: 0, q: 1 }, lmcp::DEEPEST, 0, list);
     let count = done.q;
-    Found::Numbers(count)
+    Ok(count)
 }
 
-// Reads a message of either version into the start of the list.
-pub fn read_message(message: &[u8], list: &mut [i64]) -> Found
-    ensures { ReadTo (read_list message.now) list.old result list.new }
+// Reads a message of either version into the start of the list: how many numbers it then begins with.
+pub fn read_message(message: &[u8], list: &mut [i64]) -> Result<usize, Refusal>
+    ensures { ReadTo (read_list message.now) list.old (found_told result) list.new }
 {
-    let wrong = lmcp_check::check_message(message);
-    if wrong != 0 {
-        return Found::Refused(wrong);
-    }
+    lmcp_check::check_message(message)?;
     let end = message.len() - 4;
     let s = &message[8..end];
     put_list(s, lmcp_check::version_of(s), list)

@@ -5,8 +5,7 @@ use lib.Signed.{mag}
 use Rattle.wire.specs.Choice.{pick}
 use Rattle.wire.specs.Bytes.{bytes}
 use Rattle.wire.proofs.Numbers.{length-bytes}
-use Rattle.lmcp.specs.declared.Made.{Made}
-use Rattle.lmcp.specs.declared.Made.TheVariants.{Bytes, Refused}
+use Rattle.lmcp.specs.Made.{Made, Bytes, Refused}
 use Rattle.lmcp.specs.Limits.{max_message}
 use Rattle.lmcp.specs.Run.{got, refused, whole}
 use Rattle.lmcp.specs.Table.{pitsurv}

@@ -1,11 +1,10 @@
 -- The contracts of the walk that only checks: where it stands in the list, and how many bytes there are so far. Definitions only.
-use Rattle.std.specs.Prelude.{◌≡◌, List, [], ℕ, ◌+◌, ◌*◌, ◌≤◌, ℤ, length}
-use Rattle.lmcp.specs.declared.Went.{Went}
-use Rattle.lmcp.specs.declared.Mark.{Mark}
+use Rattle.std.specs.Prelude.{◌≡◌, List, [], ℕ, ◌+◌, ◌*◌, ◌≤◌, ℤ, length, Result}
+use Rattle.refusals.specs.declared.Refusal.{Refusal}
+use Rattle.lmcp.specs.declared.Spot.{Spot}
 use Rattle.lmcp.specs.Run.{Tag}
 use Rattle.lmcp.specs.Write.{Write}
 use Rattle.lmcp.specs.Table.{signed_kind}
-use Rattle.lmcp.specs.Packed.{packed_of}
 use Rattle.lmcp.specs.InsideEnds.{begun, EndsBy, MarksBy, Few15}
 
 -- the bytes of a number or a count
@@ -21,15 +20,14 @@ pub record Ranges (kind w : ℕ) : Type 0 where
   pub less : (kind ≡ signed_kind → ⊥) → w ≤ 7
 
 -- the walk over no output: all of W is got, its bytes counted from `to` on, or it is refused
-abbrev pub Weighs : List ℤ → ℕ → Write → Went → Type 0
+abbrev pub Weighs : List ℤ → ℕ → Write → Result Spot Refusal → Type 0
 Weighs list to W r = EndsBy Few15 (begun list [] to) W r []
 
 -- the same of a count or a type
-abbrev pub Tells : List ℤ → ℕ → Tag ℤ ℕ → Mark → Type 0
+abbrev pub Tells : List ℤ → ℕ → Tag ℤ ℕ → Result (ℕ × Spot) Refusal → Type 0
 Tells list to X r = MarksBy Few15 (begun list [] to) X r []
 
--- what every function of the walk supposes: its two places, and the table of the version
-pub record Stands (list : List ℤ) (at to : ℕ) (table : List (List ℕ)) (v : ℕ) : Type 0 where
-  pub place : to ≤ 15 * at + 8
-  pub inside : at ≤ length list
-  pub packed : table ≡ packed_of v
+-- what every function of the walk supposes of its two places
+pub record Stands (list : List ℤ) (s : Spot) : Type 0 where
+  pub place : s.q ≤ 15 * s.p + 8
+  pub inside : s.p ≤ length list

@@ -1,7 +1,6 @@
 -- How long what is written is. Definitions only.
 use Rattle.std.specs.Prelude.{◌≡◌, Bool, length}
-use Rattle.lmcp.specs.declared.Made.{Made}
-use Rattle.lmcp.specs.declared.Made.TheVariants.{Bytes, Refused}
+use Rattle.lmcp.specs.Made.{Made, Bytes, Refused}
 use Rattle.lmcp.specs.Run.{got, refused}
 use Rattle.lmcp.specs.Write.{Write}
 

@@ -7,8 +7,7 @@ use Rattle.wire.specs.Bytes.{bytes}
 use Rattle.wire.specs.Overlay.{overlay}
 use Rattle.wire.proofs.Numbers.{length-bytes}
 use Rattle.wire.proofs.Overlays.{overlay-sets, overlay-next, overlay-at}
-use Rattle.lmcp.specs.declared.Made.{Made}
-use Rattle.lmcp.specs.declared.Made.TheVariants.{Bytes as Wrote, Refused}
+use Rattle.lmcp.specs.Made.{Made, Bytes as Wrote, Refused}
 use Rattle.lmcp.specs.Limits.{max_message, magic, deepest}
 use Rattle.lmcp.specs.Run.{got, refused, whole}
 use Rattle.lmcp.specs.Table.{pitsurv}

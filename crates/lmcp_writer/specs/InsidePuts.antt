@@ -1,17 +1,11 @@
 -- The contracts of the walk that writes: the list is in order, and the output has room. Definitions only.
-use Rattle.std.specs.Prelude.{◌≡◌, Bool, List, [], ◌∷◌, ◌++◌, ℕ, zero, suc, ◌+◌, ◌≤◌, ℤ, length}
+use Rattle.std.specs.Prelude.{◌≡◌, Bool, List, [], ◌∷◌, ◌++◌, ℕ, zero, suc, ◌+◌, ℤ, length}
 use Rattle.wire.specs.Bytes.{bytes}
 use Rattle.wire.specs.Overlay.{overlay}
 use Rattle.wire.specs.Signed.{unsigned}
 use Rattle.lmcp.specs.Run.{got}
-use Rattle.lmcp.specs.Packed.{packed_of}
 use Rattle.lmcp.specs.Message.{message_on}
 use Rattle.lmcp_size.specs.InsideSteps.{write_object}
-
--- what every function of the walk supposes: its place in the list, and the table of the version
-pub record Stands (list : List ℤ) (at : ℕ) (table : List (List ℕ)) (v : ℕ) : Type 0 where
-  pub inside : at ≤ length list
-  pub packed : table ≡ packed_of v
 
 -- the low w bytes of each of n numbers
 abbrev pub spelled : ℕ → ℕ → List ℤ → List ℕ

@@ -10,31 +10,17 @@ ghost use Rattle.wire.specs.Overlay.{overlay};
 ghost use Rattle.wire.specs.Signed.{unsigned};
 ghost use Rattle.lmcp.specs.Run.{repeat};
 ghost use Rattle.lmcp.specs.Table.{rows_of, fields_of, pitsurv};
-ghost use Rattle.lmcp.specs.InsidePacked.{cell};
 ghost use Rattle.lmcp.specs.InsideAhead.{Ahead, Lays};
 ghost use Rattle.lmcp.specs.Write.{header};
+ghost use Rattle.lmcp.specs.Made.{made_told};
 ghost use Rattle.lmcp.specs.Message.{checksum_of, WrittenTo};
 ghost use Rattle.lmcp.specs.Lists.{write_list};
 ghost use Rattle.lmcp_size.specs.InsideSteps.{write_object, write_row, write_fields};
 ghost use Rattle.lmcp_size.specs.InsideWeighs.{Wide};
-ghost use Rattle.lmcp_writer.specs.InsidePuts.{Stands, Laid, spelled};
+ghost use Rattle.lmcp_writer.specs.InsidePuts.{Laid, spelled};
 
-use lmcp::Made;
-
-// Where the walk stands, in the list and in the bytes.
-#[derive(Drop)]
-struct Spot {
-    p: usize,
-    q: usize,
-}
-
-// A byte of the table.
-fn entry(table: &[[u8; 8]; 22], i: usize, k: usize) -> usize
-    requires { (i < 22) × (k < 8) }
-    ensures { result ≡ cell table.now i k }
-{
-    wire::wide(table[i][k]) as usize
-}
+use lmcp::{Packed, Spot};
+use refusals::Refusal;
 
 // The low two bytes of v, where they have room.
 fn put_two(out: &mut [u8], to: usize, v: u64)
@@ -79,25 +65,19 @@ fn put_number(out: &mut [u8], to: usize, w: usize, v: u64)
 fn bits_of(z: i64) -> u64
     ensures { result ≡ unsigned 64 z }
 {
-    let n = lmcp::size_of(z);
-    if z < 0 {
-        return 18446744073709551615 - n;
-    }
-    n
+    z.cast_unsigned()
 }
 
 // The low w bytes of each of n numbers.
-fn put_values(list: &[i64], p: usize, q: usize, w: usize, n: usize, out: &mut [u8])
-    requires { ((p + n ≤ length list.now) × (q + n * w ≤ length out.old)) × Wide w }
-    ensures { out.new ≡ sets out.old q (spelled n w (drop p list.now)) }
+fn put_values(list: &[i64], from: Spot, w: usize, n: usize, out: &mut [u8])
+    requires { ((from.p + n ≤ length list.now) × (from.q + n * w ≤ length out.old)) × Wide w }
+    ensures { out.new ≡ sets out.old from.q (spelled n w (drop from.p list.now)) }
 {
-    let mut k: usize = 0;
-    let mut to = q;
-    while k < n {
-        let z = list[p + k];
+    let mut to = from.q;
+    for k in 0..n {
+        let z = list[from.p + k];
         put_number(out, to, w, bits_of(z));
         to += w;
-        k += 1;
     }
 }
 
@@ -112,153 +92,129 @@ fn put_header(out: &mut [u8], to: usize, version: u64, n: u64)
     put_number(out, to + 13, 2, version);
 }
 
-// One field: row i of the table.
-#[cycle(put_fields_put_object_put_objects_put_row)]
-fn put_row(
-    list: &[i64],
-    p: usize,
-    q: usize,
-    table: &[[u8; 8]; 22],
-    version: u64,
-    deep: usize,
-    i: usize,
-    out: &mut [u8],
-) -> Spot
-    requires { Stands list.now p table.now version × (((i < 20) × (i < length (rows_of (pitsurv version)))) × Ahead (write_row version deep i (drop p list.now)) q (length out.old)) }
-    ensures { Lays list.now out.old q (write_row version deep i (drop p list.now)) result.p result.q out.new }
-{
-    let code = entry(table, i, lmcp::CODE);
-    let w = entry(table, i, lmcp::COUNT);
-    let arg = entry(table, i, lmcp::ARG);
-    if w == 0 {
-        if code == 6 {
-            return put_object(list, p, q, table, version, deep, arg, out);
-        }
-        let n = entry(table, i, lmcp::FIXED);
-        if n == 1 {
-            let z = list[p];
-            put_number(out, q, arg, bits_of(z));
+// A walk over the numbers of a list that is in order, by the table of its version.
+#[derive(Drop)]
+struct Walk<'a> {
+    list: &'a [i64],
+    packed: Packed,
+}
+
+impl Walk<'_> {
+    // One field: row i of the table.
+    #[cycle(walk)]
+    fn put_row(&self, from: Spot, deep: usize, i: usize, out: &mut [u8]) -> Spot
+        requires { let l = self.now.list.now in (from.p ≤ length l)
+            × (((i < 20) × (i < length (rows_of (pitsurv self.now.packed.version)))) × Ahead (write_row self.now.packed.version deep i (drop from.p l)) from.q (length out.old)) }
+        ensures { let l = self.now.list.now in Lays l out.old from.q (write_row self.now.packed.version deep i (drop from.p l)) result.p result.q out.new }
+    {
+        let row = self.packed.rows[i];
+        let code = row[lmcp::CODE];
+        let w = row[lmcp::COUNT] as usize;
+        let arg = row[lmcp::ARG] as usize;
+        if w == 0 {
+            if code == lmcp::OBJECT_CODE {
+                return self.put_object(from, deep, arg, out);
+            }
+            let n = row[lmcp::FIXED] as usize;
+            if n == 1 {
+                let z = self.list[from.p];
+                put_number(out, from.q, arg, bits_of(z));
+                return Spot {
+                    p: from.p + 1,
+                    q: from.q + arg,
+                };
+            }
+            put_values(self.list, from, arg, n, out);
             return Spot {
-                p: p + 1,
-                q: q + arg,
+                p: from.p + n,
+                q: from.q + n * arg,
             };
         }
-        put_values(list, p, q, arg, n, out);
-        return Spot {
-            p: p + n,
-            q: q + n * arg,
+        let z = self.list[from.p];
+        let count = lmcp::size_of(z);
+        put_number(out, from.q, w, count);
+        let m = count as usize;
+        let next = Spot {
+            p: from.p + 1,
+            q: from.q + w,
         };
-    }
-    let z = list[p];
-    let count = lmcp::size_of(z);
-    put_number(out, q, w, count);
-    let m = count as usize;
-    if code == 6 {
-        return put_objects(list, p + 1, q + w, table, version, deep, arg, m, out);
-    }
-    put_values(list, p + 1, q + w, arg, m, out);
-    Spot {
-        p: p + 1 + m,
-        q: q + w + m * arg,
-    }
-}
-
-// All fields of type t.
-#[cycle(put_fields_put_object_put_objects_put_row)]
-fn put_fields(
-    list: &[i64],
-    p: usize,
-    q: usize,
-    table: &[[u8; 8]; 22],
-    version: u64,
-    deep: usize,
-    t: usize,
-    out: &mut [u8],
-) -> Spot
-    requires { Stands list.now p table.now version × ((t < 8) × Ahead (write_fields version deep (fields_of (pitsurv version) t) (drop p list.now)) q (length out.old)) }
-    ensures { Lays list.now out.old q (write_fields version deep (fields_of (pitsurv version) t) (drop p list.now)) result.p result.q out.new }
-{
-    let mut a = p;
-    let mut b = q;
-    let mut i = entry(table, lmcp::BEGINS, t);
-    let end = entry(table, lmcp::ENDS, t);
-    while i < end {
-        let r = put_row(list, a, b, table, version, deep, i, out);
-        a = r.p;
-        b = r.q;
-        i += 1;
-    }
-    Spot { p: a, q: b }
-}
-
-// n objects of a declared type. A null is written without a call.
-#[cycle(put_fields_put_object_put_objects_put_row)]
-fn put_objects(
-    list: &[i64],
-    p: usize,
-    q: usize,
-    table: &[[u8; 8]; 22],
-    version: u64,
-    deep: usize,
-    declared: usize,
-    n: usize,
-    out: &mut [u8],
-) -> Spot
-    requires { Stands list.now p table.now version × Ahead (repeat n (write_object version deep declared) (drop p list.now)) q (length out.old) }
-    ensures { Lays list.now out.old q (repeat n (write_object version deep declared) (drop p list.now)) result.p result.q out.new }
-{
-    let mut a = p;
-    let mut b = q;
-    let mut k: usize = 0;
-    while k < n {
-        let z = list[a];
-        if lmcp::size_of(z) == 0 {
-            put_number(out, b, 1, 0);
-            a += 1;
-            b += 1;
-            k += 1;
-            continue;
+        if code == lmcp::OBJECT_CODE {
+            return self.put_objects(next, deep, arg, m, out);
         }
-        let r = put_object(list, a, b, table, version, deep, declared, out);
-        a = r.p;
-        b = r.q;
-        k += 1;
+        put_values(self.list, next, arg, m, out);
+        Spot {
+            p: next.p + m,
+            q: next.q + m * arg,
+        }
     }
-    Spot { p: a, q: b }
-}
 
-// An object of a declared type.
-#[cycle(put_fields_put_object_put_objects_put_row)]
-fn put_object(
-    list: &[i64],
-    p: usize,
-    q: usize,
-    table: &[[u8; 8]; 22],
-    version: u64,
-    deep: usize,
-    declared: usize,
-    out: &mut [u8],
-) -> Spot
-    requires { Stands list.now p table.now version × Ahead (write_object version deep declared (drop p list.now)) q (length out.old) }
-    ensures { Lays list.now out.old q (write_object version deep declared (drop p list.now)) result.p result.q out.new }
-{
-    let z = list[p];
-    let n = lmcp::size_of(z);
-    if n == 0 {
-        put_number(out, q, 1, 0);
-        return Spot { p: p + 1, q: q + 1 };
+    // All fields of type t.
+    #[cycle(walk)]
+    fn put_fields(&self, from: Spot, deep: usize, t: usize, out: &mut [u8]) -> Spot
+        requires { let l = self.now.list.now in let v = self.now.packed.version in (from.p ≤ length l)
+            × ((t < 8) × Ahead (write_fields v deep (fields_of (pitsurv v) t) (drop from.p l)) from.q (length out.old)) }
+        ensures { let l = self.now.list.now in let v = self.now.packed.version in Lays l out.old from.q (write_fields v deep (fields_of (pitsurv v) t) (drop from.p l)) result.p result.q out.new }
+    {
+        let mut spot = from;
+        let first = self.packed.rows[lmcp::BEGINS][t] as usize;
+        let end = self.packed.rows[lmcp::ENDS][t] as usize;
+        for i in first..end {
+            spot = self.put_row(spot, deep, i, out);
+        }
+        spot
     }
-    put_header(out, q, version, n);
-    put_fields(
-        list,
-        p + 1,
-        q + 15,
-        table,
-        version,
-        deep - 1,
-        n as usize,
-        out,
-    )
+
+    // n objects of a declared type. A null is written without a call.
+    #[cycle(walk)]
+    fn put_objects(
+        &self,
+        from: Spot,
+        deep: usize,
+        declared: usize,
+        n: usize,
+        out: &mut [u8],
+    ) -> Spot
+        requires { let l = self.now.list.now in (from.p ≤ length l) × Ahead (repeat n (write_object self.now.packed.version deep declared) (drop from.p l)) from.q (length out.old) }
+        ensures { let l = self.now.list.now in Lays l out.old from.q (repeat n (write_object self.now.packed.version deep declared) (drop from.p l)) result.p result.q out.new }
+    {
+        let mut spot = from;
+        for _ in 0..n {
+            let z = self.list[spot.p];
+            if lmcp::size_of(z) == 0 {
+                put_number(out, spot.q, 1, 0);
+                spot = Spot {
+                    p: spot.p + 1,
+                    q: spot.q + 1,
+                };
+                continue;
+            }
+            spot = self.put_object(spot, deep, declared, out);
+        }
+        spot
+    }
+
+    // An object of a declared type.
+    #[cycle(walk)]
+    fn put_object(&self, from: Spot, deep: usize, declared: usize, out: &mut [u8]) -> Spot
+        requires { let l = self.now.list.now in (from.p ≤ length l) × Ahead (write_object self.now.packed.version deep declared (drop from.p l)) from.q (length out.old) }
+        ensures { let l = self.now.list.now in Lays l out.old from.q (write_object self.now.packed.version deep declared (drop from.p l)) result.p result.q out.new }
+    {
+        let z = self.list[from.p];
+        let n = lmcp::size_of(z);
+        if n == 0 {
+            put_number(out, from.q, 1, 0);
+            return Spot {
+                p: from.p + 1,
+                q: from.q + 1,
+            };
+        }
+        put_header(out, from.q, self.packed.version, n);
+        let next = Spot {
+            p: from.p + 1,
+            q: from.q + 15,
+        };
+        self.put_fields(next, deep - 1, n as usize, out)
+    }
 }
 
 // At a place the checksum of all bytes before it, or zero.
@@ -282,27 +238,25 @@ fn put_message(list: &[i64], version: u64, calculate: bool, end: usize, out: &mu
     let magic = lmcp::MAGIC;
     wire::put_bytes(out, 0, &magic);
     put_number(out, 4, 4, (end - 8) as u64);
-    let table = lmcp::table(version);
-    put_object(list, 0, 8, &table, version, lmcp::DEEPEST, 0, out);
+    let walk = Walk {
+        list,
+        packed: Packed::of(version),
+    };
+    walk.put_object(Spot { p: 0, q: 8 }, lmcp::DEEPEST, 0, out);
     put_checksum(out, calculate, end);
 }
 
-// Writes the message of a list, which begins with its version, to the start of the output. A calculated checksum is never zero
-// (`lmcp`, Never).
-pub fn write_message(list: &[i64], calculate: bool, out: &mut [u8]) -> Made
-    ensures { WrittenTo (write_list calculate list.now) out.old result out.new }
+// Writes the message of a list, which begins with its version, to the start of the output: how many bytes that then begins with. A calculated
+// checksum is never zero (`lmcp`, Never).
+pub fn write_message(list: &[i64], calculate: bool, out: &mut [u8]) -> Result<usize, Refusal>
+    ensures { WrittenTo (write_list calculate list.now) out.old (made_told result) out.new }
 {
-    let sized = lmcp_size::message_size(list);
-    match sized {
-        Made::Refused(e) => Made::Refused(e),
-        Made::Bytes(size) => {
-            if out.len() < size {
-                return Made::Refused(13);
-            }
-            let first = list[0];
-            let version = lmcp::size_of(first);
-            put_message(&list[1..], version, calculate, size - 4, out);
-            Made::Bytes(size)
-        }
+    let size = lmcp_size::message_size(list)?;
+    if out.len() < size {
+        return Err(Refusal::NoRoom);
     }
+    let first = list[0];
+    let version = lmcp::size_of(first);
+    put_message(&list[1..], version, calculate, size - 4, out);
+    Ok(size)
 }

@@ -7,7 +7,7 @@ use Rattle.datagram.specs.Limits.{max_datagram, max_payload}
 use Rattle.flight_log.specs.Editions.{Edition, edition2, head_bytes}
 use Rattle.flight_log.specs.Entries.{Entry, entry_bytes, body_of, log_of}
 use Rattle.log_append.specs.Writes.{wrote, refused, fitted, begin_answer, append_answer, Began, Appended, Kept, begun, added}
-use Rattle.log_append.specs.declared.Written.TheVariants.{Next}
+use Rattle.std.proofs.Common.{Ok}
 
 -- ---- one entry more
 
@@ -46,7 +46,7 @@ log-none : (v : Edition) → log_of v [] ≡ head_bytes v
 unfolding log_of body_of
 log-none v = append-nil (head_bytes v)
 
-holds-begun : (out : List ℕ) (limit at : ℕ) (out' : List ℕ) → Began out limit (Next at) out' → Holds out limit [] at out'
+holds-begun : (out : List ℕ) (limit at : ℕ) (out' : List ℕ) → Began out limit (Ok at) out' → Holds out limit [] at out'
 unfolding begin_answer
 holds-begun out limit at out' b = by_over (ltb max_payload limit) refl b.answer
   where
@@ -72,7 +72,7 @@ module _ (out : List ℕ) (limit : ℕ) (es : List Entry) (at : ℕ) (mid : List
   same_size : length mid ≡ length out
   same_size = ap length h.wrote ∙ length-overlay out 0 (log_of v es)
 
-  holds-added : (at' : ℕ) (out' : List ℕ) → Appended mid at e (Next at') out' → Holds out limit (es ++ e ∷ []) at' out'
+  holds-added : (at' : ℕ) (out' : List ℕ) → Appended mid at e (Ok at') out' → Holds out limit (es ++ e ∷ []) at' out'
   unfolding append_answer
   holds-added at' out' s = by-long (ltb max_datagram (length e.datagram)) s.answer
     where

@@ -8,7 +8,8 @@ use Rattle.datagram.specs.Limits.{max_datagram, max_payload}
 use Rattle.flight_log.specs.Editions.{edition2, second_byte, head_bytes}
 use Rattle.flight_log.specs.Entries.{Entry, entry_of, entry_bytes}
 use Rattle.log_append.specs.Writes.{wrote, refused, fitted, begin_answer, append_answer, Began, Appended}
-use Rattle.log_append.specs.declared.Written.TheVariants.{Next, Refused}
+use Rattle.std.proofs.Common.{Ok, Err}
+use Rattle.refusals.specs.declared.Refusal.TheVariants.{LimitTooLarge, EntryTooLong, NoRoom}
 use Rattle.flight_log.proofs.LogRoundTrip.{entry-some}
 
 -- ---- the bytes of an entry
@@ -49,21 +50,21 @@ fitted-good : (n at : ℕ) (b : List ℕ) → at + length b ≤ n → fitted n a
 fitted-good n at b h = rw (le-ltb n (at + length b) h) refl
 
 module _ (out : List ℕ) (limit : ℕ) where
-  pub begin-over : max_payload < limit → Began out limit (Refused 45) out
+  pub begin-over : max_payload < limit → Began out limit (Err LimitTooLarge) out
   unfolding begin_answer
   begin-over h = record { answer = rw (lt-ltb max_payload limit h) refl; left = refl }
 
   pub begin-length : (x : ℕ) → length (overlay (set out 0 x) 1 (seven limit)) ≡ length out
   begin-length x = length-overlay (set out 0 x) 1 (seven limit) ∙ length-set out 0 x
 
-  pub begin-short : limit ≤ max_payload → length out < 1 + length (seven limit) → Began out limit (Refused 13) out
+  pub begin-short : limit ≤ max_payload → length out < 1 + length (seven limit) → Began out limit (Err NoRoom) out
   unfolding begin_answer
   begin-short h l =
       let f = fitted_short (length out) 0 (head_bytes (edition2 limit)) (omega arith) in
       record { answer = rw (le-ltb max_payload limit h) (sym f); left = refl }
 
   pub begin-good : (n : ℕ) (out' : List ℕ) → limit ≤ max_payload → n ≡ length (seven limit) → 1 + n ≤ length out
-      → out' ≡ overlay (set out 0 second_byte) 1 (seven limit) → Began out limit (Next (1 + n)) out'
+      → out' ≡ overlay (set out 0 second_byte) 1 (seven limit) → Began out limit (Ok (1 + n)) out'
   unfolding begin_answer
   begin-good n out' h s l o =
       let f = fitted-good (length out) 0 (head_bytes (edition2 limit)) (omega arith) in
@@ -76,11 +77,11 @@ module _ (out : List ℕ) (limit : ℕ) where
 -- ---- append
 
 module _ (out : List ℕ) (at : ℕ) (e : Entry) where
-  pub append-long : max_datagram < length e.datagram → Appended out at e (Refused 42) out
+  pub append-long : max_datagram < length e.datagram → Appended out at e (Err EntryTooLong) out
   unfolding append_answer
   append-long h = record { answer = rw (lt-ltb max_datagram (length e.datagram) h) refl; left = refl }
 
-  pub append-short : length e.datagram ≤ max_datagram → length out - at < length (entry_bytes e) → Appended out at e (Refused 13) out
+  pub append-short : length e.datagram ≤ max_datagram → length out - at < length (entry_bytes e) → Appended out at e (Err NoRoom) out
   unfolding append_answer
   append-short h l =
       let m : length out < at + length (entry_bytes e) = omega arith in
@@ -90,7 +91,7 @@ module _ (out : List ℕ) (at : ℕ) (e : Entry) where
   fits-at l = omega (arith, entry-some e)
 
   pub append-good : (n : ℕ) (out' : List ℕ) → length e.datagram ≤ max_datagram → n ≡ length (entry_bytes e) → n ≤ length out - at
-      → out' ≡ overlay out at (entry_bytes e) → Appended out at e (Next (at + n)) out'
+      → out' ≡ overlay out at (entry_bytes e) → Appended out at e (Ok (at + n)) out'
   unfolding append_answer
   append-good n out' h s l o =
       let m : at + length (entry_bytes e) ≤ length out = omega (arith, entry-some e) in

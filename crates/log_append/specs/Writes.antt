@@ -1,22 +1,22 @@
 -- What the writer answers and leaves: document 02, L1 and L10. "The writer gives 42, then 13", and 45 before 42. It writes edition 2. Definitions only.
-use Rattle.std.specs.Prelude.{◌≡◌, List, [], ◌∷◌, ◌++◌, ℕ, ◌+◌, ltb, length}
+use Rattle.std.specs.Prelude.{◌≡◌, List, [], ◌∷◌, ◌++◌, ℕ, ◌+◌, ltb, length, Result, Ok, Err}
 use Rattle.wire.specs.Choice.{pick}
 use Rattle.wire.specs.Overlay.{overlay}
 use Rattle.datagram.specs.Limits.{max_datagram, max_payload}
 use Rattle.flight_log.specs.Editions.{edition2, head_bytes}
 use Rattle.flight_log.specs.Entries.{Entry, entry_bytes}
-use Rattle.log_append.specs.declared.Written.{Written}
-use Rattle.log_append.specs.declared.Written.TheVariants.{Next, Refused}
+use Rattle.refusals.specs.declared.Refusal.{Refusal}
+use Rattle.refusals.specs.Numbers.{number_of}
 
 -- the place after what was written, or the number of the refusal
 pub data Answer : Type 0 where
   wrote : ℕ → Answer
   refused : ℕ → Answer
 
--- what each case of the enum says
-abbrev pub says : Written → Answer
-says (Next next) = wrote next
-says (Refused n) = refused n
+-- what the code's answer says
+abbrev pub says : Result ℕ Refusal → Answer
+says (Ok next) = wrote next
+says (Err r) = refused (number_of r)
 
 -- bytes at a place of an output of n bytes: 13 where they do not fit
 abbrev pub fitted : ℕ → ℕ → List ℕ → Answer
@@ -33,15 +33,15 @@ abbrev pub output : Answer → List ℕ → ℕ → List ℕ → List ℕ
 output (wrote next) out at b = overlay out at b
 output (refused n) out at b = out
 
-pub record Began (out : List ℕ) (limit : ℕ) (r : Written) (out' : List ℕ) : Type 0 where
+pub record Began (out : List ℕ) (limit : ℕ) (r : Result ℕ Refusal) (out' : List ℕ) : Type 0 where
   pub answer : says r ≡ begin_answer (length out) limit
   pub left : out' ≡ output (says r) out 0 (head_bytes (edition2 limit))
 
-pub record Appended (out : List ℕ) (at : ℕ) (e : Entry) (r : Written) (out' : List ℕ) : Type 0 where
+pub record Appended (out : List ℕ) (at : ℕ) (e : Entry) (r : Result ℕ Refusal) (out' : List ℕ) : Type 0 where
   pub answer : says r ≡ append_answer (length out) at e
   pub left : out' ≡ output (says r) out at (entry_bytes e)
 
 -- `begin` with a limit, and then `append` of each entry at the place that the call before answered: the entries, the place and the output by now
 pub data Kept (out : List ℕ) (limit : ℕ) : List Entry → ℕ → List ℕ → Type 0 where
-  begun : {at : ℕ} {out' : List ℕ} → Began out limit (Next at) out' → Kept out limit [] at out'
-  added : {es : List Entry} {e : Entry} {at at' : ℕ} {mid out' : List ℕ} → Kept out limit es at mid → Appended mid at e (Next at') out' → Kept out limit (es ++ e ∷ []) at' out'
+  begun : {at : ℕ} {out' : List ℕ} → Began out limit (Ok at) out' → Kept out limit [] at out'
+  added : {es : List Entry} {e : Entry} {at at' : ℕ} {mid out' : List ℕ} → Kept out limit es at mid → Appended mid at e (Ok at') out' → Kept out limit (es ++ e ∷ []) at' out'

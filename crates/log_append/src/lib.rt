@@ -1,4 +1,4 @@
-// Writes a log into a lent output, entry by entry. A refusal writes nothing.
+// Writes a log into a lent output, entry by entry: each call answers the place after what it wrote, and a refusal writes nothing.
 #![tactic(auto)]
 
 ghost use Rattle.std.specs.Prelude.{◌≡◌, ◌+◌, ◌≤◌, length};
@@ -7,27 +7,22 @@ ghost use Rattle.datagram.specs.Limits.{max_datagram};
 ghost use Rattle.flight_log.specs.Entries.{entry_bytes, entry_of};
 ghost use Rattle.log_append.specs.Writes.{Began, Appended};
 
-// The place after what was written, or the refusal.
-#[derive(Clone, Copy)]
-pub enum Written {
-    Next(usize),
-    Refused(u32),
-}
+use refusals::Refusal;
 
 // The head of a log at the start of the output: edition 2, with its payload limit.
-pub fn begin(out: &mut [u8], limit: u64) -> Written
+pub fn begin(out: &mut [u8], limit: u64) -> Result<usize, Refusal>
     ensures { Began out.old limit result out.new }
 {
     if (datagram::MAX_PAYLOAD as u64) < limit {
-        return Written::Refused(45);
+        return Err(Refusal::LimitTooLarge);
     }
     let n = 1 + varint::seven_length(limit);
     if out.len() < n {
-        return Written::Refused(13);
+        return Err(Refusal::NoRoom);
     }
     out[0] = flight_log::EDITION;
     varint::put_seven(out, 1, limit);
-    Written::Next(n)
+    Ok(n)
 }
 
 // How many bytes an entry takes.
@@ -55,16 +50,22 @@ fn put_entry(out: &mut [u8], at: usize, sender: u64, tick: u64, datagram: &[u8])
 }
 
 // One entry at a place.
-pub fn append(out: &mut [u8], at: usize, sender: u64, tick: u64, datagram: &[u8]) -> Written
+pub fn append(
+    out: &mut [u8],
+    at: usize,
+    sender: u64,
+    tick: u64,
+    datagram: &[u8],
+) -> Result<usize, Refusal>
     ensures { Appended out.old at (entry_of sender tick datagram.now) result out.new }
 {
     if datagram::MAX_DATAGRAM < datagram.len() {
-        return Written::Refused(42);
+        return Err(Refusal::EntryTooLong);
     }
     let n = entry_length(sender, tick, datagram);
     if wire::room(out.len(), at) < n {
-        return Written::Refused(13);
+        return Err(Refusal::NoRoom);
     }
     put_entry(out, at, sender, tick, datagram);
-    Written::Next(at + n)
+    Ok(at + n)
 }

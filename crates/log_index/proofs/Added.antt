@@ -3,8 +3,8 @@ use Rattle.wire.proofs.Basics.{◌∙◌, sym, ◌≡◌, ap, refl, subst, ℕ, 
 use Rattle.wire.specs.Bytes.{Bytes}
 use Rattle.wire.specs.Taken.{Taken, taken, refused}
 use Rattle.datagram.specs.Read.{read_datagram_lem}
-use Rattle.datagram.specs.declared.Read.{Read}
-use Rattle.datagram.specs.declared.Read.TheVariants.{Good, Refused}
+use Rattle.datagram.specs.Read.{Read}
+use Rattle.datagram.specs.Read.{Good, Refused}
 use Rattle.flight_log.specs.Editions.{Edition, Lawful, head_bytes, head_in, limits_of}
 use Rattle.flight_log.specs.Entries.{Entry, AllKeep, entry_bytes, body_of}
 use Rattle.flight_log.specs.Listed.{Listed, whole, broken, after, more, one_more_lem, list_by}

@@ -9,7 +9,7 @@ use Rattle.flight_log.specs.Listed.{Listed, whole, broken, after, more, list_by,
 use Rattle.flight_log.specs.Said.{step_of, step_in, next_at, entry_at}
 use Rattle.flight_log.specs.declared.reader.EntryAt.{EntryAt}
 use Rattle.flight_log.specs.declared.reader.Limits.{Limits}
-use Rattle.flight_log.specs.declared.reader.Step.TheVariants.{Found, End, Refused}
+use Rattle.flight_log.specs.Step.{Found, End, Refused}
 use Rattle.flight_log.proofs.LogRoundTrip.{back-entry, entry-some}
 use Rattle.flight_log.proofs.AfterEntry.{rest-bytes}
 use Rattle.flight_log.proofs.ReadingOn.{found_at}

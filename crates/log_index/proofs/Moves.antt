@@ -1,7 +1,8 @@
 -- Words moved up by a row, and a row put in front of them. Assumes nothing.
-use Rattle.wire.proofs.Basics.{◌∙◌, sym, ◌≡◌, ap, ℕ, ◌≤◌, ◌+◌, ◌<◌, ◌-◌, suc, ◌*◌, List, [], ◌∷◌, length, drop, get_or, take, set, drop-cons, arith}
+use Rattle.wire.proofs.Basics.{◌∙◌, sym, ◌≡◌, ap, ℕ, ◌≤◌, ◌+◌, ◌-◌, ◌*◌, List, [], ◌∷◌, ◌++◌, length, drop, take, set, length-take-le, length-drop, arith}
+use lib.Seq.{paste}
 use Rattle.wire.specs.Overlay.{overlay}
-use Rattle.wire.proofs.Overlays.{overlay-nil, overlay-one, overlay-append, overlay-apart, overlay-before, length-overlay}
+use Rattle.wire.proofs.Overlays.{overlay-one, overlay-append, overlay-apart, overlay-eq, length-overlay}
 use Rattle.log_index.specs.Words.{inserted}
 use Rattle.log_index.specs.Inside.{moved_up}
 use Rattle.log_index.specs.Rows.{Row}
@@ -13,23 +14,12 @@ front w t at x =
     ∙ sym (overlay-apart w at (at + 1) (x ∷ []) t (omega arith))
     ∙ sym (overlay-append w at (x ∷ []) t)
 
-pub moved_none : (w : List ℕ) (to by : ℕ) → moved_up w to to by ≡ w
-moved_none w to by =
-    let z : to - to ≡ 0 = omega arith in
-    ap (λ (k : ℕ). overlay w (to + by) (take k (drop to w))) z ∙ overlay-nil w (to + by)
-
--- a turn: the word below the place goes up
-pub moved-next : (w : List ℕ) (i to by : ℕ) → 0 < i → i ≤ to → 1 ≤ by → to + by ≤ length w
-    → set (moved_up w i to by) (i - 1 + by) (get_or (moved_up w i to by) (i - 1) 0) ≡ moved_up w (i - 1) to by
-moved-next w i to by p h b l =
-    let t : List ℕ = take (to - i) (drop i w) in
-    let g : get_or (moved_up w i to by) (i - 1) 0 ≡ get_or w (i - 1) 0 = overlay-before w (i + by) t (i - 1) (omega arith) in
-    let a : i + by ≡ i - 1 + by + 1 = omega arith in
-    let m : to - (i - 1) ≡ suc (to - i) = omega arith in
-    let k : suc (i - 1) ≡ i = omega arith in
-    let d : drop (i - 1) w ≡ get_or w (i - 1) 0 ∷ drop i w = drop-cons w (i - 1) 0 (omega arith) ∙ ap (λ (j : ℕ). get_or w (i - 1) 0 ∷ drop j w) k in
-    let e : take (to - (i - 1)) (drop (i - 1) w) ≡ get_or w (i - 1) 0 ∷ t = (λ j. take (m j) (d j)) in
-    (λ j. set (overlay w (a j) t) (i - 1 + by) (g j)) ∙ front w t (i - 1 + by) (get_or w (i - 1) 0) ∙ ap (overlay w (i - 1 + by)) (sym e)
+-- as std moves them
+pub moved : (w : List ℕ) (from to by : ℕ) → from ≤ to → to + by ≤ length w → paste w (from + by) (drop from w) (to - from) ≡ moved_up w from to by
+moved w from to by h l =
+    let s : List ℕ = take (to - from) (drop from w) in
+    let n : length s ≡ to - from = length-take-le (to - from) (drop from w) (rw length-drop (omega arith)) in
+    sym (overlay-eq w (from + by) s (omega (arith, n)) ∙ ap (λ (k : ℕ). take (from + by) w ++ s ++ drop (from + by + k) w) n)
 
 pub moved_length : (w : List ℕ) (from to by : ℕ) → length (moved_up w from to by) ≡ length w
 moved_length w from to by = length-overlay w (from + by) (take (to - from) (drop from w))

@@ -1,14 +1,13 @@
 -- No second answer of a lookup. Assumes nothing.
-use Rattle.wire.proofs.Basics.{◌∙◌, sym, ◌≡◌, refl, ℕ, List, arith}
+use Rattle.wire.proofs.Basics.{◌∙◌, sym, ◌≡◌, refl, ℕ, List}
+use Rattle.std.proofs.Common.{Option, Some, None}
 use Rattle.log_index.specs.Words.{says, found_in}
-use Rattle.log_index.specs.declared.Found.{Found}
-use Rattle.log_index.specs.declared.Found.TheVariants.{At, Nowhere}
 
-says-once : (r s : Found) → says r ≡ says s → r ≡ s
-says-once (At p) (At q) e = cc
-says-once (At p) Nowhere e = absurd (let z : ◌≡◌ {A = ℕ} 0 1 = cc in omega arith)
-says-once Nowhere (At q) e = absurd (let z : ◌≡◌ {A = ℕ} 0 1 = cc in omega arith)
-says-once Nowhere Nowhere e = refl
+says-once : (r s : Option ℕ) → says r ≡ says s → r ≡ s
+says-once (Some p) (Some q) e = cc
+says-once (Some p) None e = cc
+says-once None (Some q) e = cc
+says-once None None e = refl
 
-pub find-once : (w : List ℕ) (n s q : ℕ) (r t : Found) → says r ≡ found_in w n s q → says t ≡ found_in w n s q → r ≡ t
+pub find-once : (w : List ℕ) (n s q : ℕ) (r t : Option ℕ) → says r ≡ found_in w n s q → says t ≡ found_in w n s q → r ≡ t
 find-once w n s q r t e f = says-once r t (e ∙ sym f)

@@ -5,8 +5,8 @@ use Rattle.std.proofs.Math.Option.{Option, none}
 use Rattle.wire.specs.Choice.{pick}
 use Rattle.wire.specs.Taken.{Taken, taken, refused}
 use Rattle.datagram.specs.Read.{read_datagram_lem}
-use Rattle.datagram.specs.declared.Read.{Read}
-use Rattle.datagram.specs.declared.Read.TheVariants.{Good, Refused}
+use Rattle.datagram.specs.Read.{Read}
+use Rattle.datagram.specs.Read.{Good, Refused}
 use Rattle.flight_log.specs.Editions.{Edition, head_in, limits_of}
 use Rattle.flight_log.specs.Entries.{Entry, entry_bytes}
 use Rattle.flight_log.specs.Listed.{Listed, whole, broken, list_by}

@@ -1,12 +1,15 @@
 -- An index in lent words, three a row. For words that are no index this says what comes of them all the same. Definitions only.
-use Rattle.std.specs.Prelude.{◌&&◌, List, [], ◌∷◌, ℕ, zero, suc, ◌+◌, ◌-◌, ◌*◌, ◌/◌, min, ltb, leb, length, get_or, take, drop}
+use Rattle.std.specs.Prelude.{Option as Maybe, Some, None, ◌&&◌, List, [], ◌∷◌, ℕ, zero, suc, ◌+◌, ◌-◌, ◌*◌, ◌/◌, min, ltb, leb, length, get_or, take, drop}
 use Rattle.std.proofs.Math.Option.{Option, none, some}
 use Rattle.wire.specs.Choice.{pick}
 use Rattle.wire.specs.Overlay.{overlay}
 use Rattle.wire.specs.Halving.{halve}
 use Rattle.log_index.specs.Rows.{Row, row_of, earlier, sorted, is_of}
-use Rattle.log_index.specs.declared.Found.{Found}
-use Rattle.log_index.specs.declared.Found.TheVariants.{At, Nowhere}
+use Rattle.log_index.specs.declared.Row as coded
+
+-- the code's row, in the paper's values
+abbrev pub row_said : coded.Row → Row
+row_said r = row_of r.sender r.sequence r.place
 
 unfoldable pub words_of : List Row → List ℕ
 words_of [] = []
@@ -73,6 +76,6 @@ unfoldable pub found_in : List ℕ → ℕ → ℕ → ℕ → Option ℕ
 found_in w n s q = at_rank w (held w n) s q (rank_in w (held w n) (row_of s q 0))
 
 -- the code's answer, in the paper's values
-abbrev pub says : Found → Option ℕ
-says (At place) = some place
-says Nowhere = none
+abbrev pub says : Maybe ℕ → Option ℕ
+says (Some place) = some place
+says None = none

@@ -3,9 +3,9 @@
 #![tactic(auto)]
 
 ghost use Rattle.std.specs.Prelude.{◌≡◌, ◌&&◌, ◌+◌, ◌*◌, ◌≤◌, ltb, length};
-ghost use Rattle.log_index.specs.Rows.{row_of, earlier, is_of};
-ghost use Rattle.log_index.specs.Words.{row_at, rank_in, inserted, entered, merged_by, merged, found_in, says};
-ghost use Rattle.log_index.specs.Inside.{moved_up, MergesOne};
+ghost use Rattle.log_index.specs.Rows.{earlier, is_of};
+ghost use Rattle.log_index.specs.Words.{row_said, row_at, rank_in, inserted, entered, merged_by, merged, found_in, says};
+ghost use Rattle.log_index.specs.Inside.{MergesOne};
 
 // The most rows of an index.
 pub const MAX_INDEX: usize = 4096;
@@ -16,79 +16,61 @@ pub const BATCH: usize = 64;
 // And where there may be a million: about the root of their number, where sorting and merging together cost least.
 pub const LARGE_BATCH: usize = 1024;
 
-// Where the first entry of a key begins in the log.
-#[derive(Clone, Copy)]
-pub enum Found {
-    At(u64),
-    Nowhere,
+// A row: the sender and the sequence of an entry, and where it begins in the log. Its order is that of its fields.
+#[derive(Clone, Copy, Debug, PartialEq, Eq, PartialOrd, Ord)]
+pub struct Row {
+    pub sender: u64,
+    pub sequence: u64,
+    pub place: u64,
 }
 
-// Row i comes before a row of these numbers.
-fn is_before(index: &[u64], i: usize, sender: u64, sequence: u64, place: u64) -> bool
+// Row i of some words.
+fn row_at(index: &[u64], i: usize) -> Row
     requires { 3 * i + 3 ≤ length index.now }
-    ensures { result ≡ earlier (row_at index.now i) (row_of sender sequence place) }
+    ensures { row_said result ≡ row_at index.now i }
 {
     let at = 3 * i;
-    let s = index[at];
-    if s != sender {
-        return s < sender;
+    Row {
+        sender: index[at],
+        sequence: index[at + 1],
+        place: index[at + 2],
     }
-    let q = index[at + 1];
-    if q != sequence {
-        return q < sequence;
-    }
-    index[at + 2] < place
 }
 
-// The place of a row of these numbers among the first n rows: how many come before it, where they are sorted.
-fn rank(index: &[u64], n: usize, sender: u64, sequence: u64, place: u64) -> usize
+// A row comes before another: by sender, then sequence, then place.
+pub fn is_before(a: Row, b: Row) -> bool
+    ensures { result ≡ earlier (row_said a) (row_said b) }
+{
+    a < b
+}
+
+// The place of a row among the first n: how many come before it, where they are sorted.
+fn rank(index: &[u64], n: usize, row: Row) -> usize
     requires { 3 * n ≤ length index.now }
-    ensures { (result ≡ rank_in index.now n (row_of sender sequence place)) × (result ≤ n) }
+    ensures { (result ≡ rank_in index.now n (row_said row)) × (result ≤ n) }
 {
-    let mut low: usize = 0;
-    let mut high = n;
-    while low < high {
-        let mid = low + (high - low) / 2;
-        if is_before(index, mid, sender, sequence, place) {
-            low = mid + 1;
-        } else {
-            high = mid;
-        }
-    }
-    low
-}
-
-// The words from a place up to another move up by so many.
-fn move_up(index: &mut [u64], from: usize, to: usize, by: usize)
-    requires { (from ≤ to) × ((1 ≤ by) × (to + by ≤ length index.old)) }
-    ensures { index.new ≡ moved_up index.old from to by }
-{
-    let mut i = to;
-    while from < i {
-        i -= 1;
-        index[i + by] = index[i];
-    }
+    halving::partition_point(n, |i| is_before(row_at(index, i), row))
 }
 
 // A row goes k rows above a place, and those from the place up to the n-th behind it.
-fn insert(index: &mut [u64], at: usize, n: usize, k: usize, sender: u64, sequence: u64, place: u64)
+fn insert(index: &mut [u64], at: usize, n: usize, k: usize, row: Row)
     requires { (at ≤ n) × (3 * n + 3 * k + 3 ≤ length index.old) }
-    ensures { index.new ≡ inserted index.old at n k (row_of sender sequence place) }
+    ensures { index.new ≡ inserted index.old at n k (row_said row) }
 {
     let to = 3 * (at + k);
-    move_up(&mut *index, 3 * at, 3 * n, 3 * k + 3);
-    index[to + 2] = place;
-    index[to + 1] = sequence;
-    index[to] = sender;
+    index.copy_within(3 * at..3 * n, to + 3);
+    index[to + 2] = row.place;
+    index[to + 1] = row.sequence;
+    index[to] = row.sender;
 }
 
 // A row enters an index of n rows, where there are words for it.
-pub fn enter(index: &mut [u64], n: usize, sender: u64, sequence: u64, place: u64)
-    ensures { index.new ≡ entered index.old n (row_of sender sequence place) }
+pub fn enter(index: &mut [u64], n: usize, row: Row)
+    ensures { index.new ≡ entered index.old n (row_said row) }
 {
     if n < index.len() / 3 {
-        let at = rank(&*index, n, sender, sequence, place);
-        insert(index, at, n, 0, sender, sequence, place);
+        let at = rank(&*index, n, row);
+        insert(index, at, n, 0, row);
     }
 }
 
@@ -97,12 +79,9 @@ fn merge_one(index: &mut [u64], n: usize, batch: &[u64], j: usize) -> usize
     requires { (3 * j + 3 ≤ length batch.now) × (3 * n + 3 * j + 3 ≤ length index.old) }
     ensures { MergesOne index.old n batch.now j result index.new }
 {
-    let k = 3 * j;
-    let sender = batch[k];
-    let sequence = batch[k + 1];
-    let place = batch[k + 2];
-    let at = rank(&*index, n, sender, sequence, place);
-    insert(index, at, n, j, sender, sequence, place);
+    let row = row_at(batch, j);
+    let at = rank(&*index, n, row);
+    insert(index, at, n, j, row);
     at
 }
 
@@ -112,9 +91,7 @@ fn merge_all(index: &mut [u64], n: usize, batch: &[u64], m: usize)
     ensures { index.new ≡ merged_by m batch.now index.old n }
 {
     let mut high = n;
-    let mut j = m;
-    while 0 < j {
-        j -= 1;
+    for j in (0..m).rev() {
         high = merge_one(index, high, batch, j);
     }
 }
@@ -140,23 +117,22 @@ fn is_of(index: &[u64], n: usize, i: usize, sender: u64, sequence: u64) -> bool
     requires { 3 * n ≤ length index.now }
     ensures { result ≡ (ltb i n && is_of sender sequence (row_at index.now i)) }
 {
-    if n <= i {
-        return false;
-    }
-    if index[3 * i] != sender {
-        return false;
-    }
-    index[3 * i + 1] == sequence
+    i < n && index[3 * i] == sender && index[3 * i + 1] == sequence
 }
 
 // Where the first entry of a key begins in the log, by an index of n rows.
-pub fn find(index: &[u64], n: usize, sender: u64, sequence: u64) -> Found
+pub fn find(index: &[u64], n: usize, sender: u64, sequence: u64) -> Option<u64>
     ensures { says result ≡ found_in index.now n sender sequence }
 {
     let m = wire::least(n, index.len() / 3);
-    let i = rank(index, m, sender, sequence, 0);
+    let key = Row {
+        sender,
+        sequence,
+        place: 0,
+    };
+    let i = rank(index, m, key);
     if is_of(index, m, i, sender, sequence) {
-        return Found::At(index[3 * i + 2]);
+        return Some(index[3 * i + 2]);
     }
-    Found::Nowhere
+    None
 }

@@ -3,9 +3,10 @@ use Rattle.std.specs.Prelude.{Bool, List, [], ◌++◌, ℕ, ltb, length}
 use Rattle.wire.specs.Choice.{◌when◌else◌}
 use Rattle.wire.specs.Text.{ascii}
 use Rattle.text.specs.Text.{decimal}
-use Rattle.output.specs.Output.{Finishes}
-use Rattle.flight_log.specs.declared.reader.Step.{Step}
-use Rattle.flight_log.specs.declared.reader.Step.TheVariants.{Found, End, Refused}
+use Rattle.output.specs.declared.Output.{Output}
+use Rattle.output.specs.Output.{Ends}
+use Rattle.flight_log.specs.Step.{Step}
+use Rattle.flight_log.specs.Step.{Found, End, Refused}
 
 -- "1 sender 7 tick 99 length 23"
 abbrev pub entry_line : ℕ → ℕ → ℕ → ℕ → List ℕ
@@ -39,7 +40,7 @@ input_lines most lines input =
     longer_line most when ltb most (length input) else
     lines input
 
--- so of what came
-pub record Tells (most : ℕ) (lines : List ℕ → List ℕ) (before after : List ℕ) (r : Bool) : Type 0 where
+-- so of what came, by a program's output
+pub record TellsTo (most : ℕ) (lines : List ℕ → List ℕ) (o o' : Output) (r : Bool) : Type 0 where
   pub came : List ℕ
-  pub said : Finishes before 0 (input_lines most lines came) after r
+  pub said : Ends o (input_lines most lines came) o' r

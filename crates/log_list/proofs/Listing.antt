@@ -1,15 +1,15 @@
 -- The lines of the entries that were passed, and of those that are left, are those of the log. Assumes nothing.
-use Rattle.wire.proofs.Basics.{◌∙◌, sym, ◌≡◌, ap, refl, ℕ, ◌+◌, List, [], ◌∷◌, ◌++◌, append_assoc, append-nil, length, length-append, arith}
+use Rattle.wire.proofs.Basics.{◌∙◌, sym, ◌≡◌, ap, refl, ℕ, Bool, ◌+◌, List, [], ◌∷◌, ◌++◌, append_assoc, append-nil, length, length-append, arith}
 use Rattle.wire.specs.Bytes.{Bytes}
 use Rattle.flight_log.specs.declared.reader.EntryAt.{EntryAt}
-use Rattle.flight_log.specs.declared.reader.Step.{Step}
-use Rattle.flight_log.specs.declared.reader.Step.TheVariants.{Found, End, Refused}
+use Rattle.flight_log.specs.Step.{Step, Found, End, Refused}
 use Rattle.flight_log.specs.Entries.{Entry}
 use Rattle.flight_log.specs.Listed.{Listed, whole, broken, entries_in}
 use Rattle.flight_log.specs.Said.{entry_said, read_at}
 use Rattle.flight_log.proofs.EntriesPassed.{after_all, after-whole, after-broken, Passed, passed_none, passed-more, passed-all, passed-broken, ahead}
-use Rattle.output.specs.Output.{closed, Pours}
-use Rattle.output.proofs.Sending.{pours-none, pours-then, pours-is, pours-stop}
+use Rattle.output.specs.declared.Output.{Output}
+use Rattle.output.specs.Output.{Adds, IsClosed, Ends}
+use Rattle.output.proofs.Adding.{adds_none, adds_then, adds_is, adds_stop, ends_then, ends_is}
 use Rattle.log_lines.specs.Lines.{entry_line, end_line, refused_line, last_line}
 use Rattle.log_list.specs.Lines.{lines_after, log_lines_lem}
 
@@ -43,16 +43,16 @@ lines_rest ds (whole es) = ap log_lines_lem (after-whole ds es) ∙ lines_split 
 lines_rest ds (broken es number) = ap log_lines_lem (after-broken ds es number) ∙ lines_split 0 ds es (refused_line number)
 
 -- the entries were passed, and their lines poured
-pub record Going (log out₀ out : List ℕ) (place at n : ℕ) : Type 0 where
+pub record Going (log : List ℕ) (o p : Output) (place n : ℕ) : Type 0 where
   pub entries : List Entry
   pub count : n ≡ length entries
   pub passed : Passed log entries place
-  pub poured : Pours out₀ 0 (lines_after 0 entries nothing) out at
+  pub adds : Adds o (lines_after 0 entries nothing) p
 
-pub going-none : (log out : List ℕ) → Bytes log → Going log out out 0 0 0
-going-none log out h = record { entries = []; count = refl; passed = passed_none log h; poured = pours-none out 0 }
+pub going-none : (log : List ℕ) (o : Output) → Bytes log → Going log o o 0 0
+going-none log o h = record { entries = []; count = refl; passed = passed_none log h; adds = adds_none o }
 
-module _ {log out₀ out : List ℕ} {place at n : ℕ} (h : Bytes log) (g : Going log out₀ out place at n) where
+module _ {log : List ℕ} {o p : Output} {place n : ℕ} (h : Bytes log) (g : Going log o p place n) where
   -- one more
   module _ (e : EntryAt) (found : read_at log place ≡ Found e) where
     abbrev said : Entry
@@ -67,13 +67,13 @@ module _ {log out₀ out : List ℕ} {place at n : ℕ} (h : Bytes log) (g : Goi
         ∙ sym (append-nil (entry_line (0 + length g.entries + 1) said.sender said.tick (length said.datagram))))
         ∙ sym (lines_split 0 g.entries (said ∷ []) nothing)
 
-    pub going_more : {out' : List ℕ} {at' : ℕ} → Pours out at (entry_line (n + 1) e.sender e.tick e.len) out' at' → Going log out₀ out' e.next at' (n + 1)
-    going_more p =
+    pub going_more : {q : Output} → Adds p (entry_line (n + 1) e.sender e.tick e.len) q → Going log o q e.next (n + 1)
+    going_more a =
         record {
           entries = g.entries ++ said ∷ [];
           count = ap (λ (m : ℕ). m + 1) g.count ∙ sym (length-append g.entries (said ∷ []));
           passed = passed-more log h g.entries place g.passed e found;
-          poured = pours-is (pours-then g.poured p) lines_more;
+          adds = adds_is (adds_then g.adds a) lines_more;
         }
 
   -- no more: the last line is that of the step that ended the reading
@@ -88,10 +88,10 @@ module _ {log out₀ out : List ℕ} {place at n : ℕ} (h : Bytes log) (g : Goi
       ∙ sym (lines-last g.entries (refused_line number))
       ∙ sym (ap log_lines_lem (passed-broken log h g.entries place g.passed number q))
 
-  pub going_end : (x : Step) → read_at log place ≡ x → ((e : EntryAt) → x ≡ Found e → ⊥) → {out' : List ℕ} {end : ℕ} → Pours out at (last_line x n) out' end
-      → Pours out₀ 0 (log_lines_lem (entries_in log)) out' end
-  going_end x q o p = pours-is (pours-then g.poured p) (lines_end x q o)
+  pub going_end : (x : Step) → read_at log place ≡ x → ((e : EntryAt) → x ≡ Found e → ⊥) → {q : Output} {r : Bool} → Ends p (last_line x n) q r
+      → Ends o (log_lines_lem (entries_in log)) q r
+  going_end x e none a = ends_is (ends_then g.adds a) (lines_end x e none)
 
   -- the output is closed, whatever is still to come
-  pub going-shut : at ≡ closed → Pours out₀ 0 (log_lines_lem (entries_in log)) out at
-  going-shut e = pours-is (pours-stop _ e g.poured) (sym (ap log_lines_lem g.passed.is ∙ lines_rest g.entries _))
+  pub going-shut : IsClosed p → Adds o (log_lines_lem (entries_in log)) p
+  going-shut e = adds_is (adds_stop _ e g.adds) (sym (ap log_lines_lem g.passed.is ∙ lines_rest g.entries _))

@@ -2,43 +2,54 @@
 #![tactic(auto)]
 
 ghost use Rattle.std.specs.Prelude.{◌≤◌, length};
-ghost use Rattle.output.specs.Output.{Finishes, line_limit};
-ghost use Rattle.log_lines.specs.Lines.{Tells};
+ghost use Rattle.output.specs.Output.{Ends, line_limit};
+ghost use Rattle.log_lines.specs.InsideTells.{Tells};
 ghost use Rattle.log_list.specs.Lines.{list_lines};
 
-use flight_log::Step;
+use log_lines::Teller;
+use output::Output;
 use std::io::{Stdin, Stdout};
-use stream::All;
 
 // One line an entry, and the last line. Answers whether the system took all of them; it stops where it did not.
-fn listed(stdout: Stdout, log: &[u8], out: &mut [u8]) -> bool
-    ensures { Finishes out.old 0 (list_lines log.now) out.new result }
+fn listed(out: &mut Output, log: &[u8]) -> bool
+    ensures { Ends out.old (list_lines log.now) out.new result }
 {
     let mut place: usize = 0;
-    let mut at: usize = 0;
     let mut n: u64 = 0;
-    while at != output::CLOSED {
+    while !out.is_closed() {
         let step = flight_log::read_on(log, place);
-        let Step::Found(entry) = step else {
-            return log_lines::finish(stdout, out, at, n, step);
-        };
-        n += 1;
-        place = entry.next;
-        at = log_lines::pour_entry(stdout, out, at, n, entry);
+        match step {
+            Ok(Some(entry)) => {
+                n += 1;
+                place = entry.next;
+                log_lines::pour_entry(out, n, entry);
+            }
+            Ok(None) => return log_lines::finish(out, n, step),
+            Err(_) => return log_lines::finish(out, n, step),
+        }
     }
     false
+}
+
+// The program over a whole log.
+#[derive(Drop)]
+struct Lister;
+
+impl Teller for Lister {
+    ghost lines = { λ _. list_lines };
+
+    fn tell(&mut self, out: &mut Output, log: &[u8]) -> bool {
+        listed(out, log)
+    }
 }
 
 // Lists the whole input, or says that it is longer than the buffer.
 fn run(stdin: Stdin, stdout: Stdout, buf: &mut [u8], out: &mut [u8]) -> bool
     requires { line_limit ≤ length out.old }
-    ensures { Tells (length buf.old) list_lines out.old out.new result }
+    ensures { Tells (length buf.old) list_lines out.entry.now out.exit.now result }
 {
-    let all = stream::read_all(stdin, buf);
-    match all {
-        All::Whole(n) => listed(stdout, wire::part(buf, 0, n), out),
-        All::Longer => log_lines::finish_longer(stdout, out, buf.len() as u64),
-    }
+    let mut out = Output::new(stdout, out);
+    log_lines::tell(stdin, buf, &mut out, &mut Lister)
 }
 
 fn main(rt: HostRuntime) {

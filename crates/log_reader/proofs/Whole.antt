@@ -5,8 +5,8 @@ use Rattle.wire.specs.Bytes.{Bytes}
 use Rattle.flight_log.specs.Listed.{after, entries_in}
 use Rattle.flight_log.specs.Said.{entry_said, read_at, place_after_lem, read_on, read_all}
 use Rattle.flight_log.specs.Said as told
-use Rattle.flight_log.specs.declared.reader.Step.{Step}
-use Rattle.flight_log.specs.declared.reader.Step.TheVariants.{Found, End, Refused}
+use Rattle.flight_log.specs.Step.{Step}
+use Rattle.flight_log.specs.Step.{Found, End, Refused}
 use Rattle.flight_log.proofs.ReadingOn.{read-all, refused-again}
 use Rattle.log_reader.specs.Reader.{reader_at, step_now, onward, listed, reads_on, reads_all}
 use Rattle.log_reader.specs.declared.LogReader.{LogReader}

@@ -3,8 +3,8 @@ use Rattle.std.specs.Prelude.{List, [], ℕ, zero, suc, length}
 use Rattle.std.specs.Borrow.{Bor}
 use Rattle.flight_log.specs.Listed.{Listed, whole, broken, after}
 use Rattle.flight_log.specs.Said.{entry_said, read_at, place_after_lem}
-use Rattle.flight_log.specs.declared.reader.Step.{Step}
-use Rattle.flight_log.specs.declared.reader.Step.TheVariants.{Found, End, Refused}
+use Rattle.flight_log.specs.Step.{Step}
+use Rattle.flight_log.specs.Step.{Found, End, Refused}
 use Rattle.log_reader.specs.declared.LogReader.{LogReader}
 
 -- a reader of the lent bytes at a place

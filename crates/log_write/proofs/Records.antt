@@ -8,9 +8,7 @@ use Rattle.wire.proofs.Numbers.{be-lt, drop-bytes}
 use Rattle.datagram.specs.Limits.{max_payload, max_datagram}
 use Rattle.stream.specs.declared.Kind.TheVariants.{Entry}
 use Rattle.stream.specs.declared.Input.{Input}
-use Rattle.stream.specs.declared.Next.{Next}
-use Rattle.stream.specs.declared.Next.TheVariants.{Record}
-use Rattle.stream.specs.Records.{body_length_lem, unread, Took, Gives}
+use Rattle.stream.specs.Records.{Next, Record, body_length_lem, unread, Took, Gives}
 use Rattle.stream.proofs.Taking.{body-front}
 use Rattle.output.specs.Output.{line_limit, Pours, WrittenOut, Finishes}
 use Rattle.output.proofs.Sending.{pours-none, pours-put, finishes-then, finishes-is}
@@ -20,8 +18,9 @@ use Rattle.record_lines.proofs.Streams.{sized}
 use Rattle.flight_log.specs.Editions.{edition2, head_bytes}
 use Rattle.flight_log.specs.Entries.{entry_bytes, body_of, log_of}
 use Rattle.log_append.specs.Writes.{Answer, wrote, refused, says, begin_answer, output, Began}
-use Rattle.log_append.specs.declared.Written.{Written}
-use Rattle.log_append.specs.declared.Written.TheVariants as written
+use Rattle.std.proofs.Common.{Result, Ok, Err}
+use Rattle.refusals.specs.declared.Refusal.{Refusal}
+use Rattle.refusals.specs.Numbers.{number_of}
 use Rattle.log_append.proofs.Writing.{seven-most}
 use Rattle.log_write.specs.Kept.{entry_in, entries_of, log_text}
 use Rattle.log_write.specs.Inside.{says as tells, entries_text}
@@ -87,7 +86,7 @@ finishes-out {out} {at} w = record { end = at; poured = pours-none out at; told 
 
 -- ---- the log is begun
 
-module _ (out : List ℕ) (r : Written) (out' : List ℕ) (room : line_limit ≤ length out) (b : Began out max_payload r out') where
+module _ (out : List ℕ) (r : Result ℕ Refusal) (out' : List ℕ) (room : line_limit ≤ length out) (b : Began out max_payload r out') where
   abbrev head-text : List ℕ
   head-text = head_bytes (edition2 max_payload)
 
@@ -98,13 +97,13 @@ module _ (out : List ℕ) (r : Written) (out' : List ℕ) (room : line_limit ≤
   unfolding begin_answer
   begins = ap (λ (t : Bool). pick t (refused 13) (wrote (0 + length head-text))) (le-ltb (length out) (0 + length head-text) short)
 
-  pub begun-never : (k : ℕ) → r ≡ written.Refused k → ⊥
+  pub begun-never : (k : Refusal) → r ≡ Err k → ⊥
   begun-never k q =
-      let z : refused k ≡ wrote (0 + length head-text) = sym (ap says q) ∙ b.answer ∙ begins in
+      let z : refused (number_of k) ≡ wrote (0 + length head-text) = sym (ap says q) ∙ b.answer ∙ begins in
       let y : ◌≡◌ {A = ℕ} 0 1 = cc in
       omega arith
 
-  pub begun_pours : (first : ℕ) → r ≡ written.Next first → Pours out 0 (head_bytes (edition2 max_payload)) out' first
+  pub begun_pours : (first : ℕ) → r ≡ Ok first → Pours out 0 (head_bytes (edition2 max_payload)) out' first
   begun_pours first q =
       let a : says r ≡ wrote (0 + length head-text) = b.answer ∙ begins in
       let z : wrote first ≡ wrote (0 + length head-text) = sym (ap says q) ∙ a in

@@ -12,9 +12,8 @@ ghost use Rattle.flight_log.specs.Entries.{entry_of};
 ghost use Rattle.log_write.specs.Kept.{Keeps, log_text};
 ghost use Rattle.log_write.specs.Inside.{entry_limit, entries_text};
 
-use log_append::Written;
 use std::io::{Stdin, Stdout};
-use stream::{Input, Kind, Next};
+use stream::{Input, Kind};
 
 // No entry is longer: three numbers of at most ten bytes, and a datagram.
 const ENTRY: usize = 30 + datagram::MAX_DATAGRAM;
@@ -26,11 +25,10 @@ fn keep(stdout: Stdout, out: &mut [u8], at: usize, space: &mut [u8], head: &[u8]
 {
     let sender = wire::number(head, 0, 8);
     let tick = wire::number(head, 8, 8);
-    let written = log_append::append(&mut *space, 0, sender, tick, d);
-    match written {
-        Written::Next(n) => output::pour(stdout, out, at, wire::part(space, 0, n)),
-        Written::Refused(_) => at,
-    }
+    let Ok(n) = log_append::append(&mut *space, 0, sender, tick, d) else {
+        return at;
+    };
+    output::pour(stdout, out, at, wire::part(space, 0, n))
 }
 
 // The entries of the input, one after another, behind the head of the log. Answers whether the system took all of them; it stops where it did not.
@@ -48,21 +46,19 @@ fn kept(
 {
     let mut rest = input;
     let mut at = first;
-    let mut n: u64 = 0;
-    while n < stream::MANY {
-        let next = stream::next_record(stdin, buf, rest, Kind::Entry);
-        let Next::Record(from, len, left) = next else {
+    // Kept: no `record_lines::Teller`, whose line has to put any body out, and no entry is longer than a log takes.
+    for n in 0..stream::MANY {
+        let Ok(record) = stream::next_record(stdin, buf, rest, Kind::Entry) else {
             return output::write_out(stdout, out, at);
         };
-        n += 1;
-        rest = left;
+        rest = record.rest;
         at = keep(
             stdout,
             out,
             at,
             space,
-            stream::head(buf, from, Kind::Entry),
-            wire::part(buf, from, len),
+            stream::head(buf, record.at, Kind::Entry),
+            wire::part(buf, record.at, record.len),
         );
         if at == output::CLOSED {
             return false;
@@ -83,8 +79,7 @@ fn made(
     requires { (entry_limit ≤ length space.old) × (line_limit ≤ length out.old) }
     ensures { Tells Entry log_text buf.old input (buffer out) 0 result }
 {
-    let begun = log_append::begin(out, datagram::MAX_PAYLOAD as u64);
-    let Written::Next(first) = begun else {
+    let Ok(first) = log_append::begin(out, datagram::MAX_PAYLOAD as u64) else {
         return false;
     };
     kept(stdin, stdout, buf, input, out, space, first)

@@ -2,9 +2,8 @@
 use Rattle.wire.proofs.Basics.{◌∙◌, sym, ◌≡◌, ap, ℕ, ◌≤◌, ◌<◌, ◌*◌, ◌/◌, List, true, false, Bool, length, sets, ℤ, le-ltb, lt-ltb, arith}
 use Rattle.lmcp.specs.Table.{second}
 use Rattle.count_rules.specs.Marks.{at}
-use Rattle.mark_rows.specs.declared.Rows.TheVariants.{Of, Other, Refused}
 use Rattle.mark_rows.specs.Placed.{PlacedMark, placed_of}
-use Rattle.mark_rows.specs.Rows.{rows_of, is_list_lem, lacks, rows_given, rows_left, GivesRows}
+use Rattle.mark_rows.specs.Rows.{Of, Other, Refused, rows_of, is_list_lem, lacks, rows_given, rows_left, GivesRows}
 use Rattle.mark_rows.specs.InsideRows.{placed_from}
 
 module _ (l rows : List ℤ) (list : Bool) (e : list ≡ is_list_lem l) where

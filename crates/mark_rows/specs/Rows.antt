@@ -1,13 +1,14 @@
 -- MARKS AS ROWS of eight numbers, in the order of the header, at the start of a lent list. Definitions only.
-use Rattle.std.specs.Prelude.{◌≡◌, Bool, not, List, [], ◌∷◌, ◌++◌, ◌*◌, ◌%◌, ltb, eqb, ℤ, pos, length}
+use Rattle.std.specs.Prelude.{◌≡◌, Bool, not, List, [], ◌∷◌, ◌++◌, ℕ, ◌*◌, ◌%◌, ltb, eqb, ℤ, pos, length, Option, Some, None, Result, Ok, Err}
 use Rattle.std.proofs.lemmas.List.Edits.{sets}
 use Rattle.wire.specs.Choice.{pick, ◌when◌else◌}
 use Rattle.lmcp.specs.Spelled.{Spot, nowhere, spot}
 use Rattle.sorted_set.specs.Lists.{gather}
 use Rattle.count_rules.specs.Marks.{at}
 use Rattle.count_rules.specs.Keys.{span}
-use Rattle.mark_rows.specs.declared.Rows.{Rows}
-use Rattle.mark_rows.specs.declared.Rows.TheVariants.{Of, Other, Refused}
+use Rattle.refusals.specs.declared.Refusal.{Refusal}
+use Rattle.refusals.specs.Numbers.{number_of}
+use Rattle.mark_rows.specs.declared.Marks.{Marks}
 use Rattle.mark_rows.specs.Placed.{Depth, unmeasured, measured, PlacedMark, placed_of}
 
 abbrev pub flag : Bool → ℤ
@@ -33,6 +34,19 @@ rows_of = gather row_of
 -- the type of the root stands behind the version
 abbrev pub is_list_lem : List ℤ → Bool
 is_list_lem l = eqb (at l 1) 5
+
+-- the answer in the papers' values: the tile of the list and how many rows there are; that the numbers are not those of a PitList; or the number of
+-- the refusal
+pub data Rows : Type 0 where
+  Of : ℕ → ℕ → Rows
+  Other : Rows
+  Refused : ℕ → Rows
+
+-- what the code says
+abbrev pub rows_told : Result (Option Marks) Refusal → Rows
+rows_told (Ok (Some m)) = Of m.tile m.rows
+rows_told (Ok None) = Other
+rows_told (Err r) = Refused (number_of r)
 
 -- no room for so many rows
 abbrev pub lacks : List ℤ → List ℤ → Bool

@@ -7,8 +7,10 @@ ghost use Rattle.wire.specs.Choice.{pick};
 ghost use Rattle.count_rules.specs.Marks.{at, mark_length};
 ghost use Rattle.count_rules.specs.Keys.{span};
 ghost use Rattle.mark_rows.specs.Placed.{signed_at, placed_at};
-ghost use Rattle.mark_rows.specs.Rows.{rows_of, GivesRows};
+ghost use Rattle.mark_rows.specs.Rows.{rows_of, rows_told, GivesRows};
 ghost use Rattle.mark_rows.specs.InsideRows.{row_at, placed_from, LaysRows};
+
+use refusals::Refusal;
 
 // How many numbers there are for pits.
 const SPAN: u64 = 4294967296;
@@ -16,12 +18,11 @@ const SPAN: u64 = 4294967296;
 // How many numbers a row has.
 pub const ROW: usize = 8;
 
-// The tile of the list and how many rows there are; that the numbers are not those of a PitList; or the number of the refusal.
+// The marks of a PitList: its tile, and how many rows there are.
 #[derive(Clone, Copy)]
-pub enum Rows {
-    Of(u64, usize),
-    Other,
-    Refused(u32),
+pub struct Marks {
+    pub tile: u64,
+    pub rows: usize,
 }
 
 // Number i from a place of a list on: 0 past its end.
@@ -54,7 +55,7 @@ fn number_if(some: bool, list: &[i64], place: usize, i: usize) -> i64
 fn one_if(b: bool) -> i64
     ensures { result ≡ pos (pick b 1 0) }
 {
-    if b { 1 } else { 0 }
+    i64::from(b)
 }
 
 // A pit as a number of a row.
@@ -115,10 +116,8 @@ fn put_numbers(rows: &mut [i64], q: usize, src: &[i64])
     requires { q + length src.now ≤ length rows.old }
     ensures { rows.new ≡ sets rows.old q src.now }
 {
-    let mut i: usize = 0;
-    while i < src.len() {
+    for i in 0..src.len() {
         rows[q + i] = src[i];
-        i += 1;
     }
 }
 
@@ -168,18 +167,21 @@ fn put_rows(rows: &mut [i64], list: &[i64], two: bool)
     }
 }
 
-// The marks of a PitList as rows, at the start of the output.
-pub fn marks_of(list: &[i64], rows: &mut [i64]) -> Rows
-    ensures { GivesRows list.now rows.old result rows.new }
+// The marks of a PitList as rows, at the start of the output; none where the numbers are not those of a PitList.
+pub fn marks_of(list: &[i64], rows: &mut [i64]) -> Result<Option<Marks>, Refusal>
+    ensures { GivesRows list.now rows.old (rows_told result) rows.new }
 {
     if !pit_marks::is_list(list) {
-        return Rows::Other;
+        return Ok(None);
     }
     let two = size_at(list, 0, 0) == 2;
     let n = count_marks(list, two);
     if rows.len() / ROW < n {
-        return Rows::Refused(13);
+        return Err(Refusal::NoRoom);
     }
     put_rows(rows, list, two);
-    Rows::Of(size_at(list, 0, 2), n)
+    Ok(Some(Marks {
+        tile: size_at(list, 0, 2),
+        rows: n,
+    }))
 }

@@ -1,12 +1,14 @@
 -- Laws of the definitions, one turn at a time, as the loops use them.
-use Rattle.wire.proofs.Basics.{◌∙◌, sym, ◌≡◌, ap, refl, ℕ, ◌≤◌, ◌+◌, ◌<◌, suc, zero, ◌%◌, min, List, [], ◌∷◌, ◌++◌, true, false, Bool, ◌&&◌, ◌||◌, not, or-true, some, none, Option, length, get_or, take}
-use Rattle.wire.proofs.Basics.{set, length-set, take_all, take-suc, eqb, eq-eqb, ne_eqb, eqb-false, ℕ_discrete, dec_le, add-one, arith}
+use Rattle.wire.proofs.Basics.{◌∙◌, sym, ◌≡◌, ap, refl, ℕ, ◌≤◌, ◌+◌, ◌<◌, suc, zero, ◌%◌, min, List, [], ◌∷◌, ◌++◌, true, false, Bool, ◌&&◌, ◌||◌, not, or-true, some, none, length, get_or, take}
+use Rattle.wire.proofs.Basics.{length-set, take_all, take-suc, eqb, eq-eqb, ne_eqb, eqb-true, eqb-false, ℕ_discrete, dec_le, add-one, arith}
+use Rattle.std.proofs.Common.{Option as Maybe, Some, None, MatchOption, MatchBool}
 use Rattle.wire.proofs.Choices.{and-false, or-false}
 use Rattle.words.specs.Builds.{build}
 use Rattle.words.proofs.Builds.{length-build, get_or-build}
 use Rattle.steps.specs.Limits.{senders_most, keys_each}
 use Rattle.steps.specs.Search.{first}
-use Rattle.steps.specs.Memory.{Place, vacant, is_of, remembered, has, or_else}
+use Rattle.steps.specs.InsideSearch.{option_of}
+use Rattle.steps.specs.Memory.{Place, vacant, is_of, remembered, has}
 use Rattle.memory.specs.Words.{sender_at, used_at, sequences_at, sequences_in, place_in, memory_in}
 use Rattle.memory.specs.InsideParts.{shifted_in}
 
@@ -22,14 +24,14 @@ module _ {A : Type 0} (p : A → Bool) where
   first-nowhere zero f a = refl
   first-nowhere (suc n) f a = rw (a 0 (omega arith), first-nowhere n (λ j. f (suc j)) (λ j b. a (suc j) (omega arith)))
 
-pub found_at : (p : Place → Bool) (w : List ℕ) (i : ℕ) → i < senders_most → ((j : ℕ) → j < i → p (place_in w j) ≡ false) → p (place_in w i) ≡ true
-    → i ≡ or_else (first p (memory_in w)) senders_most
+-- what a search of the places finds is the first that passes
+pub found : (p : Place → Bool) (w : List ℕ) (r : Maybe ℕ)
+    → MatchOption r ((k : ℕ) → 0 ≤ k → k < senders_most → p (place_in w k) ≡ false)
+    (λ i. (0 ≤ i) × (i < senders_most) × (p (place_in w i) ≡ true) × ((k : ℕ) → 0 ≤ k → k < i → p (place_in w k) ≡ false))
+    → option_of r ≡ first p (memory_in w)
 unfolding memory_in
-found_at p w i h a e = sym (ap (λ (o : Option ℕ). or_else o senders_most) (first-here p senders_most (place_in w) i h a e))
-
-pub found_none : (p : Place → Bool) (w : List ℕ) → ((j : ℕ) → j < senders_most → p (place_in w j) ≡ false) → senders_most ≡ or_else (first p (memory_in w)) senders_most
-unfolding memory_in
-found_none p w a = sym (ap (λ (o : Option ℕ). or_else o senders_most) (first-nowhere p senders_most (place_in w) a))
+found p w None h = sym (first-nowhere p senders_most (place_in w) (λ j l. h j (omega arith) l))
+found p w (Some i) h = sym (first-here p senders_most (place_in w) i h.1 (λ j l. h.3 j (omega arith) l) h.2)
 
 pub of_other : (w : List ℕ) (i s : ℕ) → (get_or w (sender_at i) 0 ≡ s → ⊥) → is_of s (place_in w i) ≡ false
 of_other w i s d = rw (ne_eqb _ _ d) (and-false (not (vacant (place_in w i))))
@@ -52,7 +54,7 @@ has_snoc (y ∷ l) x q = rw (has_snoc l x q) (go (eqb y q) (has l q) (eqb x q))
     go false c d = refl
 
 module _ (l : List ℕ) (q : ℕ) where
-  pub has_more : (j : ℕ) → j < length l → has (take j l) q ≡ false → eqb (get_or l j 0) q ≡ false → has (take (j + 1) l) q ≡ false
+  has_more : (j : ℕ) → j < length l → has (take j l) q ≡ false → eqb (get_or l j 0) q ≡ false → has (take (j + 1) l) q ≡ false
   has_more j h a e = rw add-one (rw (take-suc l j 0 h, has_snoc (take j l) (get_or l j 0) q, a, e))
 
   pub has_hit : (j n : ℕ) → j < n → n ≤ length l → eqb (get_or l j 0) q ≡ true → has (take n l) q ≡ true
@@ -73,15 +75,15 @@ module _ (w : List ℕ) (i q n : ℕ) (e : n ≡ min (get_or w (used_at i) 0) ke
   kept-are : take (get_or w (used_at i) 0) (sequences_in w i) ≡ take n (sequences_in w i)
   kept-are = take_min (sequences_in w i) q (get_or w (used_at i) 0) keys_each (length-build keys_each (λ j. get_or w (sequences_at i + j) 0)) ∙ ap (λ (k : ℕ). take k (sequences_in w i)) (sym e)
 
-  pub key_hit : (j : ℕ) → j < n → get_or w (sequences_at i + j) 0 ≡ q → has (remembered (place_in w i)) q ≡ true
+  key_hit : (j : ℕ) → j < n → get_or w (sequences_at i + j) 0 ≡ q → has (remembered (place_in w i)) q ≡ true
   key_hit j h f = rw kept-are (has_hit (sequences_in w i) q j n h (omega (arith, length-build keys_each (λ j. get_or w (sequences_at i + j) 0)))
       (ap (λ (x : ℕ). eqb x q) (get_or-build keys_each (λ j. get_or w (sequences_at i + j) 0) j 0 (omega arith)) ∙ eq-eqb _ _ f))
 
-  pub key_more : (j : ℕ) → j < n → has (take j (sequences_in w i)) q ≡ false → (get_or w (sequences_at i + j) 0 ≡ q → ⊥) → has (take (j + 1) (sequences_in w i)) q ≡ false
+  key_more : (j : ℕ) → j < n → has (take j (sequences_in w i)) q ≡ false → (get_or w (sequences_at i + j) 0 ≡ q → ⊥) → has (take (j + 1) (sequences_in w i)) q ≡ false
   key_more j h a f = has_more (sequences_in w i) q j (omega (arith, length-build keys_each (λ j. get_or w (sequences_at i + j) 0))) a
       (ap (λ (x : ℕ). eqb x q) (get_or-build keys_each (λ j. get_or w (sequences_at i + j) 0) j 0 (omega arith)) ∙ ne_eqb _ _ f)
 
-  pub key_missed : has (take n (sequences_in w i)) q ≡ false → has (remembered (place_in w i)) q ≡ false
+  key_missed : has (take n (sequences_in w i)) q ≡ false → has (remembered (place_in w i)) q ≡ false
   key_missed a = rw kept-are a
 
   none_of : (j : ℕ) → j ≤ n → ((k : ℕ) → k < j → get_or w (sequences_at i + k) 0 ≡ q → ⊥) → has (take j (sequences_in w i)) q ≡ false
@@ -89,6 +91,12 @@ module _ (w : List ℕ) (i q n : ℕ) (e : n ≡ min (get_or w (used_at i) 0) ke
   none_of (suc j) h d =
       ap (λ (k : ℕ). has (take k (sequences_in w i)) q) (sym (add-one j))
       ∙ key_more j h (none_of j (omega arith) (λ k l. d k (omega arith))) (d j (omega arith))
+
+  -- a search among those that count
+  pub key-asked : (r : Bool) → MatchBool r ((k : ℕ) × (k < n) × (eqb (get_or w (sequences_at i + k) 0) q ≡ true)) ((k : ℕ) → k < n → eqb (get_or w (sequences_at i + k) 0) q ≡ false)
+      → r ≡ has (remembered (place_in w i)) q
+  key-asked true h = sym (key_hit h.0 h.1 (eqb-true _ q h.2))
+  key-asked false h = sym (key_missed (none_of n (omega arith) (λ k l. eqb-false _ q (h k l))))
 
 -- a turn of a loop over low halves: while none was seen, no number was the one
 pub seen_more : (f : ℕ → ℕ) (j q x y : ℕ) (seen : Bool) → x ≡ f j % 4294967296 → y ≡ q % 4294967296 → (seen ≡ false → (k : ℕ) → k < j → f k ≡ q → ⊥)
@@ -106,16 +114,6 @@ key-nowhere w i q d =
     key_missed w i q n refl (none_of w i q n refl n (omega arith) (λ k h. d k (omega arith)))
 
 -- ---- numbers that take the next one's place
-
-pub shifted_none : (m : List ℕ) (a : ℕ) → m ≡ shifted_in m a 0
-unfolding shifted_in
-shifted_none m a = refl
-
-pub shifted-more : (m v w : List ℕ) (a i x : ℕ) → v ≡ shifted_in m a i → x ≡ get_or v (a + i + 1) 0 → w ≡ set v (a + i) x → w ≡ shifted_in m a (i + 1)
-unfolding shifted_in
-shifted-more m v w a i x e f g =
-    let p : i + 1 ≡ suc i = omega arith in
-    rw (g, f, e, p)
 
 pub shifted-length : (m : List ℕ) (a i : ℕ) → length (shifted_in m a i) ≡ length m
 unfolding shifted_in

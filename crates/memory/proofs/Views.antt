@@ -1,5 +1,5 @@
 -- What the memory's words show, before and after its functions: the step list's own memory.
-use Rattle.wire.proofs.Basics.{◌∙◌, sym, ◌≡◌, ap, refl, ℕ, ◌≤◌, ◌+◌, ◌<◌, ◌-◌, suc, zero, ◌*◌, ◌%◌, ◌/◌, List, [], ◌∷◌, ◌++◌, false, Bool, inl, inr, ◌≢◌, some, none, Option, length, drop, get_or}
+use Rattle.wire.proofs.Basics.{◌∙◌, sym, ◌≡◌, ap, refl, ℕ, ◌≤◌, ◌+◌, ◌<◌, ◌-◌, suc, zero, ◌*◌, ◌%◌, ◌/◌, List, [], ◌∷◌, ◌++◌, false, Bool, inl, inr, ◌≢◌, some, none, length, drop, get_or}
 use Rattle.wire.proofs.Basics.{length-append, length-drop, set, length-set, get_or-drop, get_or-set_other, get_or-set_same, ext_get_or, ltb, le-ltb, ne_eqb, lt-ltb, ℕ_discrete, dec_le, arith}
 use lib.ListN.{get_or-append}
 use lib.Seq.{get_or_at}
@@ -10,7 +10,7 @@ use Rattle.words.proofs.Builds.{length-build, get_or-build, build-is}
 use Rattle.ranks.proofs.Ranks.{lowered-length, lowered-other}
 use Rattle.steps.specs.Limits.{senders_most, keys_each}
 use Rattle.steps.specs.Search.{first}
-use Rattle.steps.specs.Memory.{key_of, Place, no_place, vacant, is_of, remembered, has, Memory, place_at, kept_at, is_remembered_lem, furthest_back, or_else, place_for_lem, count_of, pushed, with_key, sunk, remember}
+use Rattle.steps.specs.Memory.{key_of, Place, no_place, vacant, is_of, remembered, has, Memory, place_at, is_remembered_lem, furthest_back, place_for_lem, count_of, pushed, with_key, sunk, remember}
 use Rattle.steps.proofs.Memories.{place_inside, after-long, after-here, after-other}
 use Rattle.steps.proofs.Tables.{first_some}
 use Rattle.memory.specs.Words.{sender_at, used_at, turns_at, turn_at, sequences_at, memory_words, sequences_in, place_in, memory_in, Left}
@@ -44,28 +44,14 @@ module _ (w : List ℕ) (s : ℕ) where
   own-inside : (i : ℕ) → first (is_of s) m ≡ some i → i < senders_most
   own-inside i e = omega (arith, (first_some (is_of s) no_place m i e).inside, memory-long w)
 
-  free-inside : (i : ℕ) → first vacant m ≡ some i → i < senders_most
-  free-inside i e = omega (arith, (first_some vacant no_place m i e).inside, memory-long w)
-
   -- THE LAWS of is_remembered: by the sender's place, or by none
-  pub known-there : (q i : ℕ) (r : Bool) → i ≡ or_else (first (is_of s) m) senders_most → i < senders_most → r ≡ has (remembered (place_in w i)) q
-      → r ≡ is_remembered_lem m (key_of s q)
+  pub known-there : (q i : ℕ) (r : Bool) → first (is_of s) m ≡ some i → r ≡ has (remembered (place_in w i)) q → r ≡ is_remembered_lem m (key_of s q)
   unfolding is_remembered_lem
-  known-there q i r e h f = go (first (is_of s) m) e
-    where
-      go : (o : Option ℕ) → i ≡ or_else o senders_most → r ≡ has (kept_at m o) q
-      go none z = absurd (let y : ⊥ = omega arith in y)
-      go (some j) z = f ∙ ap (λ (p : Place). has (remembered p) q) (sym (place-shown w i h) ∙ ap (place_at m) z)
+  known-there q i r e f = rw e (f ∙ ap (λ (p : Place). has (remembered p) q) (sym (place-shown w i (own-inside i e))))
 
-  pub known-nowhere : (q i : ℕ) → i ≡ or_else (first (is_of s) m) senders_most → senders_most ≤ i → false ≡ is_remembered_lem m (key_of s q)
+  pub known-nowhere : (q : ℕ) → first (is_of s) m ≡ none → false ≡ is_remembered_lem m (key_of s q)
   unfolding is_remembered_lem
-  known-nowhere q i e h = go (first (is_of s) m) refl
-    where
-      go : (o : Option ℕ) → first (is_of s) m ≡ o → false ≡ has (kept_at m o) q
-      go none z = refl
-      go (some j) z =
-          let y : i ≡ j = e ∙ ap (λ (o : Option ℕ). or_else o senders_most) z in
-          absurd (let x : ⊥ = omega (arith, own-inside j z) in x)
+  known-nowhere q e = rw e refl
 
   low-inside : (n : ℕ) → furthest_back m n ≤ n
   low-inside zero = omega arith
@@ -84,41 +70,17 @@ module _ (w : List ℕ) (s : ℕ) where
       ∙ (λ j. pick (ltb (turn_is n (omega arith) j) (turn_is (furthest_back m n) (omega (arith, low-inside n)) j)) n (furthest_back m n))
 
   -- THE LAWS of place_for
-  pub for-own : (i : ℕ) → i ≡ or_else (first (is_of s) m) senders_most → i < senders_most → i ≡ place_for_lem m s
+  pub for-own : (i : ℕ) → first (is_of s) m ≡ some i → i ≡ place_for_lem m s
   unfolding place_for_lem
-  for-own i e h = go (first (is_of s) m) e
-    where
-      go : (o : Option ℕ) → i ≡ or_else o senders_most → i ≡ or_else o (or_else (first vacant m) (furthest_back m senders_most))
-      go none z = absurd (let y : ⊥ = omega arith in y)
-      go (some j) z = z
+  for-own i e = rw e refl
 
-  module _ (i : ℕ) (e : i ≡ or_else (first (is_of s) m) senders_most) (h : senders_most ≤ i) where
-    no_own : first (is_of s) m ≡ none
-    no_own = go (first (is_of s) m) refl
-      where
-        go : (o : Option ℕ) → first (is_of s) m ≡ o → first (is_of s) m ≡ none
-        go none z = z
-        go (some j) z =
-            let y : i ≡ j = e ∙ ap (λ (o : Option ℕ). or_else o senders_most) z in
-            absurd (let x : ⊥ = omega (arith, own-inside j z) in x)
+  pub for-free : (j : ℕ) → first (is_of s) m ≡ none → first vacant m ≡ some j → j ≡ place_for_lem m s
+  unfolding place_for_lem
+  for-free j e f = rw (e, f) refl
 
-    pub for-free : (j : ℕ) → j ≡ or_else (first vacant m) senders_most → j < senders_most → j ≡ place_for_lem m s
-    unfolding place_for_lem
-    for-free j f k = rw no_own (go (first vacant m) f)
-      where
-        go : (o : Option ℕ) → j ≡ or_else o senders_most → j ≡ or_else o (furthest_back m senders_most)
-        go none z = absurd (let y : ⊥ = omega arith in y)
-        go (some x) z = z
-
-    pub for-other : (j r : ℕ) → j ≡ or_else (first vacant m) senders_most → senders_most ≤ j → r ≡ lowest_ranked_lem w turn_ranks senders_most → r ≡ place_for_lem m s
-    unfolding place_for_lem
-    for-other j r f k z = rw no_own (go (first vacant m) refl)
-      where
-        go : (o : Option ℕ) → first vacant m ≡ o → r ≡ or_else o (furthest_back m senders_most)
-        go none y = z ∙ furthest-is senders_most (omega arith)
-        go (some x) y =
-            let u : j ≡ x = f ∙ ap (λ (o : Option ℕ). or_else o senders_most) y in
-            absurd (let v : ⊥ = omega (arith, free-inside x y) in v)
+  pub for-other : (r : ℕ) → first (is_of s) m ≡ none → first vacant m ≡ none → r ≡ lowest_ranked_lem w turn_ranks senders_most → r ≡ place_for_lem m s
+  unfolding place_for_lem
+  for-other r e f z = rw (e, f) (z ∙ furthest-is senders_most (omega arith))
 
 pub for-inside : (w : List ℕ) (s i : ℕ) → i ≡ place_for_lem (memory_in w) s → i < senders_most
 for-inside w s i e = rw e (place_inside (memory_in w) (memory-long w) s)
@@ -200,6 +162,21 @@ shifted_in_lem v a (suc n) j e g h = elim (ℕ_discrete j (a + n)) [
   | yes q ↦ rw q (get_or-set_same (shifted_in v a n) (a + n) _ 0 (omega (arith, shifted-length v a n)) ∙ shifted-out v a n (a + n + 1) (λ z y. omega arith))
   | no q ↦ get_or-set_other (shifted_in v a n) (a + n) j _ 0 q ∙ shifted_in_lem v a n j (omega arith) g (omega arith)
 ]
+
+-- what copies the numbers from a + 1 on, to a
+pub copied-shifted : (w v : List ℕ) (a : ℕ) → a + keys_each ≤ length w → length v ≡ length w
+    → ((k d : ℕ) → a ≤ k → k < a + (keys_each - 1) → get_or v k d ≡ get_or w (a + 1 + (k - a)) d)
+    → ((k d : ℕ) → k < a → get_or v k d ≡ get_or w k d) → ((k d : ℕ) → a + (keys_each - 1) ≤ k → get_or v k d ≡ get_or w k d)
+    → v ≡ shifted_in w a (keys_each - 1)
+copied-shifted w v a h e moved below above = ext_get_or 0 v (shifted_in w a (keys_each - 1)) (e ∙ sym (shifted-length w a (keys_each - 1))) (λ k l. elim (dec_le a k) [
+  | yes g ↦ elim (dec_le (suc k) (a + (keys_each - 1))) [
+    | yes y ↦
+        let p : a + 1 + (k - a) ≡ k + 1 = omega arith in
+        moved k 0 g y ∙ ap (λ (i : ℕ). get_or w i 0) p ∙ sym (shifted_in_lem w a (keys_each - 1) k (omega arith) g y)
+    | no n ↦ above k 0 (omega arith) ∙ sym (shifted-out w a (keys_each - 1) k (λ x y. n y))
+  ]
+  | no n ↦ below k 0 (omega arith) ∙ sym (shifted-out w a (keys_each - 1) k (λ x y. n x))
+])
 
 push_at : (l : List ℕ) (x n i : ℕ) → length l ≡ suc n → i < suc n → get_or (drop 1 l ++ (x ∷ [])) i 0 ≡ pick (ltb i n) (get_or l (suc i) 0) x
 push_at l x n i e h =

@@ -3,10 +3,11 @@
 // Every public function is total over any slice.
 #![tactic(auto)]
 
-ghost use Rattle.std.specs.Prelude.{◌≡◌, false, ◌+◌, ◌≤◌, ◌<◌, ◌-◌, ◌%◌, length};
+ghost use Rattle.std.specs.Prelude.{IfSome, ◌≡◌, false, ◌+◌, ◌≤◌, ◌<◌, ◌-◌, ◌%◌, length};
 ghost use Rattle.steps.specs.Limits.{senders_most, keys_each};
 ghost use Rattle.steps.specs.Search.{first};
-ghost use Rattle.steps.specs.Memory.{key_of, is_of, vacant, remembered, has, or_else, place_for_lem, count_of, is_remembered_lem};
+ghost use Rattle.steps.specs.InsideSearch.{option_of};
+ghost use Rattle.steps.specs.Memory.{key_of, is_of, vacant, remembered, has, place_for_lem, count_of, is_remembered_lem};
 ghost use Rattle.steps.specs.Memory as steps;
 ghost use Rattle.memory.specs.Words.{memory_words, place_in, memory_in, Left};
 ghost use Rattle.memory.specs.InsideParts.{turn_ranks, settled_in, shifted_in, added_in};
@@ -45,38 +46,22 @@ fn is_of(memory: &[u64], i: usize, sender: u64) -> bool
     ensures { result ≡ is_of sender (place_in memory.now i) }
 {
     // Most places are another's.
-    if words::word(memory, i) != sender {
-        return false;
-    }
-    words::word(memory, USED + i) != 0
+    words::word(memory, i) == sender && words::word(memory, USED + i) != 0
 }
 
-// The sender's place, or 16.
-fn own_place(memory: &[u64], sender: u64) -> usize
-    ensures { result ≡ or_else (first (is_of sender) (memory_in memory.now)) senders_most }
+// The sender's place.
+fn own_place(memory: &[u64], sender: u64) -> Option<usize>
+    ensures inside { IfSome result (λ i. i < senders_most) }
+    ensures first { option_of result ≡ first (is_of sender) (memory_in memory.now) }
 {
-    let mut i: usize = 0;
-    while i < SENDERS_MOST {
-        if is_of(memory, i, sender) {
-            return i;
-        }
-        i += 1;
-    }
-    SENDERS_MOST
+    (0..SENDERS_MOST).find(|i| is_of(memory, *i, sender))
 }
 
-// The first free place, or 16.
-fn free_place(memory: &[u64]) -> usize
-    ensures { result ≡ or_else (first vacant (memory_in memory.now)) senders_most }
+// The first free place.
+fn free_place(memory: &[u64]) -> Option<usize>
+    ensures { option_of result ≡ first vacant (memory_in memory.now) }
 {
-    let mut i: usize = 0;
-    while i < SENDERS_MOST {
-        if words::word(memory, USED + i) == 0 {
-            return i;
-        }
-        i += 1;
-    }
-    SENDERS_MOST
+    (0..SENDERS_MOST).find(|i| words::word(memory, USED + *i) == 0)
 }
 
 // The low 32 bits.
@@ -94,10 +79,8 @@ fn may_have(memory: &[u64], i: usize, sequence: u64) -> bool
     let a = SEQUENCES + KEYS_EACH * i;
     let low = low_of(sequence);
     let mut seen = false;
-    let mut j: usize = 0;
-    while j < KEYS_EACH {
-        seen = seen | (low_of(memory[a + j]) == low);
-        j += 1;
+    for key in &memory[a..a + KEYS_EACH] {
+        seen |= low_of(*key) == low;
     }
     seen
 }
@@ -107,32 +90,22 @@ fn has_key(memory: &[u64], i: usize, sequence: u64) -> bool
     requires { i < senders_most }
     ensures { result ≡ has (remembered (place_in memory.now i)) sequence }
 {
-    let n = wire::least(words::word(memory, USED + i) as usize, KEYS_EACH);
+    let n = (words::word(memory, USED + i) as usize).min(KEYS_EACH);
     let a = SEQUENCES + KEYS_EACH * i;
-    let mut j: usize = 0;
-    while j < n {
-        if words::word(memory, a + j) == sequence {
-            return true;
-        }
-        j += 1;
-    }
-    false
+    (0..n).any(|j| words::word(memory, a + j) == sequence)
 }
 
 // The key is remembered.
 pub fn is_remembered(memory: &[u64], sender: u64, sequence: u64) -> bool
     ensures { result ≡ is_remembered_lem (memory_in memory.now) (key_of sender sequence) }
 {
-    let i = own_place(memory, sender);
-    if i < SENDERS_MOST {
-        if memory.len() == WORDS {
-            if !may_have(memory, i, sequence) {
-                return false;
-            }
-        }
-        return has_key(memory, i, sequence);
+    let Some(i) = own_place(memory, sender) else {
+        return false;
+    };
+    if memory.len() == WORDS && !may_have(memory, i, sequence) {
+        return false;
     }
-    false
+    has_key(memory, i, sequence)
 }
 
 // ---- a key is remembered
@@ -141,12 +114,10 @@ pub fn is_remembered(memory: &[u64], sender: u64, sequence: u64) -> bool
 fn place_for(memory: &[u64], sender: u64) -> usize
     ensures { result ≡ place_for_lem (memory_in memory.now) sender }
 {
-    let own = own_place(memory, sender);
-    if own < SENDERS_MOST {
+    if let Some(own) = own_place(memory, sender) {
         return own;
     }
-    let free = free_place(memory);
-    if free < SENDERS_MOST {
+    if let Some(free) = free_place(memory) {
         return free;
     }
     ranks::lowest_ranked(memory, turns(), SENDERS_MOST)
@@ -168,11 +139,7 @@ fn shift(memory: &mut [u64], a: usize)
     requires { a + keys_each ≤ length memory.old }
     ensures { memory.new ≡ shifted_in memory.old a (keys_each - 1) }
 {
-    let mut i: usize = 0;
-    while i < KEYS_EACH - 1 {
-        memory[a + i] = memory[a + i + 1];
-        i += 1;
-    }
+    memory.copy_within(a + 1..a + KEYS_EACH, a);
 }
 
 // Place i has n sequences and one more; of 32 the oldest is dropped.

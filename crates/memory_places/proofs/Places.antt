@@ -1,6 +1,7 @@
 -- Places in order, and places that are freed. Assumes nothing.
-use Rattle.wire.proofs.Basics.{◌∙◌, sym, ◌≡◌, ap, refl, ℕ, ◌≤◌, ◌+◌, ◌<◌, suc, zero, List, true, Bool, ◌≢◌, length, get_or, length-set, get_or-set_other, get_or-set_same, eqb, leb, eq-eqb, ne_eqb, le-leb}
-use Rattle.wire.proofs.Basics.{ℕ_discrete, dec_le, add-one, arith}
+use Rattle.wire.proofs.Basics.{◌∙◌, sym, ◌≡◌, ap, refl, ℕ, ◌≤◌, ◌+◌, ◌<◌, suc, zero, List, [], ◌∷◌, true, Bool, ◌≢◌, length, get_or, length-set, get_or-set_other, get_or-set_same, eqb, leb, eq-eqb, ne_eqb, le-leb}
+use Rattle.wire.proofs.Basics.{ℕ_discrete, arith}
+use Rattle.std.specs.List.{fold}
 use lib.Bits.{bit_or, or_add_and, and_le_l, and_le_r}
 use Rattle.memory.specs.Words.{sender_at, used_at, sequences_at, sequences_in, place_in, memory_in, turn_at, memory_words}
 use Rattle.steps.proofs.Memories.{forget-at, forget-long}
@@ -27,21 +28,21 @@ ok-is w = all_cong senders_most (λ i. leb (place_at (build senders_most (place_
     (λ i b. ap (λ (p : Place). leb p.used keys_each) (get_or-build senders_most (place_in w) i no_place b))
 
 -- no number is above all its bits with those of others
-pub or_above : (a b : ℕ) → (a ≤ bit_or a b) × (b ≤ bit_or a b)
+or_above : (a b : ℕ) → (a ≤ bit_or a b) × (b ≤ bit_or a b)
 or_above a b = (omega (arith, or_add_and a b, and_le_r a b), omega (arith, or_add_and a b, and_le_l a b))
 
--- one number more
-pub above_more : (f : ℕ → ℕ) (i a x : ℕ) → x ≡ f i → ((j : ℕ) → j < i → f j ≤ a) → (j : ℕ) → j < i + 1 → f j ≤ bit_or a x
-above_more f i a x e d j h = elim (dec_le (suc j) i) [
-  | yes l ↦ omega (arith, d j l, (or_above a x).0)
-  | no l ↦ let z : j ≡ i = omega arith in rw z (omega (arith, (or_above a x).1))
-]
+-- none of the numbers, and not what was before them, is above all their bits together
+pub all_bits : (xs : List ℕ) (a : ℕ) → (a ≤ fold bit_or a xs) × ((i : ℕ) → i < length xs → get_or xs i 0 ≤ fold bit_or a xs)
+all_bits [] a = (omega arith, λ i h. absurd (omega arith))
+all_bits (x ∷ xs) a = let h = all_bits xs (bit_or a x) in (omega (arith, h.0, (or_above a x).0), go h)
+  where
+    go : (bit_or a x ≤ fold bit_or (bit_or a x) xs) × ((i : ℕ) → i < length xs → get_or xs i 0 ≤ fold bit_or (bit_or a x) xs)
+        → (i : ℕ) → i < suc (length xs) → get_or (x ∷ xs) i 0 ≤ fold bit_or (bit_or a x) xs
+    go h zero l = omega (arith, h.0, (or_above a x).1)
+    go h (suc i) l = h.1 i (omega arith)
 
 pub all-few : (w : List ℕ) (r : ℕ) → ((i : ℕ) → i < senders_most → get_or w (used_at i) 0 ≤ r) → r ≤ keys_each → memory_ok (memory_in w) ≡ true
 all-few w r f h = ok-is w ∙ all_of senders_most (few_at w) (λ i l. le-leb (get_or w (used_at i) 0) keys_each (omega (arith, f i l)))
-
-pub all_more : (p : ℕ → Bool) (i : ℕ) → all_below i p ≡ true → p i ≡ true → all_below (i + 1) p ≡ true
-all_more p i a e = rw add-one (rw (a, e))
 
 -- ---- places that are freed
 

@@ -23,10 +23,8 @@ fn free_at(memory: &mut [u64], i: usize, sender: u64)
 fn free_all(memory: &mut [u64], sender: u64)
     ensures { memory.new ≡ freed_in memory.old sender senders_most }
 {
-    let mut i: usize = 0;
-    while i < memory::SENDERS_MOST {
+    for i in 0..memory::SENDERS_MOST {
         free_at(&mut *memory, i, sender);
-        i += 1;
     }
 }
 
@@ -47,27 +45,17 @@ fn all_counts(memory: &[u64]) -> u64
     requires { length memory.now ≡ memory_words }
     ensures { (i : ℕ) → i < senders_most → get_or memory.now (used_at i) 0 ≤ result }
 {
-    let mut all: u64 = 0;
-    let mut i: usize = 0;
-    while i < memory::SENDERS_MOST {
-        all = all | memory[memory::USED + i];
-        i += 1;
-    }
-    all
+    memory[memory::USED..memory::USED + memory::SENDERS_MOST]
+        .iter()
+        .fold(0, |all, count| all | *count)
 }
 
 // One by one, over any slice.
 fn each_in_order(memory: &[u64]) -> bool
     ensures { result ≡ memory_ok (memory_in memory.now) }
 {
-    let mut i: usize = 0;
-    while i < memory::SENDERS_MOST {
-        if (memory::KEYS_EACH as u64) < words::word(memory, memory::USED + i) {
-            return false;
-        }
-        i += 1;
-    }
-    true
+    let most = memory::KEYS_EACH as u64;
+    (0..memory::SENDERS_MOST).all(|i| words::word(memory, memory::USED + i) <= most)
 }
 
 // Not over 16 senders, for which alone there are places, and not over 32 keys for one.

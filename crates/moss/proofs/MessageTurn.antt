@@ -1,12 +1,13 @@
 -- Laws of message blocks: one turn of the walk. Assumes nothing.
-use Rattle.wire.proofs.Basics.{◌∙◌, sym, ◌≡◌, ap, refl, ℕ, ◌≤◌, ◌+◌, ◌<◌, ◌-◌, suc, zero, List, [], ◌∷◌, true, false, Bool, some, none, Option, length, drop, length-drop, drop_of_length-le}
-use Rattle.wire.proofs.Basics.{length-take-le, drop-drop, eqb, le-ltb, lt-ltb, arith}
+use Rattle.wire.proofs.Basics.{◌∙◌, sym, ◌≡◌, ap, refl, ℕ, ◌≤◌, ◌+◌, ◌<◌, ◌-◌, suc, zero, List, [], ◌∷◌, some, none, Option, length, drop, length-drop, drop_of_length-le}
+use Rattle.wire.proofs.Basics.{length-take-le, drop-drop, le-ltb, lt-ltb, arith}
 use Rattle.wire.specs.Choice.{pick}
 use Rattle.wire.specs.Bytes.{be}
 use Rattle.moss.specs.Blocks.{is_cut, first_message, behind, before, nothing_in, messages_within, messages_in}
 use Rattle.moss.specs.InsideWalk.{past, walked}
 use Rattle.moss.specs.declared.Trail.{Trail}
-use Rattle.moss.specs.declared.Walked.TheVariants.{Filled, Broken}
+use Rattle.std.proofs.Common.{Ok, Err}
+use Rattle.refusals.specs.declared.Refusal.TheVariants.{BlocksDoNotFill}
 
 -- any number of turns that is enough gives the same
 pub same-turns : (s t : ℕ) (b : List ℕ) → length b ≤ s → length b ≤ t → messages_within s b ≡ messages_within t b
@@ -64,21 +65,13 @@ module _ (s : List ℕ) (t : Trail) (n at : ℕ) (inside : at < length s) where
       ∙ walked-before t n at k (first_message b) (messages_in (behind b)) size
       ∙ ap (λ (l : List ℕ). walked (past t n at k) n (at + (2 + k)) (messages_in l)) rest
 
-  pub walk-broken : (k : ℕ) → k ≡ be 2 (drop at s) → length s - at < 2 + k → walked t n at (messages_in (drop at s)) ≡ Broken
+  pub walk-broken : (k : ℕ) → k ≡ be 2 (drop at s) → length s - at < 2 + k → walked t n at (messages_in (drop at s)) ≡ Err BlocksDoNotFill
   walk-broken k e h =
       let long : length (drop at s) ≡ length s - at = length-drop at s in
       ap (walked t n at) (messages-cut (drop at s) some_left (omega arith))
 
-pub walk_end : (s : List ℕ) (t : Trail) (n at : ℕ) → length s ≤ at → walked t n at (messages_in (drop at s)) ≡ Filled t
+pub walk_end : (s : List ℕ) (t : Trail) (n at : ℕ) → length s ≤ at → walked t n at (messages_in (drop at s)) ≡ Ok t
 walk_end s t n at h = ap (λ (l : List ℕ). walked t n at (messages_in l)) (drop_of_length-le s h) ∙ ap (walked t n at) messages-none
-
--- each block passed counts one
-pub past-count : (t : Trail) (n at m : ℕ) → (past t n at m).count ≡ t.count + 1
-past-count t n at m = go (eqb t.count n)
-  where
-    go : (b : Bool) → (pick {X = Trail} b (record { count = t.count + 1; at = at + 2; len = m }) (record { count = t.count + 1; at = t.at; len = t.len })).count ≡ t.count + 1
-    go true = refl
-    go false = refl
 
 -- ---- what H and E carry
 

@@ -6,11 +6,13 @@ ghost use Rattle.std.specs.Prelude.{◌≡◌, ◌+◌, ◌<◌, ◌≤◌, drop
 ghost use Rattle.wire.specs.Bytes.{be};
 ghost use Rattle.wire.specs.Overlay.{overlay};
 ghost use Rattle.moss.specs.Blocks.{messages_in};
-ghost use Rattle.moss.specs.Packet.{packet_of, held, carried, known_kind, kind_in, block_fault_lem};
+ghost use Rattle.moss.specs.Packet.{packet_of, held, carried, kind_in, block_fault_lem};
 ghost use Rattle.moss.specs.Message.{place_in, message_in};
-ghost use Rattle.moss.specs.Answers.{headers_of, reads, locates};
+ghost use Rattle.moss.specs.Answers.{headers_of, letter_of, KindOf, faults, reads, locates};
 ghost use Rattle.moss.specs.Limits.{head_length, session_length};
-ghost use Rattle.moss.specs.InsideWalk.{start, past, pointed, walked, looked};
+ghost use Rattle.moss.specs.InsideWalk.{start, past, walked, looked, looks};
+
+use refusals::Refusal;
 
 // The bytes of a session, of a header, and of the longest packet.
 pub const SESSION: usize = 10;
@@ -27,54 +29,68 @@ pub const SEQUENCE_AT: usize = 14;
 pub const KIND_AT: usize = 18;
 
 // The types: data, heartbeat, end of session.
-pub const U: u8 = b'U';
+#[derive(Clone, Copy, Debug, PartialEq, Eq)]
+pub enum Kind {
+    Data,
+    Heartbeat,
+    End,
+}
 
-pub const H: u8 = b'H';
+impl TryFrom<u8> for Kind {
+    type Error = Refusal;
 
-pub const E: u8 = b'E';
+    ghost try_from_gives = { KindOf };
+
+    fn try_from(letter: u8) -> Result<Kind, Refusal> {
+        match letter {
+            b'U' => Ok(Kind::Data),
+            b'H' => Ok(Kind::Heartbeat),
+            b'E' => Ok(Kind::End),
+            _ => Err(Refusal::PacketKind),
+        }
+    }
+}
+
+impl From<Kind> for u8 {
+    ghost from_gives = { λ kind letter. letter ≡ letter_of kind };
+
+    fn from(kind: Kind) -> u8 {
+        match kind {
+            Kind::Data => b'U',
+            Kind::Heartbeat => b'H',
+            Kind::End => b'E',
+        }
+    }
+}
 
 // A packet's numbers: where its session stands, its sequence, its type, its count of messages.
-#[derive(Clone, Copy)]
+#[derive(Clone, Copy, Debug, PartialEq, Eq)]
 pub struct Header {
     pub session: usize,
     pub sequence: u32,
-    pub kind: u8,
+    pub kind: Kind,
     pub count: usize,
 }
 
-#[derive(Clone, Copy)]
-pub enum Read {
-    Good(Header),
-    Refused(u32),
-}
-
 // Where a message begins, and its length.
-#[derive(Clone, Copy)]
-pub enum Located {
-    At(usize, usize),
-    Refused(u32),
+#[derive(Clone, Copy, Debug, PartialEq, Eq)]
+pub struct Place {
+    pub at: usize,
+    pub len: usize,
 }
 
-// How many blocks were passed, and place and length of the message that was looked out for, once it was passed.
-#[derive(Drop)]
+// How many blocks were passed, and the message that was looked out for, once it was passed.
+#[derive(Clone, Copy)]
 struct Trail {
     count: usize,
-    at: usize,
-    len: usize,
+    found: Option<Place>,
 }
 
-// The blocks fill the bytes exactly, or they do not.
-#[derive(Drop)]
-enum Walked {
-    Filled(Trail),
-    Broken,
-}
-
-#[derive(Drop)]
-enum Looked {
-    Good(Header, Trail),
-    Refused(u32),
-}
+// Nothing was passed yet.
+const START: Trail = Trail {
+    count: 0,
+    found: None,
+};
 
 // The length of the block at a place.
 fn size_at(b: &[u8], at: usize) -> usize
@@ -90,81 +106,56 @@ fn pass(t: Trail, n: usize, at: usize, m: usize) -> Trail
 {
     let count = t.count;
     if count == n {
+        let place = Place { at: at + 2, len: m };
         return Trail {
             count: count + 1,
-            at: at + 2,
-            len: m,
+            found: Some(place),
         };
     }
     Trail {
         count: count + 1,
-        at: t.at,
-        len: t.len,
+        found: t.found,
     }
 }
 
 // Goes over the blocks from a place to the end, and looks out for message n.
-fn walk(b: &[u8], from: usize, n: usize) -> Walked
+fn walk(b: &[u8], from: usize, n: usize) -> Result<Trail, Refusal>
     ensures { result ≡ walked start n from (messages_in (drop from b.now)) }
 {
-    let mut t = Trail {
-        count: 0,
-        at: 0,
-        len: 0,
-    };
+    let mut t = START;
     let mut at = from;
+    // Kept: a `while`, since each block says how far the next one is.
     while at < b.len() {
         let m = size_at(b, at);
         if b.len() - at < 2 + m {
-            return Walked::Broken;
+            return Err(Refusal::BlocksDoNotFill);
         }
         t = pass(t, n, at, m);
         at += 2 + m;
     }
-    Walked::Filled(t)
+    Ok(t)
 }
 
 // What a packet of this type carries from a place to its end: H and E carry nothing.
-fn walk_kind(kind: u8, b: &[u8], from: usize, n: usize) -> Walked
-    ensures { result ≡ walked start n from (carried kind (drop from b.now)) }
+fn walk_kind(kind: Kind, b: &[u8], from: usize, n: usize) -> Result<Trail, Refusal>
+    ensures { result ≡ walked start n from (carried (letter_of kind) (drop from b.now)) }
 {
-    if kind == U {
+    if let Kind::Data = kind {
         return walk(b, from, n);
     }
     if from < b.len() {
-        return Walked::Broken;
+        return Err(Refusal::BlocksDoNotFill);
     }
-    Walked::Filled(Trail {
-        count: 0,
-        at: 0,
-        len: 0,
-    })
+    Ok(START)
 }
 
-fn is_known(kind: u8) -> bool
-    ensures { result ≡ known_kind kind }
+// What is wrong with message blocks for a packet of this type, 52 or 53. The writer asks it.
+pub fn block_fault(kind: u8, blocks: &[u8]) -> Result<(), Refusal>
+    ensures { faults result ≡ block_fault_lem kind blocks.now }
 {
-    if kind == U {
-        return true;
-    }
-    if kind == H {
-        return true;
-    }
-    kind == E
-}
-
-// What is wrong with message blocks for a packet of this type, 52 or 53: 0 where nothing is. The writer asks it.
-pub fn block_fault(kind: u8, blocks: &[u8]) -> u32
-    ensures { result ≡ block_fault_lem kind blocks.now }
-{
-    if !is_known(kind) {
-        return 52;
-    }
-    let w = walk_kind(kind, blocks, 0, 0);
-    match w {
-        Walked::Filled(_) => 0,
-        Walked::Broken => 53,
-    }
+    let kind = Kind::try_from(kind)?;
+    walk_kind(kind, blocks, 0, 0)?;
+    Ok(())
 }
 
 // The number of four bytes at a place.
@@ -174,84 +165,61 @@ fn word_at(b: &[u8], at: usize) -> u32
     wire::number(b, at, 4) as u32
 }
 
-// What a packet of known type says, with place and length of message n.
-fn look_inside(p: &[u8], kind: u8, n: usize) -> Looked
-    requires { kind ≡ kind_in p.now }
-    ensures { result ≡ looked n (held p.now (carried kind (drop head_length p.now))) }
+// What a packet of known type says, with the place of message n.
+fn look_inside(p: &[u8], kind: Kind, n: usize) -> Result<(Header, Option<Place>), Refusal>
+    requires { letter_of kind ≡ kind_in p.now }
+    ensures { looks result ≡ looked n (held p.now (carried (letter_of kind) (drop head_length p.now))) }
 {
-    let r = walk_kind(kind, p, HEAD, n);
-    let Walked::Filled(t) = r else {
-        return Looked::Refused(53);
-    };
+    let t = walk_kind(kind, p, HEAD, n)?;
     let header = Header {
         session: SESSION_AT,
         sequence: word_at(p, SEQUENCE_AT),
-        kind: kind,
+        kind,
         count: t.count,
     };
-    Looked::Good(header, t)
+    Ok((header, t.found))
 }
 
-// What a packet says, with place and length of message n.
-fn look(p: &[u8], n: usize) -> Looked
-    ensures { result ≡ looked n (packet_of p.now) }
+// What a packet says, with the place of message n.
+fn look(p: &[u8], n: usize) -> Result<(Header, Option<Place>), Refusal>
+    ensures { looks result ≡ looked n (packet_of p.now) }
 {
     if p.len() < HEAD {
-        return Looked::Refused(50);
+        return Err(Refusal::PacketTooShort);
     }
     if wire::number(p, 0, 4) != p.len() as u64 {
-        return Looked::Refused(51);
+        return Err(Refusal::PacketLength);
     }
     if MAX_PACKET < p.len() {
-        return Looked::Refused(51);
+        return Err(Refusal::PacketLength);
     }
-    let kind = p[KIND_AT];
-    if !is_known(kind) {
-        return Looked::Refused(52);
-    }
+    let kind = Kind::try_from(p[KIND_AT])?;
     look_inside(p, kind, n)
 }
 
 // What a packet says: where its session stands, its sequence, its type and how many messages it carries.
-pub fn read_packet(p: &[u8]) -> Read
+pub fn read_packet(p: &[u8]) -> Result<Header, Refusal>
     ensures { reads result ≡ headers_of (packet_of p.now) }
 {
-    let l = look(p, 0);
-    match l {
-        Looked::Good(header, _) => Read::Good(header),
-        Looked::Refused(number) => Read::Refused(number),
-    }
+    let (header, _) = look(p, 0)?;
+    Ok(header)
 }
 
 // Where the n-th message (from 0) begins, and its length.
-pub fn message_place(p: &[u8], n: usize) -> Located
+pub fn message_place(p: &[u8], n: usize) -> Result<Place, Refusal>
     ensures { locates result ≡ place_in (packet_of p.now) n }
 {
-    let l = look(p, n);
-    match l {
-        Looked::Good(_, t) => place_of(t, n),
-        Looked::Refused(number) => Located::Refused(number),
-    }
-}
-
-// The message that was looked out for, if it was passed.
-fn place_of(t: Trail, n: usize) -> Located
-    ensures { locates result ≡ pointed t n }
-{
-    if n < t.count {
-        return Located::At(t.at, t.len);
-    }
-    Located::Refused(54)
+    let (_, found) = look(p, n)?;
+    found.ok_or(Refusal::NoSuchMessage)
 }
 
 // The n-th message as a part of the packet; for a refusal it is empty.
 pub fn message(p: &[u8], n: usize) -> &[u8]
     ensures { result.now ≡ message_in (packet_of p.now) n }
 {
-    let l = message_place(p, n);
-    match l {
-        Located::At(at, len) => wire::part(p, at, len),
-        Located::Refused(_) => wire::part(p, 0, 0),
+    match message_place(p, n) {
+        Ok(place) => wire::part(p, place.at, place.len),
+        Err(_) => wire::part(p, 0, 0),
     }
 }
 

@@ -10,7 +10,7 @@ use Rattle.moss.specs.Limits.{session_length, head_length, max_packet, letter_u}
 use Rattle.moss.specs.Blocks.{laid, nothing_in, messages_in}
 use Rattle.moss.specs.Packet.{Given, gives, Packet, length_in, session_in, sequence_in, kind_in, known_kind, carried, held, packet_of}
 use Rattle.moss_writer.specs.Write.{packet_bytes, filled_by, written_of, output_of, WritesPacket}
-use Rattle.moss_writer.specs.declared.Written.TheVariants as written
+use Rattle.std.proofs.Common.{Ok}
 use Rattle.moss.proofs.Packets.{Good, packet-good, packet-held}
 use Rattle.moss.proofs.Parts.{nothing_is, nothing_left}
 use Rattle.moss_writer.proofs.Laying.{messages-laid}
@@ -78,7 +78,7 @@ module _ (s : List ℕ) (q k : ℕ) (blocks : List ℕ) (ten : length s ≡ sess
 
 -- the same of a call: the first n bytes of the output
 pub written-reads : (s : List ℕ) (q k : ℕ) (blocks out : List ℕ) (n : ℕ) (out' : List ℕ) → length s ≡ session_length → q < 2 ^ 32 → k < 256
-    → (w : WritesPacket s q k blocks out (written.Bytes n) out')
+    → (w : WritesPacket s q k blocks out (Ok n) out')
     → packet_of (take n out') ≡ gives (record { session = s; sequence = q; kind = k; messages = (written_makes k blocks (length out) n (sym w.answer)).messages })
 written-reads s q k blocks out n out' ten hq hk w =
     let m : Makes k blocks (length out) n = written_makes k blocks (length out) n (sym w.answer) in

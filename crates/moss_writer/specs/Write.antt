@@ -1,5 +1,5 @@
 -- The bytes of a packet, and what the writer answers and writes: refusals 51, 52, 53, 55 in that order. Definitions only.
-use Rattle.std.specs.Prelude.{◌≡◌, List, ◌++◌, ℕ, ◌+◌, ltb, length}
+use Rattle.std.specs.Prelude.{◌≡◌, List, ◌++◌, ℕ, ◌+◌, ltb, length, Result}
 use Rattle.std.proofs.Math.Option.{Option, none, some}
 use Rattle.wire.specs.Choice.{pick, ◌when◌else◌}
 use Rattle.wire.specs.Bytes.{bytes}
@@ -7,8 +7,8 @@ use Rattle.wire.specs.Overlay.{overlay}
 use Rattle.moss.specs.Limits.{head_length, max_packet, max_message}
 use Rattle.moss.specs.Blocks.{block}
 use Rattle.moss.specs.Packet.{Given, gives, refuses, known_kind, carried}
-use Rattle.moss_writer.specs.declared.Written.{Written}
-use Rattle.moss_writer.specs.declared.Written.TheVariants as written
+use Rattle.refusals.specs.declared.Refusal.{Refusal}
+use Rattle.refusals.specs.Answers.{given}
 
 unfoldable pub packet_bytes : List ℕ → ℕ → ℕ → List ℕ → List ℕ
 packet_bytes session sequence kind blocks = bytes 4 (head_length + length blocks) ++ session ++ bytes 4 sequence ++ bytes 1 kind ++ blocks
@@ -35,9 +35,8 @@ laid_of message at room =
     gives (2 + length message)
 
 -- the code's answer, in the paper's values
-abbrev pub writes : Written → Given ℕ
-writes (written.Bytes n) = gives n
-writes (written.Refused number) = refuses number
+abbrev pub writes : Result ℕ Refusal → Given ℕ
+writes r = given r
 
 -- a refusal leaves the output; else the bytes stand at their place
 abbrev pub output_of : Given ℕ → List ℕ → ℕ → List ℕ → List ℕ
@@ -45,13 +44,13 @@ output_of (refuses number) out at b = out
 output_of (gives n) out at b = overlay out at b
 
 -- the answer, and every byte of the lent output
-pub record WrittenTo (said : Given ℕ) (at : ℕ) (b out : List ℕ) (r : Written) (out' : List ℕ) : Type 0 where
+pub record WrittenTo (said : Given ℕ) (at : ℕ) (b out : List ℕ) (r : Result ℕ Refusal) (out' : List ℕ) : Type 0 where
   pub answer : writes r ≡ said
   pub output : out' ≡ output_of said out at b
 
 -- of a packet at the start of the output, and of a block at a place
-abbrev pub WritesPacket : List ℕ → ℕ → ℕ → List ℕ → List ℕ → Written → List ℕ → Type 0
+abbrev pub WritesPacket : List ℕ → ℕ → ℕ → List ℕ → List ℕ → Result ℕ Refusal → List ℕ → Type 0
 WritesPacket session sequence kind blocks out r out' = WrittenTo (written_of kind blocks (length out)) 0 (packet_bytes session sequence kind blocks) out r out'
 
-abbrev pub LaysBlock : List ℕ → ℕ → List ℕ → Written → List ℕ → Type 0
+abbrev pub LaysBlock : List ℕ → ℕ → List ℕ → Result ℕ Refusal → List ℕ → Type 0
 LaysBlock message at out r out' = WrittenTo (laid_of message at (length out)) at (block message) out r out'

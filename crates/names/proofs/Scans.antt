@@ -1,6 +1,7 @@
 -- Laws of the scan of a name: where it can go from where. Assumes nothing.
 use Rattle.wire.proofs.Basics.{◌∙◌, sym, ◌≡◌, ap, refl, ℕ, ◌≤◌, ◌+◌, ◌<◌, List, [], ◌∷◌, true, false, inl, inr, length, drop, get_or, drop_of_length-le, drop-cons, eqb, leb, eq-eqb, ne_eqb, eqb-true}
 use Rattle.wire.proofs.Basics.{le-leb, lt-leb, leb-true, ℕ_discrete, add-one, arith}
+use Rattle.std.specs.List.{list_all}
 use Rattle.wire.proofs.Choices.{and_l, and_r, and-of, and-false, either, pick_all}
 use Rattle.names.specs.Scan.{within, start, bad, low_after_lem, high_after_lem, next, scan}
 use Rattle.names.specs.declared.Scan.{Scan}
@@ -63,9 +64,10 @@ next_low s x =
 pub scan_step : (s : Scan) (l : List ℕ) (i : ℕ) → i < length l → scan s (drop i l) ≡ scan (next s (get_or l i 0)) (drop (i + 1) l)
 scan_step s l i h = ap (scan s) (drop-cons l i 0 h) ∙ ap (λ (n : ℕ). scan (next s (get_or l i 0)) (drop n l)) (sym (add-one i))
 
--- a byte that is a code point by itself
-pub plain_step : (l : List ℕ) (i : ℕ) → i < length l → within 32 126 (get_or l i 0) ≡ true → scan start (drop i l) ≡ scan start (drop (i + 1) l)
-plain_step l i h e = scan_step start l i h ∙ ap (λ (s : Scan). scan s (drop (i + 1) l)) (rw e)
+-- bytes that are code points by themselves
+pub plain-all : (l : List ℕ) → list_all (within 32 126) l ≡ true → scan start l ≡ start
+plain-all [] e = refl
+plain-all (x ∷ l) e = rw (and_l (within 32 126 x) (list_all (within 32 126) l) e) (plain-all l (and_r (within 32 126 x) (list_all (within 32 126) l) e))
 
 pub scan-end : (s : Scan) (l : List ℕ) (i : ℕ) → length l ≤ i → scan s (drop i l) ≡ s
 scan-end s l i h = ap (scan s) (drop_of_length-le l h)

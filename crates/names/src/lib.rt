@@ -1,64 +1,61 @@
 // The name rule: which bytes are a channel's name.
 #![tactic(auto)]
 
-ghost use Rattle.std.specs.Prelude.{◌≡◌, true, eqb};
-ghost use Rattle.names.specs.Scan.{within, start, low_after_lem, high_after_lem, after, first, next, scan};
+ghost use Rattle.std.specs.Prelude.{◌≡◌, eqb};
+ghost use Rattle.std.specs.List.{list_all};
+ghost use Rattle.names.specs.Scan.{within, start, tails, after, first, next, scan};
 ghost use Rattle.names.specs.Name.{good_name_lem};
 
 // The longest name.
 pub const MAX_NAME: usize = 63;
 
 // Where a scan of UTF-8 stands: how many bytes of a code point are to come, and from which to which the next may be.
-#[derive(Drop)]
+#[derive(Clone, Copy)]
 struct Scan {
     left: u8,
     low: u8,
     high: u8,
 }
 
-fn within(low: u8, high: u8, x: u8) -> bool
-    ensures { result ≡ within low high x }
-{
-    if x < low {
-        return false;
-    }
-    x <= high
-}
+// Where no byte helps any more.
+const BAD: Scan = Scan {
+    left: 1,
+    low: 1,
+    high: 0,
+};
 
-// The lowest byte after the first byte x of a code point: no overlong form.
-fn low_after(x: u8) -> u8
-    ensures { result ≡ low_after_lem x }
-{
-    if x == 0xe0 {
-        return 0xa0;
-    }
-    if x == 0xf0 {
-        return 0x90;
-    }
-    0x80
-}
-
-// The highest: no surrogate, and nothing above 10FFFF.
-fn high_after(x: u8) -> u8
-    ensures { result ≡ high_after_lem x }
-{
-    if x == 0xed {
-        return 0x9f;
-    }
-    if x == 0xf4 {
-        return 0x8f;
-    }
-    0xbf
-}
-
-// After the first byte x of a code point that has n more.
-fn after(n: u8, x: u8) -> Scan
-    ensures { result ≡ after n x }
+// Where n bytes are to come, each any byte after a first: none, at the start and after each code point.
+fn tails(n: u8) -> Scan
+    ensures { result ≡ tails n }
 {
     Scan {
         left: n,
-        low: low_after(x),
-        high: high_after(x),
+        low: 0x80,
+        high: 0xbf,
+    }
+}
+
+fn within(low: u8, high: u8, x: u8) -> bool
+    ensures { result ≡ within low high x }
+{
+    low <= x && x <= high
+}
+
+// After the first byte x of a code point that has n more: no overlong form, no surrogate, and nothing above 10FFFF.
+fn after(n: u8, x: u8) -> Scan
+    ensures { result ≡ after n x }
+{
+    let (low, high) = match x {
+        0xe0 => (0xa0, 0xbf),
+        0xed => (0x80, 0x9f),
+        0xf0 => (0x90, 0xbf),
+        0xf4 => (0x80, 0x8f),
+        _ => (0x80, 0xbf),
+    };
+    Scan {
+        left: n,
+        low: low,
+        high: high,
     }
 }
 
@@ -67,11 +64,7 @@ fn first(x: u8) -> Scan
     ensures { result ≡ first x }
 {
     if within(32, 126, x) {
-        return Scan {
-            left: 0,
-            low: 0x80,
-            high: 0xbf,
-        };
+        return tails(0);
     }
     if within(0xc2, 0xdf, x) {
         return after(1, x);
@@ -82,11 +75,7 @@ fn first(x: u8) -> Scan
     if within(0xf0, 0xf4, x) {
         return after(3, x);
     }
-    Scan {
-        left: 1,
-        low: 1,
-        high: 0,
-    }
+    BAD
 }
 
 // What any byte leads to: a byte that may not follow leads where none helps.
@@ -97,48 +86,27 @@ fn next(s: Scan, x: u8) -> Scan
         return first(x);
     }
     if within(s.low, s.high, x) {
-        return Scan {
-            left: s.left - 1,
-            low: 0x80,
-            high: 0xbf,
-        };
+        return tails(s.left - 1);
     }
-    Scan {
-        left: 1,
-        low: 1,
-        high: 0,
-    }
+    BAD
 }
 
 // Whole code points, each allowed.
 fn well_formed(name: &[u8]) -> bool
     ensures { result ≡ eqb (scan start name.now).left 0 }
 {
-    let mut s = Scan {
-        left: 0,
-        low: 0x80,
-        high: 0xbf,
-    };
-    let mut i: usize = 0;
-    while i < name.len() {
-        s = next(s, name[i]);
-        i += 1;
+    let mut s = tails(0);
+    for x in name {
+        s = next(s, *x);
     }
     s.left == 0
 }
 
-// Where this is true, each byte is a code point by itself.
+// Whether each byte is a code point by itself.
 fn is_plain(name: &[u8]) -> bool
-    ensures { result ≡ true → scan start name.now ≡ start }
+    ensures { result ≡ list_all (within 32 126) name.now }
 {
-    let mut i: usize = 0;
-    while i < name.len() {
-        if !within(32, 126, name[i]) {
-            return false;
-        }
-        i += 1;
-    }
-    true
+    name.iter().all(|x| within(32, 126, *x))
 }
 
 // The name rule: 1 to 63 bytes of UTF-8. The datagram reader and the cutter ask it here.

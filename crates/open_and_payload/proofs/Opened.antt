@@ -2,14 +2,16 @@
 use Rattle.wire.proofs.Basics.{◌∙◌, sym, ◌≡◌, ap, ℕ, List, true, Bool, some, none, length, replicate, length-replicate, eq-eqb, arith}
 use Rattle.wire.specs.Choice.{pick}
 use Rattle.wire.proofs.Choices.{and-of}
+use Rattle.refusals.specs.Numbers.{number_of}
 use Rattle.steps.specs.Receive.{Machine, opened}
 use Rattle.steps.specs.Runs.{lending}
 use Rattle.receiver_state.specs.View.{view, shaped, state_words_lem, name_bytes_lem}
 use Rattle.receiver_state.proofs.Unique.{shaped-still}
 use Rattle.receiver.specs.Lent.{lent, world_in}
 use Rattle.receiver.specs.Calls.{refusal_of}
-use Rattle.receiver.specs.declared.Call.{Call}
-use Rattle.receiver.specs.declared.Call.TheVariants as call
+use Rattle.receiver.specs.Calls.{Call}
+use Rattle.std.proofs.Common.{Err}
+use Rattle.refusals.specs.declared.Refusal.{Refusal}
 use Rattle.open_and_payload.specs.Ends.{Opens}
 
 -- zeros of the receiver's lengths
@@ -28,8 +30,8 @@ module _ (w n : List ℕ) (size : ℕ) (r : Call) (w' n' : List ℕ) (e : shaped
   pub opened-shaped : shaped w' n' ≡ true
   opened-shaped = shaped-still w n w' n' h.words h.bytes e
 
-  pub opened-done : (k : ℕ) → r ≡ call.Refused k → ⊥
+  pub opened-done : (k : Refusal) → r ≡ Err k → ⊥
   opened-done k q =
-      let z : some k ≡ none = sym (ap refusal_of q) ∙ h.gave ∙ ap (λ (t : Bool). pick t none (some 9)) e in
+      let z : some (number_of k) ≡ none = sym (ap refusal_of q) ∙ h.gave ∙ ap (λ (t : Bool). pick t none (some 9)) e in
       let y : ◌≡◌ {A = ℕ} 0 1 = cc in
       omega arith

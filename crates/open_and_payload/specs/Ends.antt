@@ -6,7 +6,7 @@ use Rattle.steps.specs.Answers.{Reply, refused_by, kept, repeat, delivered}
 use Rattle.steps.specs.Receive.{opened}
 use Rattle.receiver_state.specs.View.{view, shaped}
 use Rattle.receiver.specs.Calls.{Changes}
-use Rattle.receiver.specs.declared.Call.{Call}
+use Rattle.receiver.specs.Calls.{Call}
 
 -- open: a fresh receiver over a store of that many bytes, or refused by 9
 abbrev pub Opens : List ℕ → List ℕ → ℕ → Call → List ℕ → List ℕ → Type 0

@@ -2,38 +2,37 @@
 #![tactic(auto)]
 
 ghost use Rattle.std.specs.Prelude.{◌≡◌};
-ghost use Rattle.steps.specs.Answers.{reply};
+ghost use Rattle.steps.specs.Answers.{answer_told, reply};
 ghost use Rattle.open_and_payload.specs.Ends.{Opens, payload_of};
 
-use receiver::{Call, Outcome};
+use receiver::Outcome;
+use refusals::Refusal;
 use steps::{Answer, PayloadAt};
 
 // A fresh receiver over a store of that many bytes.
-pub fn open(state: &mut [u64], names: &mut [u8], store_len: usize) -> Call
+pub fn open(state: &mut [u64], names: &mut [u8], store_len: usize) -> Result<(), Refusal>
     ensures { Opens state.old names.old store_len result state.new names.new }
 {
     if state.len() != receiver::STATE_WORDS {
-        return Call::Refused(9);
+        return Err(Refusal::WrongMemory);
     }
     if names.len() != receiver::NAME_BYTES {
-        return Call::Refused(9);
+        return Err(Refusal::WrongMemory);
     }
-    let zeros = [0u64; receiver::STATE_WORDS];
-    let blank = [0u8; receiver::NAME_BYTES];
-    words::put_words(&mut *state, 0, &zeros);
+    state.fill(0);
+    names.fill(0);
     words::put_word(&mut *state, receiver_state::STORE_LENGTH, store_len as u64);
     words::put_word(
         state,
         receiver_state::SLOT_SIZE,
         receiver_state::slot_size(store_len) as u64,
     );
-    wire::put_bytes(names, 0, &blank);
-    Call::Done
+    Ok(())
 }
 
 // The delivered payload, as the part of the store or of the datagram that holds it: empty for any other answer.
 pub fn payload<'a>(outcome: Outcome, store: &'a [u8], d: &'a [u8]) -> &'a [u8]
-    ensures { result.now ≡ payload_of (reply d.now store.now outcome.answer) }
+    ensures { result.now ≡ payload_of (reply d.now store.now (answer_told outcome.answer)) }
 {
     let answer = outcome.answer;
     match answer {

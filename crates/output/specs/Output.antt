@@ -2,8 +2,8 @@
 use Rattle.std.specs.Prelude.{◌≡◌, Bool, true, false, List, ◌++◌, ℕ, ◌+◌, ◌*◌, ◌≤◌, ◌<◌, length, take}
 use Rattle.wire.specs.Text.{ascii}
 use Rattle.text.specs.Text.{decimal}
-use Rattle.stream.specs.declared.Next.{Next}
-use Rattle.stream.specs.declared.Next.TheVariants.{Record, End, Cut}
+use Rattle.output.specs.declared.Output.{Output}
+use Rattle.stream.specs.Records.{Next, Record, End, Cut}
 
 -- a program's buffer has as many bytes or more
 abbrev pub line_limit : ℕ
@@ -62,3 +62,16 @@ last_word (Record at len left) = ascii "cut "
 -- the last line, with how many records were whole
 abbrev pub last_line : Next → ℕ → List ℕ
 last_line next n = last_word next ++ decimal n ++ ascii "\n"
+
+-- THE SAME OF A PROGRAM'S OUTPUT: the text goes behind what it holds, and it holds the same buffer
+pub record Adds (before : Output) (text : List ℕ) (after : Output) : Type 0 where
+  pub same : after.buf.ghost_name ≡ before.buf.ghost_name
+  pub poured : Pours before.buf.now before.at text after.buf.now after.at
+
+abbrev pub IsClosed : Output → Type 0
+IsClosed o = o.at ≡ closed
+
+-- its last text, and all that is not written out yet
+pub record Ends (before : Output) (text : List ℕ) (after : Output) (r : Bool) : Type 0 where
+  pub same : after.buf.ghost_name ≡ before.buf.ghost_name
+  pub finished : Finishes before.buf.now before.at text after.buf.now r

@@ -3,14 +3,15 @@
 // system does not take what is written out, the output is closed: its place is past every buffer, and nothing more goes out.
 #![tactic(auto)]
 
-ghost use Rattle.std.specs.Prelude.{◌++◌, ◌≤◌, length};
+ghost use Rattle.std.specs.Prelude.{[], ◌++◌, ◌≡◌, ◌≤◌, ◌↔◌, IsTrue, length};
 ghost use Rattle.wire.specs.Text.{ascii};
 ghost use Rattle.text.specs.Text.{decimal, signed_decimal, hex};
-ghost use Rattle.output.specs.Output.{Pours, WrittenOut, Finishes, last_line};
+ghost use Rattle.stream.specs.Records.{ended_as, told};
+ghost use Rattle.output.specs.Output.{Pours, WrittenOut, Finishes, last_line, Adds, IsClosed, Ends};
 ghost use Rattle.output.specs.InsideRoom.{Clears};
 
 use std::io::{Stdout, Write};
-use stream::Next;
+use stream::{Ending, Record};
 
 // Room that any number needs, and the last line. A program's buffer has as much or more.
 pub const LINE: usize = 128;
@@ -159,20 +160,120 @@ pub fn pour_hex(stdout: Stdout, out: &mut [u8], at: usize, bytes: &[u8]) -> usiz
     next
 }
 
-fn pour_last(stdout: Stdout, out: &mut [u8], at: usize, n: u64, next: Next) -> usize
-    ensures { Pours out.old at (last_line next n) out.new result }
+// The last line, by how the input ended. A record ends nothing: with one left, the input counts as cut.
+fn pour_last(
+    stdout: Stdout,
+    out: &mut [u8],
+    at: usize,
+    n: u64,
+    next: Result<Record, Ending>,
+) -> usize
+    ensures { Pours out.old at (last_line (told next) n) out.new result }
 {
     match next {
-        Next::End => pour_counted_line(stdout, out, at, b"end ", n),
-        Next::Cut => pour_counted_line(stdout, out, at, b"cut ", n),
-        Next::Record(_, _, _) => pour_counted_line(stdout, out, at, b"cut ", n),
+        Err(Ending::End) => pour_counted_line(stdout, out, at, b"end ", n),
+        Err(Ending::Cut) => pour_counted_line(stdout, out, at, b"cut ", n),
+        Ok(_) => pour_counted_line(stdout, out, at, b"cut ", n),
     }
 }
 
 // The last line, and all that is not written out yet. Answers whether the system took all that was written out.
-pub fn finish(stdout: Stdout, out: &mut [u8], at: usize, n: u64, next: Next) -> bool
-    ensures { Finishes out.old at (last_line next n) out.new result }
+pub fn finish(
+    stdout: Stdout,
+    out: &mut [u8],
+    at: usize,
+    n: u64,
+    next: Result<Record, Ending>,
+) -> bool
+    ensures { Finishes out.old at (last_line (told next) n) out.new result }
 {
     let end = pour_last(stdout, out, at, n, next);
     write_out(stdout, out, end)
+}
+
+// The output of a program, which its functions take as `out: &mut Output`, with `Adds out.old TEXT out.new` for what they write (laws in
+// proofs/Adding: `adds_then`, `adds_is`, `adds_shut`). What it writes goes behind what the lent buffer holds and is not written out yet. Once the system does not take
+// what is written out, the output is closed: a text more does nothing, so that a line of many texts needs no test after each.
+#[derive(Drop)]
+pub struct Output<'a> {
+    stdout: Stdout,
+    buf: &'a mut [u8],
+    at: usize,
+}
+
+impl<'a> Output<'a> {
+    // Nothing stands in the buffer yet.
+    pub fn new(stdout: Stdout, buf: &'a mut [u8]) -> Output<'a>
+        ensures same { result.buf.ghost_name ≡ buf.entry.ghost_name }
+        ensures empty { (result.buf.now ≡ buf.old) × (result.at ≡ 0) }
+    {
+        Output { stdout, buf, at: 0 }
+    }
+
+    // Whether the system did not take what was written out.
+    pub fn is_closed(&self) -> bool
+        ensures { IsTrue result ↔ IsClosed self.now }
+    {
+        self.at == CLOSED
+    }
+
+    // Bytes of any number, as they are.
+    pub fn pour(&mut self, bytes: &[u8])
+        ensures { Adds self.old bytes.now self.new }
+    {
+        self.at = pour(self.stdout, self.buf, self.at, bytes);
+    }
+
+    // A number in decimal.
+    pub fn pour_decimal(&mut self, n: u64)
+        ensures { Adds self.old (decimal n) self.new }
+    {
+        self.at = pour_decimal(self.stdout, self.buf, self.at, n);
+    }
+
+    // A signed number in decimal.
+    pub fn pour_signed(&mut self, z: i64)
+        ensures { Adds self.old (signed_decimal z) self.new }
+    {
+        self.at = pour_signed(self.stdout, self.buf, self.at, z);
+    }
+
+    // A word and a number.
+    pub fn pour_counted(&mut self, word: &[u8], n: u64)
+        ensures { Adds self.old (word.now ++ decimal n) self.new }
+    {
+        self.pour(word);
+        self.pour_decimal(n);
+    }
+
+    // A word, a number and the end of the line.
+    pub fn pour_counted_line(&mut self, word: &[u8], n: u64)
+        ensures { Adds self.old (word.now ++ decimal n ++ ascii "\n") self.new }
+    {
+        self.pour_counted(word, n);
+        self.pour(b"\n");
+    }
+
+    // Bytes of any number, in hexadecimal.
+    pub fn pour_hex(&mut self, bytes: &[u8])
+        ensures { Adds self.old (hex bytes.now) self.new }
+    {
+        self.at = pour_hex(self.stdout, self.buf, self.at, bytes);
+    }
+
+    // All that is not written out yet. Answers whether the system took all that was written out.
+    pub fn write_out(&mut self) -> bool
+        ensures { Ends self.old [] self.new result }
+    {
+        let at = self.at;
+        let held = &mut *self.buf;
+        write_out(self.stdout, held, at)
+    }
+
+    // The last line, and all that is not written out yet. Answers whether the system took all that was written out.
+    pub fn finish(&mut self, n: u64, ending: Ending) -> bool
+        ensures { Ends self.old (last_line (ended_as ending) n) self.new result }
+    {
+        finish(self.stdout, self.buf, self.at, n, Err(ending))
+    }
 }

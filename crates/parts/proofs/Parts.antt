@@ -2,10 +2,8 @@
 use Rattle.wire.proofs.Basics.{◌≡◌, refl, ℕ, List, true, false, Bool}
 use Rattle.wire.specs.Choice.{pick}
 use Rattle.datagram.specs.Limits.{max_payload, max_fragments}
-use Rattle.datagram.specs.Read.{read_datagram_lem, part_of}
+use Rattle.datagram.specs.Read.{Read, Good, Refused, read_datagram_lem, part_of}
 use Rattle.datagram.specs.Said.{Said, small, fragment, fragment_in, says, name_in, payload_in, said}
-use Rattle.datagram.specs.declared.Read.{Read}
-use Rattle.datagram.specs.declared.Read.TheVariants.{Good, Refused}
 use Rattle.parts.specs.Parts.{name_place_lem, payload_place_lem, name_of, payload_of}
 
 module _ (d : List ℕ) where

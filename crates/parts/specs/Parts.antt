@@ -1,10 +1,8 @@
 -- The name and the payload, as the parts of the datagram that hold them, by the reader's own limits. Definitions only.
 use Rattle.std.specs.Prelude.{List, ℕ}
 use Rattle.datagram.specs.Limits.{max_payload, max_fragments}
-use Rattle.datagram.specs.Read.{place, read_datagram_lem, part_of}
+use Rattle.datagram.specs.Read.{Read, Good, Refused, place, read_datagram_lem, part_of}
 use Rattle.datagram.specs.declared.Place.{Place}
-use Rattle.datagram.specs.declared.Read.{Read}
-use Rattle.datagram.specs.declared.Read.TheVariants.{Good, Refused}
 
 abbrev pub name_place_lem : Read → Place
 name_place_lem (Good h) = h.name

@@ -1,6 +1,9 @@
 -- The marks of a list's elements, to the end of its numbers: one element more, and none left. Assumes nothing.
-use Rattle.wire.proofs.Basics.{◌∙◌, sym, ◌≡◌, ap, ℕ, ◌≤◌, ◌+◌, ◌<◌, ◌-◌, suc, zero, min, List, [], ◌∷◌, ◌++◌, true, false, Bool, inl, inr, length, drop, length-drop, drop_of_length-le, drop-drop, eqb}
-use Rattle.wire.proofs.Basics.{ltb, ℤ, eq-eqb, ne_eqb, ltb-false, ltb-true, arith}
+use Rattle.wire.proofs.Basics.{◌∙◌, sym, ◌≡◌, ap, ℕ, ◌≤◌, ◌+◌, ◌<◌, ◌-◌, suc, zero, min, List, [], ◌∷◌, ◌++◌, true, false, Bool, inl, inr, length, drop, take, take_all, eqb-true, length-drop, drop_of_length-le, eqb}
+use Rattle.wire.proofs.Basics.{ltb, ℤ, refl, eq-eqb, ne_eqb, ltb-false, ltb-true, arith}
+use Rattle.std.specs.Int.Signed.{mag}
+use Rattle.std.specs.Prelude.{cond}
+use Rattle.std.specs.List.{prefix_len}
 use Rattle.wire.specs.Choice.{pick}
 use Rattle.wire.proofs.Choices.{pick_all, either}
 use Rattle.count_rules.specs.Marks.{Mark, at, mark_length, mark_at, marks_in}
@@ -37,19 +40,23 @@ takes_one two l =
     pick_all (λ (n : ℕ). 1 ≤ n) (eqb (at l 0) 0) (λ e. omega arith)
     (λ e. pick_all (λ (n : ℕ). 1 ≤ n + pick two 1 0) (eqb (at l 3) 0) (λ e. omega arith) (λ e. omega arith))
 
--- less is left then
-pub goes_on_lem : (place at n len next : ℕ) → place < len → place ≤ at → 1 ≤ n → next ≡ min (at + n) len → len - next < len - place
-goes_on_lem place at n len next h g o e = omega arith
-
 pub drop-most : (j : ℕ) (l : List ℤ) → drop j l ≡ drop (min j (length l)) l
 drop-most j l = elim (either (ltb j (length l))) [
   | inl e ↦ let h : j < length l = ltb-true j (length l) e in let q : j ≡ min j (length l) = omega arith in ap (λ (i : ℕ). drop i l) q
   | inr e ↦ let h : length l ≤ j = ltb-false j (length l) e in let m : length l ≤ min j (length l) = omega arith in drop_of_length-le l h ∙ sym (drop_of_length-le l m)
 ]
 
+-- what a slice from a place on holds
+pub tail-is : (k : ℕ) (l : List ℤ) → take (length l - k) (drop k l) ≡ drop k l
+tail-is k l = take_all (length l - k) (drop k l) (rw (length-drop k l) (omega arith))
+
+-- how many nulls stand in front
+abbrev pub nulls : List ℤ → ℕ
+nulls l = prefix_len (λ z. eqb (mag z) 0) l
+
 module _ (two : Bool) where
   -- as many turns as there are numbers are enough
-  pub enough : (k j : ℕ) (l : List ℤ) → length l ≤ k → length l ≤ j → marks_in two k l ≡ marks_in two j l
+  enough : (k j : ℕ) (l : List ℤ) → length l ≤ k → length l ≤ j → marks_in two k l ≡ marks_in two j l
   unfolding marks_in
   enough zero j [] h g = sym (marks-none two j)
   enough zero j (z ∷ l) h g = absurd (let q : ⊥ = omega arith in q)
@@ -69,36 +76,57 @@ module _ (two : Bool) where
       ap (λ (n : ℕ). marks_in two n l) e
       ∙ ap (λ (ms : List Mark). mark_at l ++ ms) (enough k (length (drop m l)) (drop m l) (rw (length-drop m l) (omega arith)) (omega arith))
 
-  -- from a place on
-  abbrev pub marks_from : List ℤ → ℕ → List Mark
-  marks_from l place = marks_in two (length (drop place l)) (drop place l)
+  -- of elements to the end
+  abbrev pub marks_of : List ℤ → List Mark
+  marks_of l = marks_in two (length l) l
 
-  -- the element at a place, then those from the next on
-  pub marks-turn : (l : List ℤ) (place n : ℕ) → place < length l → n ≡ mark_length two (drop place l)
-      → marks_from l place ≡ mark_at (drop place l) ++ marks_from l (min (place + n) (length l))
-  marks-turn l place n h e =
-      let d = drop place l in
-      let k : length d ≡ suc (length l - place - 1) = rw (length-drop place l) (omega arith) in
-      some (length l - place - 1) d k
-      ∙ ap (λ (r : List ℤ). mark_at d ++ marks_in two (length r) r) (ap (λ (j : ℕ). drop j d) (sym e) ∙ (drop-drop n place l ∙ drop-most (place + n) l))
-
-  -- none at the end
-  pub marks-end : (l : List ℤ) (place : ℕ) → length l ≤ place → marks_from l place ≡ []
-  marks-end l place h = ap (λ (r : List ℤ). marks_in two (length r) r) (drop_of_length-le l h) ∙ marks-none two 0
-
-  -- past the end too: no element, and none after it
-  pub marks-turn_any : (l : List ℤ) (place n : ℕ) → n ≡ mark_length two (drop place l) → marks_from l place ≡ mark_at (drop place l) ++ marks_from l (min (place + n) (length l))
+  -- the first element, then those from the next on
+  pub marks-turn : (l : List ℤ) (n : ℕ) → n ≡ mark_length two l → marks_of l ≡ mark_at l ++ marks_of (drop (min n (length l)) l)
   unfolding mark_at
-  marks-turn_any l place n q = elim (either (ltb place (length l))) [
-    | inl e ↦ marks-turn l place n (ltb-true place (length l) e) q
-    | inr e ↦
-        let h : length l ≤ place = ltb-false place (length l) e in
-        let m : length l ≤ min (place + n) (length l) = omega arith in
-        marks-end l place h ∙ sym (marks-end l (min (place + n) (length l)) m) ∙ ap (λ (r : List ℤ). mark_at r ++ marks_from l (min (place + n) (length l))) (sym (drop_of_length-le l h))
-  ]
+  marks-turn [] n e = let z : min n 0 ≡ 0 = omega arith in rw z refl
+  marks-turn (z ∷ l) n e =
+      some (length l) (z ∷ l) refl
+      ∙ ap (λ (r : List ℤ). mark_at (z ∷ l) ++ marks_of r) (ap (λ (j : ℕ). drop j (z ∷ l)) (sym e) ∙ drop-most n (z ∷ l))
 
   -- a null is no mark
-  pub marks-null : (l : List ℤ) (place : ℕ) → place < length l → at (drop place l) 0 ≡ 0 → marks_from l (place + 1) ≡ marks_from l place
-  marks-null l place h z =
-      let m : min (place + 1) (length l) ≡ place + 1 = omega arith in
-      sym (marks-turn l place 1 h (length-null two (drop place l) z) ∙ ap (λ (ms : List Mark). ms ++ marks_from l (min (place + 1) (length l))) (no-mark (drop place l) z) ∙ ap (marks_from l) m)
+  marks-null : (z : ℤ) (l : List ℤ) → mag z ≡ 0 → marks_of l ≡ marks_of (z ∷ l)
+  marks-null z l h =
+      let m : min 1 (length (z ∷ l)) ≡ 1 = omega arith in
+      sym (marks-turn (z ∷ l) 1 (length-null two (z ∷ l) h) ∙ ap (λ (ms : List Mark). ms ++ marks_of (drop (min 1 (length (z ∷ l))) (z ∷ l))) (no-mark (z ∷ l) h) ∙ ap (λ (k : ℕ). marks_of (drop k (z ∷ l))) m)
+
+  -- what stands behind the nulls has all marks
+  nulls-passed : (l : List ℤ) → marks_of (drop (nulls l) l) ≡ marks_of l
+  nulls-passed [] = refl
+  nulls-passed (z ∷ l) = by (nulls-passed l) (eqb (mag z) 0) refl
+    where
+      by : marks_of (drop (nulls l) l) ≡ marks_of l → (b : Bool) → eqb (mag z) 0 ≡ b → marks_of (drop (cond b (1 + nulls l) 0) (z ∷ l)) ≡ marks_of (z ∷ l)
+      by h true e = let k : 1 + nulls l ≡ suc (nulls l) = omega arith in ap (λ (i : ℕ). marks_of (drop i (z ∷ l))) k ∙ (h ∙ marks-null z l (eqb-true (mag z) 0 e))
+      by h false e = refl
+
+  -- a turn of the code: r is what stands behind k nulls, and v what stands behind its first element
+  pub turned : (l r v : List ℤ) (k n m : ℕ) → k ≡ nulls l → r ≡ take (length l - k) (drop k l) → n ≡ mark_length two r → m ≡ min n (length r) → v ≡ take (length r - m) (drop m r)
+      → marks_of l ≡ mark_at r ++ marks_of v
+  turned l r v k n m e h q u w =
+      sym (nulls-passed l) ∙ (ap (λ (i : ℕ). marks_of (drop i l)) (sym e) ∙ (ap marks_of (sym (h ∙ tail-is k l))
+      ∙ (marks-turn r n q ∙ (ap (λ (i : ℕ). mark_at r ++ marks_of (drop i r)) (sym u) ∙ ap (λ (t : List ℤ). mark_at r ++ marks_of t) (sym (w ∙ tail-is m r))))))
+
+  pub marks-end : (l : List ℤ) → length l ≡ 0 → marks_of l ≡ []
+  marks-end [] h = marks-none two 0
+  marks-end (z ∷ l) h = absurd (let q : ⊥ = omega arith in q)
+
+-- less is left then
+pub less-left : (l r v : List ℤ) (k n m : ℕ) → 0 < length l → r ≡ take (length l - k) (drop k l) → 1 ≤ n → m ≡ min n (length r) → v ≡ take (length r - m) (drop m r) → length v < length l
+less-left l r v k n m o h g u w =
+    let a : length r ≡ length l - k = ap (λ (t : List ℤ). length t) (h ∙ tail-is k l) ∙ length-drop k l in
+    let b : length v ≡ length r - m = ap (λ (t : List ℤ). length t) (w ∙ tail-is m r) ∙ length-drop m r in
+    omega arith
+
+pub left-fits : (l r v : List ℤ) (k m n : ℕ) → length l ≤ n → r ≡ take (length l - k) (drop k l) → v ≡ take (length r - m) (drop m r) → length v ≤ n
+left-fits l r v k m n o h w =
+    let a : length r ≡ length l - k = ap (λ (t : List ℤ). length t) (h ∙ tail-is k l) ∙ length-drop k l in
+    let b : length v ≡ length r - m = ap (λ (t : List ℤ). length t) (w ∙ tail-is m r) ∙ length-drop m r in
+    omega arith
+
+-- the elements of a list stand behind its head
+pub behind-head : (l : List ℤ) → drop (min (length l) 4) l ≡ drop 4 l
+behind-head l = let e : min (length l) 4 ≡ min 4 (length l) = omega arith in ap (λ (i : ℕ). drop i l) e ∙ sym (drop-most 4 l)

@@ -1,64 +1,54 @@
 -- Entering, case by case, as the code goes. Assumes nothing.
 use Rattle.wire.proofs.Basics.{◌∙◌, sym, ◌≡◌, ap, refl, subst, ℕ, List, [], ◌∷◌, ◌++◌, true, false, Bool, not, length, drop, eqb, ℤ, eq-eqb, ne_eqb}
 use Rattle.lmcp.specs.Table.{second}
-use Rattle.sorted_set.specs.declared.Entered.{Entered}
-use Rattle.sorted_set.specs.declared.Entered.TheVariants.{Now, Full}
+use Rattle.std.proofs.Common.{Option, Some, None, Result, Ok, Err}
+use Rattle.std.specs.Option.{ok_or}
+use Rattle.refusals.specs.declared.Refusal.{Refusal}
 use Rattle.sorted_set.specs.Halving.{entered, words_with, Enters}
 use Rattle.count_rules.specs.Marks.{Mark, at, mark_at, marks_in}
 use Rattle.pit_marks.specs.declared.Sizes.{Sizes}
-use Rattle.pit_marks.specs.declared.Taken.{Taken}
-use Rattle.pit_marks.specs.declared.Taken.TheVariants as taken
+use Rattle.pit_marks.specs.Taken.{Taken}
+use Rattle.pit_marks.specs.Taken as taken
 use Rattle.pit_marks.specs.Enters.{key_in, Pitted, pitted, sure_entered, pit_entered, enter_pit_lem, onward, followed, enter_marks, with_tiles, with_pits, with_sure, Listed, tile_entered, elements_of, enter_list_lem, EntersList}
-use Rattle.pit_marks.specs.Inside.{EntersSure, Leaves}
+use Rattle.pit_marks.specs.Inside.{Leaves}
 use Rattle.pit_marks.specs.Sets.{Sets, sets_of}
 
--- ---- a sure pit
+-- ---- what entering a number answers, by what `ok_or` makes of it
 
-module _ (sure : List ℕ) (had : Sizes) (x : ℕ) (e : Entered) (sure' : List ℕ) (E : Enters sure had.sure x e sure') where
-  by-sure : (f : Entered) → e ≡ f → EntersSure sure had x (sure_entered f [] [] had).answer sure'
-  by-sure f q = record { gave = ap (λ (g : Entered). (sure_entered g [] [] had).answer) (sym q ∙ E.gave); left = E.left }
+pub none-of : (o : Option ℕ) (r e : Refusal) (v : Result ℕ Refusal) → v ≡ ok_or o r → v ≡ Err e → (o ≡ None) × (e ≡ r)
+none-of None r e v p q = (refl, let f : ◌≡◌ {A = Result ℕ Refusal} (Err r) (Err e) = sym p ∙ q in cc)
+none-of (Some n) r e v p q = let f : ◌≡◌ {A = Result ℕ Refusal} (Ok n) (Err e) = sym p ∙ q in cc
 
-  pub sure-now : (n : ℕ) → e ≡ Now n → EntersSure sure had x (taken.Now (with_sure n had)) sure'
-  sure-now n q = by-sure (Now n) q
-
-  pub sure-full : e ≡ Full → EntersSure sure had x (taken.Refused had 61) sure'
-  sure-full q = by-sure Full q
-
-same_answer : (e : Entered) (a b : List ℕ) (had : Sizes) → (sure_entered e a b had).answer ≡ (sure_entered e [] [] had).answer
-same_answer (Now n) a b had = refl
-same_answer Full a b had = refl
-
-same-pits : (e : Entered) (a b : List ℕ) (had : Sizes) → (sure_entered e a b had).pits ≡ a
-same-pits (Now n) a b had = refl
-same-pits Full a b had = refl
-
-same-sure : (e : Entered) (a b : List ℕ) (had : Sizes) → (sure_entered e a b had).sure ≡ b
-same-sure (Now n) a b had = refl
-same-sure Full a b had = refl
+pub some-of : (o : Option ℕ) (r : Refusal) (n : ℕ) (v : Result ℕ Refusal) → v ≡ ok_or o r → v ≡ Ok n → o ≡ Some n
+some-of None r n v p q = let f : ◌≡◌ {A = Result ℕ Refusal} (Err r) (Ok n) = sym p ∙ q in cc
+some-of (Some m) r n v p q = let f : ◌≡◌ {A = Result ℕ Refusal} (Ok m) (Ok n) = sym p ∙ q in cc
 
 -- ---- a pit
 
 pub as_said : {p q : Pitted} {r : Taken} {a b : List ℕ} → p ≡ q → Leaves q r a b → Leaves p r a b
 as_said {p} {q} {r} {a} {b} e = subst (λ (z : Pitted). Leaves z r a b) (sym e)
 
-module _ (s : Bool) (x : ℕ) (pits sure : List ℕ) (had : Sizes) (e : Entered) (pits' : List ℕ) (E : Enters pits had.pits x e pits') where
-  by-pit : (f : Entered) → e ≡ f → (t : Bool) → s ≡ t → enter_pit_lem s x pits sure had ≡ pit_entered f t x pits' sure had
+module _ (s : Bool) (x : ℕ) (pits sure : List ℕ) (had : Sizes) (e : Option ℕ) (pits' : List ℕ) (E : Enters pits had.pits x e pits') where
+  by-pit : (f : Option ℕ) → e ≡ f → (t : Bool) → s ≡ t → enter_pit_lem s x pits sure had ≡ pit_entered f t x pits' sure had
   unfolding enter_pit_lem
   by-pit f q t u = λ i. pit_entered ((sym E.gave ∙ q) i) (u i) x (sym E.left i) sure had
 
-  pub pit-full : e ≡ Full → Leaves (enter_pit_lem s x pits sure had) (taken.Refused had 61) pits' sure
-  pit-full q = as_said (by-pit Full q s refl) (record { gave = refl; pits-left = refl; sure-left = refl })
+  pub pit-full : e ≡ None → Leaves (enter_pit_lem s x pits sure had) (taken.Refused had 61) pits' sure
+  pit-full q = as_said (by-pit None q s refl) (record { gave = refl; pits-left = refl; sure-left = refl })
 
-  pub pit-unsure : (n : ℕ) → e ≡ Now n → s ≡ false → Leaves (enter_pit_lem s x pits sure had) (taken.Now (with_pits n had)) pits' sure
-  pit-unsure n q u = as_said (by-pit (Now n) q false u) (record { gave = refl; pits-left = refl; sure-left = refl })
+  pub pit-unsure : (n : ℕ) → e ≡ Some n → s ≡ false → Leaves (enter_pit_lem s x pits sure had) (taken.Now (with_pits n had)) pits' sure
+  pit-unsure n q u = as_said (by-pit (Some n) q false u) (record { gave = refl; pits-left = refl; sure-left = refl })
 
-  pub pit-sure : (n : ℕ) → e ≡ Now n → s ≡ true → (r : Taken) (sure' : List ℕ) → EntersSure sure (with_pits n had) x r sure'
-      → Leaves (enter_pit_lem s x pits sure had) r pits' sure'
-  pit-sure n q u r sure' F = as_said (by-pit (Now n) q true u) (record {
-    gave = F.gave ∙ sym (same_answer (entered sure had.sure x) pits' (words_with sure had.sure x) (with_pits n had));
-    pits-left = sym (same-pits (entered sure had.sure x) pits' (words_with sure had.sure x) (with_pits n had));
-    sure-left = F.left ∙ sym (same-sure (entered sure had.sure x) pits' (words_with sure had.sure x) (with_pits n had));
-  })
+  -- a sure one, by what entering it among the sure ones answers
+  module _ (n : ℕ) (q : e ≡ Some n) (u : s ≡ true) (f : Option ℕ) (sure' : List ℕ) (F : Enters sure had.sure x f sure') where
+    by-sure : (g : Option ℕ) → f ≡ g → enter_pit_lem s x pits sure had ≡ sure_entered g pits' sure' (with_pits n had)
+    by-sure g v = by-pit (Some n) q true u ∙ (λ i. sure_entered ((sym F.gave ∙ v) i) pits' (sym F.left i) (with_pits n had))
+
+    pub sure-full : f ≡ None → Leaves (enter_pit_lem s x pits sure had) (taken.Refused (with_pits n had) 61) pits' sure'
+    sure-full v = as_said (by-sure None v) (record { gave = refl; pits-left = refl; sure-left = refl })
+
+    pub sure-now : (m : ℕ) → f ≡ Some m → Leaves (enter_pit_lem s x pits sure had) (taken.Now (with_sure m (with_pits n had))) pits' sure'
+    sure-now m v = as_said (by-sure (Some m) v) (record { gave = refl; pits-left = refl; sure-left = refl })
 
 -- ---- an element
 
@@ -121,22 +111,22 @@ module _ (t : ℕ) where
 
 -- ---- a list
 
-module _ (l : List ℤ) (x : Sets) (had : Sizes) (t : ℕ) (et : t ≡ at l 2) (e : Entered) (tiles' : List ℕ) (E : Enters x.tiles had.tiles t e tiles') where
-  by-tile : (f : Entered) → e ≡ f → enter_list_lem l x had ≡ tile_entered f tiles' (enter_marks (at l 2) (elements_of l)) x had
+module _ (l : List ℤ) (x : Sets) (had : Sizes) (t : ℕ) (et : t ≡ at l 2) (e : Option ℕ) (tiles' : List ℕ) (E : Enters x.tiles had.tiles t e tiles') where
+  by-tile : (f : Option ℕ) → e ≡ f → enter_list_lem l x had ≡ tile_entered f tiles' (enter_marks (at l 2) (elements_of l)) x had
   unfolding enter_list_lem
   by-tile f q =
       (λ i. tile_entered (entered x.tiles had.tiles (sym et i)) (words_with x.tiles had.tiles (sym et i)) (enter_marks (at l 2) (elements_of l)) x had)
       ∙ (λ i. tile_entered ((sym E.gave ∙ q) i) (sym E.left i) (enter_marks (at l 2) (elements_of l)) x had)
 
-  pub tile-full : e ≡ Full → EntersList l x had (taken.Refused had 60) (sets_of tiles' x.pits x.sure)
-  tile-full q = record { gave = ap (λ (z : Listed). z.answer) (sym (by-tile Full q)); left = ap (λ (z : Listed). z.sets) (sym (by-tile Full q)) }
+  pub tile-full : e ≡ None → EntersList l x had (taken.Refused had 60) (sets_of tiles' x.pits x.sure)
+  tile-full q = record { gave = ap (λ (z : Listed). z.answer) (sym (by-tile None q)); left = ap (λ (z : Listed). z.sets) (sym (by-tile None q)) }
 
-  pub tile-now : (n : ℕ) → e ≡ Now n → (v : ℕ) → v ≡ at l 0 → (r : Taken) (a b : List ℕ)
+  pub tile-now : (n : ℕ) → e ≡ Some n → (v : ℕ) → v ≡ at l 0 → (r : Taken) (a b : List ℕ)
       → Leaves (enter_marks t (marks_in (second v) (length (drop 4 l)) (drop 4 l)) x.pits x.sure (with_tiles n had)) r a b → EntersList l x had r (sets_of tiles' a b)
   tile-now n q v ev r a b L =
       let M : Leaves (enter_marks (at l 2) (elements_of l) x.pits x.sure (with_tiles n had)) r a b =
       as_said (λ i. enter_marks (sym et i) (marks_in (second (sym ev i)) (length (drop 4 l)) (drop 4 l)) x.pits x.sure (with_tiles n had)) L in
       record {
-        gave = M.gave ∙ ap (λ (z : Listed). z.answer) (sym (by-tile (Now n) q));
-        left = (λ i. sets_of tiles' (M.pits-left i) (M.sure-left i)) ∙ ap (λ (z : Listed). z.sets) (sym (by-tile (Now n) q));
+        gave = M.gave ∙ ap (λ (z : Listed). z.answer) (sym (by-tile (Some n) q));
+        left = (λ i. sets_of tiles' (M.pits-left i) (M.sure-left i)) ∙ ap (λ (z : Listed). z.sets) (sym (by-tile (Some n) q));
       }

@@ -2,7 +2,7 @@
 use Rattle.wire.proofs.Basics.{◌∙◌, sym, ◌≡◌, ℕ, List, ℤ}
 use Rattle.wire.specs.Slices.{◌⇒◌}
 use Rattle.pit_marks.specs.declared.Sizes.{Sizes}
-use Rattle.pit_marks.specs.declared.Taken.{Taken}
+use Rattle.pit_marks.specs.Taken.{Taken}
 use Rattle.pit_marks.specs.Sets.{Sets}
 use Rattle.pit_marks.specs.Enters.{EntersList}
 use Rattle.pit_marks.specs.Lines.{Lays}

@@ -4,7 +4,7 @@ use Rattle.wire.proofs.Basics.{◌∙◌, sym, ◌≡◌, ap, refl, subst, ℕ, 
 use Rattle.wire.proofs.Basics.{ltb-false, ltb-true, arith}
 use Rattle.wire.specs.Choice.{pick}
 use Rattle.wire.proofs.Choices.{either}
-use Rattle.sorted_set.specs.declared.Entered.TheVariants.{Now, Full}
+use Rattle.std.proofs.Common.{Some, None}
 use Rattle.sorted_set.specs.Lists.{In, enter, rising}
 use Rattle.sorted_set.specs.Halving.{held, inserted, rank_in, is_there, no_room_lem, entered, words_with, Holds}
 use Rattle.sorted_set.proofs.Members.{in_left, in_right, in_either}
@@ -14,26 +14,26 @@ use Rattle.count_rules.specs.Report.{tiles, pit_of_lem, pit_if_sure}
 use Rattle.count_rules.specs.Keys.{span, pit_key, pit_keys, sure_keys, Within}
 use Rattle.count_rules.proofs.Steps.{list_of, pits-more, sure-more, unsure-stay, keys-fewer}
 use Rattle.pit_marks.specs.declared.Sizes.{Sizes}
-use Rattle.pit_marks.specs.declared.Taken.{Taken}
-use Rattle.pit_marks.specs.declared.Taken.TheVariants as taken
+use Rattle.pit_marks.specs.Taken.{Taken}
+use Rattle.pit_marks.specs.Taken as taken
 use Rattle.pit_marks.specs.Sets.{Sets, sets_of, rooms, Has, over, MarkedIn, PartOf, Partly}
 use Rattle.pit_marks.specs.Enters.{key_in, with_tiles, with_pits, with_sure, fault_of, sizes_of, Pitted, pitted, enter_pit_lem, onward, followed, enter_marks, Listed, besides, elements_of, enter_list_lem}
 
 -- ---- one number into one set
 
 module _ (w : List ℕ) (n : ℕ) (l : List ℕ) (x : ℕ) (h : Holds w n l) where
-  is-full : length w < length (enter x l) → entered w n x ≡ Full
+  is-full : length w < length (enter x l) → entered w n x ≡ None
   is-full o = entered-is w n l h x ∙ rw (lt-ltb (length w) (length (enter x l)) o)
 
-  is-now : length (enter x l) ≤ length w → entered w n x ≡ Now (length (enter x l))
+  is-now : length (enter x l) ≤ length w → entered w n x ≡ Some (length (enter x l))
   is-now o = entered-is w n l h x ∙ rw (le-ltb (length w) (length (enter x l)) o)
 
 -- what is full stays
-full-stays : (w : List ℕ) (n x : ℕ) → entered w n x ≡ Full → words_with w n x ≡ w
+full-stays : (w : List ℕ) (n x : ℕ) → entered w n x ≡ None → words_with w n x ≡ w
 unfolding entered words_with
 full-stays w n x e = by (is_there w n x) (no_room_lem w n) e
   where
-    by : (a b : Bool) → pick a (Now (held w n)) (pick b Full (Now (held w n + 1))) ≡ Full → pick a w (pick b w (inserted w (rank_in w n x) (held w n) x)) ≡ w
+    by : (a b : Bool) → pick a (Some (held w n)) (pick b None (Some (held w n + 1))) ≡ None → pick a w (pick b w (inserted w (rank_in w n x) (held w n) x)) ≡ w
     by true b q = refl
     by false true q = refl
     by false false q = absurd (let z : ◌≡◌ {A = ℕ} 0 1 = cc in let y : ⊥ = omega arith in y)
@@ -174,7 +174,7 @@ module _ (t : ℕ) (small : t < span) (seen : List PitList) where
     no_room : length p < length (P ms) → Goes (enter_pit_lem m.sure k p s had)
     unfolding enter_pit_lem
     no_room o =
-        let e : entered p had.pits k ≡ Full = is-full p had.pits (P ds) k q.the-pits (subst (λ (l : List ℕ). length p < length l) more o) in
+        let e : entered p had.pits k ≡ None = is-full p had.pits (P ds) k q.the-pits (subst (λ (l : List ℕ). length p < length l) more o) in
         rw e (ends-full p s ms ds had p' s (rw (lt-ltb (length p) (length (P ms)) o)) (words_long p had.pits k) refl
         (record { the-pits = subst (λ (v : List ℕ). Holds v had.pits (P ds)) (sym (full-stays p had.pits k e)) q.the-pits; the-sure = q.the-sure }) (first_of ds (m ∷ [])))
 
@@ -185,7 +185,7 @@ module _ (t : ℕ) (small : t < span) (seen : List PitList) where
       abbrev now : Sizes
       now = with_pits (length (enter k (P ds))) had
 
-      pit-now : entered p had.pits k ≡ Now (length (enter k (P ds)))
+      pit-now : entered p had.pits k ≡ Some (length (enter k (P ds)))
       pit-now = is-now p had.pits (P ds) k q.the-pits room
 
       pit-holds : Holds p' (length (enter k (P ds))) (P ms)
@@ -203,25 +203,25 @@ module _ (t : ℕ) (small : t < span) (seen : List PitList) where
         grown : S ms ≡ enter k (S ds)
         grown = sure-more t seen ds m u
 
-        sure-is : (n : ℕ) → entered s had.sure k ≡ Now n → enter_pit_lem m.sure k p s had ≡ pitted (taken.Now (with_sure n now)) p' s'
+        sure-is : (n : ℕ) → entered s had.sure k ≡ Some n → enter_pit_lem m.sure k p s had ≡ pitted (taken.Now (with_sure n now)) p' s'
         unfolding enter_pit_lem
         sure-is n e = rw (pit-now, u, e)
 
-        full_is : entered s had.sure k ≡ Full → enter_pit_lem m.sure k p s had ≡ pitted (taken.Refused now 61) p' s'
+        full_is : entered s had.sure k ≡ None → enter_pit_lem m.sure k p s had ≡ pitted (taken.Refused now 61) p' s'
         unfolding enter_pit_lem
         full_is e = rw (pit-now, u, e)
 
         sure-room : length (S ms) ≤ length s → Goes (enter_pit_lem m.sure k p s had)
         sure-room a =
             let b : length (enter k (S ds)) ≤ length s = subst (λ (l : List ℕ). length l ≤ length s) grown a in
-            let e : entered s had.sure k ≡ Now (length (enter k (S ds))) = is-now s had.sure (S ds) k q.the-sure b in
+            let e : entered s had.sure k ≡ Some (length (enter k (S ds))) = is-now s had.sure (S ds) k q.the-sure b in
             subst Goes (sym (sure-is (length (enter k (S ds))) e)) (ends_now p s ms (with_sure (length (enter k (S ds))) now) p' s' (words_long p had.pits k) (words_long s had.sure k)
             (record { the-pits = pit-holds; the-sure = subst (λ (l : List ℕ). Holds s' (length (enter k (S ds))) l) (sym grown) (entered-holds s had.sure (S ds) q.the-sure k b) }))
 
         -- the pit stands there then, and not as a sure one
         no-sure-room : length s < length (S ms) → Goes (enter_pit_lem m.sure k p s had)
         no-sure-room a =
-            let e : entered s had.sure k ≡ Full = is-full s had.sure (S ds) k q.the-sure (subst (λ (l : List ℕ). length s < length l) grown a) in
+            let e : entered s had.sure k ≡ None = is-full s had.sure (S ds) k q.the-sure (subst (λ (l : List ℕ). length s < length l) grown a) in
             let h : P (ds ++ unsure m ∷ []) ≡ P ms = pits-more t seen ds (unsure m) ∙ sym more in
             subst Goes (sym (full_is e)) (ends-full p s ms (ds ++ unsure m ∷ []) now p' s'
             (ap (over_by (ltb (length p) (length (P ms)))) (lt-ltb (length s) (length (S ms)) a) ∙ over-sure (ltb (length p) (length (P ms))))
@@ -320,7 +320,7 @@ module _ (l : List ℤ) (x : Sets) (had : Sizes) (seen : List PitList) (h : Has 
   no_tile : length x.tiles < length (tiles all) → Judged x its seen E
   unfolding enter_list_lem rising
   no_tile o =
-      let e : entered x.tiles had.tiles tile ≡ Full = is-full x.tiles had.tiles (tiles seen) tile h.the-tiles o in
+      let e : entered x.tiles had.tiles tile ≡ None = is-full x.tiles had.tiles (tiles seen) tile h.the-tiles o in
       let v : words_with x.tiles had.tiles tile ≡ x.tiles = full-stays x.tiles had.tiles tile e in
       rw (e, v) (record {
         found = rw (lt-ltb (length x.tiles) (length (tiles all)) o);
@@ -340,7 +340,7 @@ module _ (l : List ℤ) (x : Sets) (had : Sizes) (seen : List PitList) (h : Has 
     abbrev X : Pitted
     X = enter_marks tile (elements_of l) x.pits x.sure then
 
-    tile-now : entered x.tiles had.tiles tile ≡ Now (length (tiles all))
+    tile-now : entered x.tiles had.tiles tile ≡ Some (length (tiles all))
     unfolding rising
     tile-now = is-now x.tiles had.tiles (tiles seen) tile h.the-tiles o
 

@@ -1,14 +1,12 @@
 -- What becomes of three sets, kept in lent words with how many numbers each has, when a PitList's tile and marks are entered. Definitions only.
-use Rattle.std.specs.Prelude.{◌≡◌, Bool, true, false, List, [], ◌∷◌, ℕ, ◌%◌, ℤ, length, drop}
+use Rattle.std.specs.Prelude.{◌≡◌, Bool, true, false, List, [], ◌∷◌, ℕ, ◌%◌, ℤ, length, drop, Option, Some, None}
 use Rattle.lmcp.specs.Table.{second}
-use Rattle.sorted_set.specs.declared.Entered.{Entered}
-use Rattle.sorted_set.specs.declared.Entered.TheVariants.{Now, Full}
 use Rattle.sorted_set.specs.Halving.{entered, words_with}
 use Rattle.count_rules.specs.Marks.{Mark, at, marks_in}
 use Rattle.count_rules.specs.Keys.{span, pit_key}
 use Rattle.pit_marks.specs.declared.Sizes.{Sizes}
-use Rattle.pit_marks.specs.declared.Taken.{Taken}
-use Rattle.pit_marks.specs.declared.Taken.TheVariants as taken
+use Rattle.pit_marks.specs.Taken.{Taken}
+use Rattle.pit_marks.specs.Taken as taken
 use Rattle.pit_marks.specs.Sets.{Sets, sets_of}
 
 -- tiles and pits are uint32
@@ -44,18 +42,18 @@ pub record Pitted : Type 0 where
 abbrev pub pitted : Taken → List ℕ → List ℕ → Pitted
 pitted r pits sure = record { answer = r; pits = pits; sure = sure }
 
-abbrev pub sure_entered : Entered → List ℕ → List ℕ → Sizes → Pitted
-sure_entered (Now n) pits sure had = pitted (taken.Now (with_sure n had)) pits sure
-sure_entered Full pits sure had = pitted (taken.Refused had 61) pits sure
+abbrev pub sure_entered : Option ℕ → List ℕ → List ℕ → Sizes → Pitted
+sure_entered (Some n) pits sure had = pitted (taken.Now (with_sure n had)) pits sure
+sure_entered None pits sure had = pitted (taken.Refused had 61) pits sure
 
 -- a sure one is entered there too
 abbrev pub if_sure : Bool → ℕ → List ℕ → List ℕ → Sizes → Pitted
 if_sure true x pits sure had = sure_entered (entered sure had.sure x) pits (words_with sure had.sure x) had
 if_sure false x pits sure had = pitted (taken.Now had) pits sure
 
-abbrev pub pit_entered : Entered → Bool → ℕ → List ℕ → List ℕ → Sizes → Pitted
-pit_entered (Now n) s x pits sure had = if_sure s x pits sure (with_pits n had)
-pit_entered Full s x pits sure had = pitted (taken.Refused had 61) pits sure
+abbrev pub pit_entered : Option ℕ → Bool → ℕ → List ℕ → List ℕ → Sizes → Pitted
+pit_entered (Some n) s x pits sure had = if_sure s x pits sure (with_pits n had)
+pit_entered None s x pits sure had = pitted (taken.Refused had 61) pits sure
 
 unfoldable pub enter_pit_lem : Bool → ℕ → List ℕ → List ℕ → Sizes → Pitted
 enter_pit_lem s x pits sure had = pit_entered (entered pits had.pits x) s x (words_with pits had.pits x) sure had
@@ -82,9 +80,9 @@ pub record Listed : Type 0 where
 abbrev pub besides : List ℕ → Pitted → Listed
 besides tiles p = record { answer = p.answer; sets = sets_of tiles p.pits p.sure }
 
-abbrev pub tile_entered : Entered → List ℕ → (List ℕ → List ℕ → Sizes → Pitted) → Sets → Sizes → Listed
-tile_entered (Now n) tiles k x had = besides tiles (k x.pits x.sure (with_tiles n had))
-tile_entered Full tiles k x had = besides tiles (pitted (taken.Refused had 60) x.pits x.sure)
+abbrev pub tile_entered : Option ℕ → List ℕ → (List ℕ → List ℕ → Sizes → Pitted) → Sets → Sizes → Listed
+tile_entered (Some n) tiles k x had = besides tiles (k x.pits x.sure (with_tiles n had))
+tile_entered None tiles k x had = besides tiles (pitted (taken.Refused had 60) x.pits x.sure)
 
 -- the elements of a list begin behind its version, type, tile and count, and go to the end of the numbers: each takes one at least
 abbrev pub elements_of : List ℤ → List Mark

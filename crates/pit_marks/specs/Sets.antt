@@ -1,7 +1,6 @@
 -- THE SETS THAT ARE LENT: words for the tiles, for the pits of all tiles, and for the sure ones; and what they hold of the lists seen. Definitions only.
 use Rattle.std.specs.Prelude.{◌≡◌, true, List, ◌++◌, ℕ, ltb, length}
 use Rattle.wire.specs.Choice.{◌when◌else◌}
-use Rattle.wire.specs.Slices.{Slice}
 use Rattle.sorted_set.specs.Lists.{In, rising}
 use Rattle.sorted_set.specs.Halving.{held, Holds}
 use Rattle.count_rules.specs.Marks.{Mark, PitList}
@@ -16,13 +15,6 @@ pub record Sets : Type 0 where
 
 abbrev pub sets_of : List ℕ → List ℕ → List ℕ → Sets
 sets_of t p s = record { tiles = t; pits = p; sure = s }
-
--- what the three held before a call, and what they hold after it
-abbrev pub sets_before : Slice → Slice → Slice → Sets
-sets_before t p s = sets_of t.entry.now p.entry.now s.entry.now
-
-abbrev pub sets_after : Slice → Slice → Slice → Sets
-sets_after t p s = sets_of t.exit.now p.exit.now s.exit.now
 
 -- how many words each has
 abbrev pub rooms : Sets → Sizes

@@ -2,44 +2,50 @@
 // of them that were marked sure. A pit under a tile is one number, the tile's number before its own.
 #![tactic(auto)]
 
-ghost use Rattle.std.specs.Prelude.{◌≡◌, ◌+◌, ◌<◌, min, eqb, length, drop};
-ghost use Rattle.wire.specs.Choice.{pick};
+ghost use Rattle.std.specs.Prelude.{◌≡◌, ◌≤◌, ◌+◌, ◌%◌, eqb, length};
+ghost use Rattle.std.specs.Int.Signed.{mag};
+ghost use Rattle.std.specs.List.{prefix_len};
 ghost use Rattle.count_rules.specs.Marks.{at, mark_length, mark_at, marks_in};
-ghost use Rattle.count_rules.specs.Keys.{span};
+ghost use Rattle.count_rules.specs.Keys.{span, pit_key};
 ghost use Rattle.wire.specs.Slices.{buffer};
-ghost use Rattle.pit_marks.specs.Sets.{sets_of, sets_before, sets_after};
+ghost use Rattle.sorted_set.specs.Halving.{rank_in};
+ghost use Rattle.pit_marks.specs.Sets.{sets_of};
+ghost use Rattle.pit_marks.specs.Told.{told, sets_in, SameWords};
 ghost use Rattle.pit_marks.specs.Enters.{key_in, enter_pit_lem, enter_marks, EntersList};
-ghost use Rattle.pit_marks.specs.Inside.{EntersSure, Leaves, Past};
-ghost use Rattle.pit_marks.specs.Lines.{end_of, pits_in, Lays};
+ghost use Rattle.pit_marks.specs.Inside.{Leaves};
+ghost use Rattle.pit_marks.specs.Lines.{pits_in, Lays};
 
-use sorted_set::Entered;
+use refusals::Refusal;
 
 // How many numbers there are for tiles, and for pits.
-const SPAN: u64 = 4294967296;
+pub const SPAN: u64 = 4294967296;
 
 // How many numbers each set has.
-#[derive(Clone, Copy)]
+#[derive(Clone, Copy, Debug, PartialEq, Eq)]
 pub struct Sizes {
     pub tiles: usize,
     pub pits: usize,
     pub sure: usize,
 }
 
-// How many they have with one list more; or how many they have by then, and the number of the refusal.
-#[derive(Clone, Copy)]
-pub enum Taken {
-    Now(Sizes),
-    Refused(Sizes, u32),
+// The three sets in the words that are lent for them, and how many numbers each has. A list that is refused leaves them with what was entered by then.
+#[derive(Drop)]
+pub struct PitSets<'a> {
+    pub tiles: &'a mut [u64],
+    pub pits: &'a mut [u64],
+    pub sure: &'a mut [u64],
+    pub sizes: Sizes,
 }
 
-// Number i from a place of a list on: 0 past its end.
-fn number_at(list: &[i64], place: usize, i: usize) -> u64
-    ensures { result ≡ at (drop place list.now) i }
+// Number i of a list: 0 past its end.
+pub fn number_at(list: &[i64], i: usize) -> u64
+    ensures { result ≡ at list.now i }
 {
-    if i < wire::room(list.len(), place) {
-        return lmcp::size_of(list[place + i]);
+    if i < list.len() {
+        lmcp::size_of(list[i])
+    } else {
+        0
     }
-    0
 }
 
 // Pit p under tile t.
@@ -53,178 +59,114 @@ fn key_of(t: u64, p: u64) -> u64
 pub fn is_list(list: &[i64]) -> bool
     ensures { result ≡ eqb (at list.now 1) 5 }
 {
-    number_at(list, 0, 1) == 5
+    number_at(list, 1) == 5
 }
 
-// How many numbers of a mark tell its depth: one in version 2.
-fn depths(two: bool) -> usize
-    ensures { result ≡ pick two 1 0 }
+// How many numbers the first element of these takes. A mark of version 2 has one for its depth.
+pub fn element_length(elements: &[i64], two: bool) -> usize
+    ensures { result ≡ mark_length two elements.now }
 {
-    if two { 1 } else { 0 }
-}
-
-// How many numbers the element at a place takes.
-fn element_length(list: &[i64], place: usize, two: bool) -> usize
-    ensures { result ≡ mark_length two (drop place list.now) }
-{
-    if number_at(list, place, 0) == 0 {
+    if number_at(elements, 0) == 0 {
         return 1;
     }
-    let depth = depths(two);
-    if number_at(list, place, 3) == 0 {
-        return 4 + depth;
-    }
-    7 + depth
-}
-
-// Where the next element that is not null begins, or the end.
-fn past_nulls(list: &[i64], place: usize) -> usize
-    ensures { Past list.now place result }
-{
-    let mut p = place;
-    while p < list.len() {
-        if number_at(list, p, 0) != 0 {
-            return p;
-        }
-        p += 1;
-    }
-    p
-}
-
-// Where the next element begins, or the end.
-fn next_place(place: usize, length: usize, n: usize) -> usize
-    ensures { result ≡ min (place + length) n }
-{
-    if length < wire::room(n, place) {
-        place + length
+    let depth = if two { 1 } else { 0 };
+    if number_at(elements, 3) == 0 {
+        4 + depth
     } else {
-        n
+        7 + depth
     }
 }
 
-// A sure pit is entered among the sure ones.
-fn enter_sure(sure: &mut [u64], had: Sizes, x: u64) -> Taken
-    ensures { EntersSure sure.old had x result sure.new }
+// Whether a number stands for a null.
+fn is_null(z: i64) -> bool
+    ensures { result ≡ eqb (mag z) 0 }
 {
-    let entered = sorted_set::enter(sure, had.sure, x);
-    match entered {
-        Entered::Now(n) => Taken::Now(Sizes {
-            tiles: had.tiles,
-            pits: had.pits,
-            sure: n,
-        }),
-        Entered::Full => Taken::Refused(had, 61),
-    }
+    lmcp::size_of(z) == 0
+}
+
+// How many nulls these begin with.
+fn nulls_in(elements: &[i64]) -> usize
+    ensures many { result ≡ prefix_len (λ z. eqb (mag z) 0) elements.now }
+    ensures within { result ≤ length elements.now }
+{
+    elements.iter().take_while(|z| is_null(**z)).count()
 }
 
 // A pit is entered among all, and among the sure ones if it is sure.
-fn enter_pit(pits: &mut [u64], sure: &mut [u64], had: Sizes, x: u64, is_sure: bool) -> Taken
-    ensures { Leaves (enter_pit_lem is_sure x pits.old sure.old had) result pits.new sure.new }
+fn enter_pit(sets: &mut PitSets, x: u64, is_sure: bool) -> Result<(), Refusal>
+    ensures same { SameWords sets.old sets.new }
+    ensures tiles { sets.new.tiles.now ≡ sets.old.tiles.now }
+    ensures left { Leaves (enter_pit_lem is_sure x sets.old.pits.now sets.old.sure.now sets.old.sizes) (told result sets.new.sizes) sets.new.pits.now sets.new.sure.now }
 {
-    let entered = sorted_set::enter(pits, had.pits, x);
-    let Entered::Now(n) = entered else {
-        return Taken::Refused(had, 61);
-    };
-    let now = Sizes {
-        tiles: had.tiles,
-        pits: n,
-        sure: had.sure,
-    };
+    sets.sizes.pits = sorted_set::enter(&mut *sets.pits, sets.sizes.pits, x).ok_or(
+        Refusal::TooManyPits,
+    )?;
     if is_sure {
-        return enter_sure(sure, now, x);
+        sets.sizes.sure = sorted_set::enter(&mut *sets.sure, sets.sizes.sure, x).ok_or(
+            Refusal::TooManyPits,
+        )?;
     }
-    Taken::Now(now)
+    Ok(())
 }
 
-// The element at a place: a null one is skipped.
-fn enter_element(
-    list: &[i64],
-    place: usize,
-    tile: u64,
-    pits: &mut [u64],
-    sure: &mut [u64],
-    had: Sizes,
-) -> Taken
-    ensures { Leaves (enter_marks tile (mark_at (drop place list.now)) pits.old sure.old had) result pits.new sure.new }
+// The first element of these: a null one is skipped.
+fn enter_element(elements: &[i64], tile: u64, sets: &mut PitSets) -> Result<(), Refusal>
+    ensures same { SameWords sets.old sets.new }
+    ensures tiles { sets.new.tiles.now ≡ sets.old.tiles.now }
+    ensures left { Leaves (enter_marks tile (mark_at elements.now) sets.old.pits.now sets.old.sure.now sets.old.sizes) (told result sets.new.sizes) sets.new.pits.now sets.new.sure.now }
 {
-    if number_at(list, place, 0) == 0 {
-        return Taken::Now(had);
+    if number_at(elements, 0) == 0 {
+        return Ok(());
     }
-    let x = key_of(tile, number_at(list, place, 1));
-    let is_sure = number_at(list, place, 2) != 0;
-    enter_pit(pits, sure, had, x, is_sure)
+    let is_sure = number_at(elements, 2) != 0;
+    enter_pit(sets, key_of(tile, number_at(elements, 1)), is_sure)
 }
 
-// The elements of a list, behind its head. Nulls are passed over at once.
-fn enter_elements(
-    list: &[i64],
-    tile: u64,
-    two: bool,
-    pits: &mut [u64],
-    sure: &mut [u64],
-    had: Sizes,
-) -> Taken
-    ensures { Leaves (enter_marks tile (marks_in two (length (drop 4 list.now)) (drop 4 list.now)) pits.old sure.old had) result
-        pits.new sure.new }
+// The elements of a list, which stand behind its head. Nulls are passed over at once.
+fn enter_elements(elements: &[i64], tile: u64, two: bool, sets: &mut PitSets) -> Result<(), Refusal>
+    ensures same { SameWords sets.old sets.new }
+    ensures tiles { sets.new.tiles.now ≡ sets.old.tiles.now }
+    ensures left { Leaves (enter_marks tile (marks_in two (length elements.now) elements.now) sets.old.pits.now sets.old.sure.now sets.old.sizes) (told result sets.new.sizes)
+        sets.new.pits.now sets.new.sure.now }
 {
-    let mut now = had;
-    let mut place: usize = 4;
-    while place < list.len() {
-        let at = past_nulls(list, place);
-        let taken = enter_element(list, at, tile, &mut *pits, &mut *sure, now);
-        let Taken::Now(next) = taken else {
-            return taken;
-        };
-        now = next;
-        place = next_place(at, element_length(list, at, two), list.len());
+    let mut rest = elements;
+    while !rest.is_empty() {
+        rest = &rest[nulls_in(rest)..];
+        enter_element(rest, tile, &mut *sets)?;
+        rest = &rest[element_length(rest, two).min(rest.len())..];
     }
-    Taken::Now(now)
+    Ok(())
 }
 
 // Enters a PitList, from the numbers of its message: its tile, then its pits.
-pub fn enter_list(
-    list: &[i64],
-    tiles: &mut [u64],
-    pits: &mut [u64],
-    sure: &mut [u64],
-    had: Sizes,
-) -> Taken
-    ensures { EntersList list.now (sets_before tiles pits sure) had result (sets_after tiles pits sure) }
+pub fn enter_list(list: &[i64], sets: &mut PitSets) -> Result<(), Refusal>
+    ensures same { SameWords sets.old sets.new }
+    ensures enters { EntersList list.now (sets_in sets.old) sets.old.sizes (told result sets.new.sizes) (sets_in sets.new) }
 {
-    let tile = number_at(list, 0, 2);
-    let entered = sorted_set::enter(tiles, had.tiles, tile);
-    let Entered::Now(n) = entered else {
-        return Taken::Refused(had, 60);
-    };
-    let now = Sizes {
-        tiles: n,
-        pits: had.pits,
-        sure: had.sure,
-    };
-    let two = number_at(list, 0, 0) == 2;
-    enter_elements(list, tile, two, pits, sure, now)
+    let tile = number_at(list, 2);
+    sets.sizes.tiles = sorted_set::enter(&mut *sets.tiles, sets.sizes.tiles, tile).ok_or(
+        Refusal::TooManyTiles,
+    )?;
+    let two = number_at(list, 0) == 2;
+    enter_elements(&list[list.len().min(4)..], tile, two, sets)
 }
 
 // ---- the tile lines
 
-// Where the pits of tile t, which is below SPAN, end among the first n.
-fn end_of(pits: &[u64], n: usize, t: u64) -> usize
-    requires { t < span }
-    ensures { result ≡ end_of pits.now n t }
-{
-    if t + 1 < SPAN {
-        return sorted_set::rank(pits, n, (t + 1) * SPAN);
-    }
-    wire::least(n, pits.len())
-}
-
-// How many of the first n pits are of a tile.
-fn pits_of(pits: &[u64], n: usize, tile: u64) -> u64
-    ensures { result ≡ pits_in pits.now n tile }
+// Where the pits of a tile begin among the first n, and how many they are.
+pub fn pits_of(pits: &[u64], n: usize, tile: u64) -> (usize, usize)
+    ensures first { result.0 ≡ rank_in pits.now n (pit_key (tile % span) 0) }
+    ensures many { result.1 ≡ pits_in pits.now n tile }
+    ensures within { result.0 + result.1 ≤ length pits.now }
 {
     let t = tile % SPAN;
     let first = sorted_set::rank(pits, n, t * SPAN);
-    wire::room(end_of(pits, n, t), first) as u64
+    let end = if t + 1 < SPAN {
+        sorted_set::rank(pits, n, (t + 1) * SPAN)
+    } else {
+        n.min(pits.len())
+    };
+    (first, end.saturating_sub(first))
 }
 
 // Of each tile its number, its pits and its sure pits, at the start of three outputs.
@@ -239,13 +181,10 @@ pub fn put_lines(
 )
     ensures { Lays (sets_of tiles.now pits.now sure.now) had (buffer tile) (buffer pit) (buffer certain) }
 {
-    let n = had.tiles;
-    let mut i: usize = 0;
-    while i < n {
+    for i in 0..had.tiles {
         let t = words::word(tiles, i);
         words::put_word(tile, i, t);
-        words::put_word(pit, i, pits_of(pits, had.pits, t));
-        words::put_word(certain, i, pits_of(sure, had.sure, t));
-        i += 1;
+        words::put_word(pit, i, pits_of(pits, had.pits, t).1 as u64);
+        words::put_word(certain, i, pits_of(sure, had.sure, t).1 as u64);
     }
 }

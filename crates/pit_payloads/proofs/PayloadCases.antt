@@ -1,8 +1,8 @@
 -- What the code finds in a payload, by cases, is what the contract says. Assumes nothing.
 use Rattle.wire.proofs.Basics.{◌∙◌, sym, ◌≡◌, ap, refl, subst, ℕ, ◌≤◌, List, true, false, Bool, length, take, eqb, leb, ℤ, eq-eqb, ne_eqb, lt-ltb, leb-false, arith}
 use Rattle.wire.specs.Choice.{pick}
-use Rattle.lmcp.specs.declared.Found.{Found}
-use Rattle.lmcp.specs.declared.Found.TheVariants as found
+use Rattle.lmcp.specs.Found.{Found}
+use Rattle.lmcp.specs.Found as found
 use Rattle.lmcp.specs.Run.{got, refused}
 use Rattle.lmcp.specs.Read.{Read}
 use Rattle.lmcp.specs.Message.{found, ReadTo}
@@ -13,11 +13,11 @@ use Rattle.count_rules.specs.Marks.{at}
 use Rattle.count_rules.specs.Count.{too_long}
 use Rattle.count_rules.proofs.Answered.{payload-read}
 use Rattle.pit_marks.specs.declared.Sizes.{Sizes}
-use Rattle.pit_marks.specs.declared.Taken.{Taken}
+use Rattle.pit_marks.specs.Taken.{Taken}
 use Rattle.pit_marks.specs.Sets.{Sets}
 use Rattle.pit_marks.specs.Enters.{EntersList}
-use Rattle.pit_payloads.specs.declared.Looked.{Looked}
-use Rattle.pit_payloads.specs.declared.Looked.TheVariants as looked
+use Rattle.pit_payloads.specs.Looked.{Looked}
+use Rattle.pit_payloads.specs.Looked as looked
 use Rattle.pit_payloads.specs.Looks.{book, Left, left, looked_by, in_numbers, in_read, Leaves, Looks}
 use Rattle.pit_payloads.specs.Inside.{unread_by}
 

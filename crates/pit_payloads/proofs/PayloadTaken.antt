@@ -13,13 +13,13 @@ use Rattle.count_rules.specs.Count.{too_long}
 use Rattle.count_rules.specs.Keys.{pit_keys, sure_keys}
 use Rattle.count_rules.proofs.Steps.{list_of}
 use Rattle.pit_marks.specs.declared.Sizes.{Sizes}
-use Rattle.pit_marks.specs.declared.Taken.{Taken}
-use Rattle.pit_marks.specs.declared.Taken.TheVariants as taken
+use Rattle.pit_marks.specs.Taken.{Taken}
+use Rattle.pit_marks.specs.Taken as taken
 use Rattle.pit_marks.specs.Sets.{Sets, rooms, Has, over, Partly}
 use Rattle.pit_marks.specs.Enters.{fault_of, sizes_of, Listed, enter_list_lem, elements_of}
 use Rattle.pit_marks.proofs.Seen.{Judged, list-judged}
 use Rattle.pit_marks.proofs.Proper.{Proper, proper, improper}
-use Rattle.pit_payloads.specs.declared.Looked.TheVariants as looked
+use Rattle.pit_payloads.specs.Looked as looked
 use Rattle.pit_payloads.specs.Looks.{Left, left, looked_by, with_list, in_numbers, in_read}
 use Rattle.pit_payloads.specs.Took.{fault_in, lists_in, sizes_in, fault_over}
 use Rattle.pit_payloads.specs.Inside.{Took}

@@ -4,8 +4,7 @@ use Rattle.wire.specs.Choice.{pick}
 use Rattle.count_rules.specs.Marks.{PitList, list_in}
 use Rattle.pit_marks.specs.declared.Sizes.{Sizes}
 use Rattle.pit_marks.specs.Sets.{Sets, rooms, Has, Partly}
-use Rattle.pit_payloads.specs.declared.Looked.{Looked}
-use Rattle.pit_payloads.specs.declared.Looked.TheVariants.{Other, Refused}
+use Rattle.pit_payloads.specs.Looked.{Looked, Other, Refused}
 use Rattle.pit_payloads.specs.Took.{fault_in, lists_in, sizes_in, fault_over}
 
 -- a refusal of the reader's

@@ -1,3 +1,4 @@
 pub mod Inside
+pub mod Looked
 pub mod Looks
 pub mod Took

@@ -8,12 +8,12 @@ use Rattle.lmcp.specs.Message.{listed}
 use Rattle.lmcp.specs.Lists.{read_list}
 use Rattle.count_rules.specs.Marks.{at}
 use Rattle.pit_marks.specs.declared.Sizes.{Sizes}
-use Rattle.pit_marks.specs.declared.Taken.{Taken}
-use Rattle.pit_marks.specs.declared.Taken.TheVariants as taken
+use Rattle.pit_marks.specs.Taken.{Taken}
+use Rattle.pit_marks.specs.Taken as taken
 use Rattle.pit_marks.specs.Sets.{Sets, sets_of}
 use Rattle.pit_marks.specs.Enters.{Listed, enter_list_lem}
-use Rattle.pit_payloads.specs.declared.Looked.{Looked}
-use Rattle.pit_payloads.specs.declared.Looked.TheVariants as looked
+use Rattle.pit_payloads.specs.Looked.{Looked}
+use Rattle.pit_payloads.specs.Looked as looked
 
 -- what payloads are entered into: the number list, and the sets
 pub record Book : Type 0 where

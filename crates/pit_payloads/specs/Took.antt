@@ -6,8 +6,7 @@ use Rattle.count_rules.specs.Marks.{PitList, list_in}
 use Rattle.count_rules.specs.Count.{too_long}
 use Rattle.pit_marks.specs.declared.Sizes.{Sizes}
 use Rattle.pit_marks.specs.Sets.{over}
-use Rattle.pit_payloads.specs.declared.Looked.{Looked}
-use Rattle.pit_payloads.specs.declared.Looked.TheVariants.{Other, Listed, Refused}
+use Rattle.pit_payloads.specs.Looked.{Looked, Other, Listed, Refused}
 
 -- 0 for nothing
 abbrev pub fault_in : Looked → ℕ

@@ -2,65 +2,52 @@
 #![tactic(auto)]
 
 ghost use Rattle.std.specs.Prelude.{◌≡◌};
-ghost use Rattle.pit_marks.specs.Sets.{sets_before, sets_after};
-ghost use Rattle.pit_payloads.specs.Looks.{book_before, book_after, in_numbers, Leaves, Looks};
+ghost use Rattle.refusals.specs.Numbers.{number_of};
+ghost use Rattle.pit_marks.specs.declared.Sizes.{Sizes};
+ghost use Rattle.pit_marks.specs.Told.{sets_in, SameWords};
+ghost use Rattle.pit_payloads.specs.Looked.{told};
+ghost use Rattle.pit_payloads.specs.Looks.{book, in_numbers, Leaves, Looks};
 ghost use Rattle.pit_payloads.specs.Inside.{unread_by};
+ghost use Rattle.pit_payloads.specs.Took.{sizes_in};
 
-use lmcp::Found;
-use pit_marks::{Sizes, Taken};
+use pit_marks::PitSets;
+use refusals::Refusal;
 
-// What a payload is: no PitList, or one, with how many numbers the sets then have; or how many they have by then, and the number of the refusal.
-#[derive(Clone, Copy)]
-pub enum Looked {
-    Other,
-    Listed(Sizes),
-    Refused(Sizes, u32),
-}
-
-// The numbers of an accepted message.
-fn enter_numbers(
-    list: &[i64],
-    tiles: &mut [u64],
-    pits: &mut [u64],
-    sure: &mut [u64],
-    had: Sizes,
-) -> Looked
-    ensures { Leaves (in_numbers list.now (sets_before tiles pits sure) had) result (sets_after tiles pits sure) }
+// The numbers of an accepted message: whether they are a PitList's, which is then entered.
+fn enter_numbers(list: &[i64], sets: &mut PitSets) -> Result<bool, Refusal>
+    ensures same { SameWords sets.old sets.new }
+    ensures sizes { sets.new.sizes ≡ sizes_in sets.old.sizes (told result sets.new.sizes) }
+    ensures left { Leaves (in_numbers list.now (sets_in sets.old) sets.old.sizes) (told result sets.new.sizes) (sets_in sets.new) }
 {
     if !pit_marks::is_list(list) {
-        return Looked::Other;
+        return Ok(false);
     }
-    let taken = pit_marks::enter_list(list, tiles, pits, sure, had);
-    match taken {
-        Taken::Now(now) => Looked::Listed(now),
-        Taken::Refused(now, e) => Looked::Refused(now, e),
-    }
+    pit_marks::enter_list(list, sets)?;
+    Ok(true)
 }
 
 // A message that was not read is no list; only that the number list is too short for it stands against it.
-fn unread(had: Sizes, e: u32) -> Looked
-    ensures { result ≡ unread_by had e }
+fn unread(e: Refusal) -> Result<bool, Refusal>
+    ensures { (had : Sizes) → told result had ≡ unread_by had (number_of e) }
 {
-    if e == 13 {
-        return Looked::Refused(had, 13);
+    match e {
+        Refusal::NoRoom => Err(e),
+        _ => Ok(false),
     }
-    Looked::Other
 }
 
-// Takes one payload: only a message that is accepted is looked into.
+// Takes one payload: only a message that is accepted is looked into. It answers whether that is a PitList.
 pub fn take_payload(
     payload: &[u8],
     numbers: &mut [i64],
-    tiles: &mut [u64],
-    pits: &mut [u64],
-    sure: &mut [u64],
-    had: Sizes,
-) -> Looked
-    ensures { Looks payload.now (book_before numbers tiles pits sure) had result (book_after numbers tiles pits sure) }
+    sets: &mut PitSets,
+) -> Result<bool, Refusal>
+    ensures same { SameWords sets.old sets.new }
+    ensures sizes { sets.new.sizes ≡ sizes_in sets.old.sizes (told result sets.new.sizes) }
+    ensures looks { Looks payload.now (book numbers.old (sets_in sets.old)) sets.old.sizes (told result sets.new.sizes) (book numbers.new (sets_in sets.new)) }
 {
-    let found = lmcp_reader::read_message(payload, &mut *numbers);
-    match found {
-        Found::Numbers(n) => enter_numbers(&numbers[..n], tiles, pits, sure, had),
-        Found::Refused(e) => unread(had, e),
+    match lmcp_reader::read_message(payload, &mut *numbers) {
+        Ok(n) => enter_numbers(&numbers[..n], sets),
+        Err(e) => unread(e),
     }
 }

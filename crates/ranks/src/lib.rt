@@ -8,7 +8,7 @@ ghost use Rattle.ranks.specs.Ranks.{lower_rank_lem, ranks_lowered, lowest_ranked
 
 // Where the places of a run keep their ranks: where the first place begins, how many words each has, which of them says whether the place is
 // in use (it is not 0), and which is its rank.
-#[derive(Clone, Copy)]
+#[derive(Clone, Copy, Debug, PartialEq, Eq)]
 pub struct Ranked {
     pub first: usize,
     pub stride: usize,
@@ -16,22 +16,18 @@ pub struct Ranked {
     pub rank: usize,
 }
 
-// Where the next place begins, or the end.
+// Where the next place begins, at most at n.
 fn next_place(at: usize, stride: usize, n: usize) -> usize
     ensures { result ≡ min (at + stride) n }
 {
-    if stride < wire::room(n, at) {
-        at + stride
-    } else {
-        n
-    }
+    at.saturating_add(stride).min(n)
 }
 
 // Word j of the place that begins there.
 fn word_of(w: &[u64], at: usize, j: usize) -> u64
     ensures { result ≡ get_or w.now (at + j) 0 }
 {
-    if j < wire::room(w.len(), at) {
+    if j < w.len().saturating_sub(at) {
         return w[at + j];
     }
     0
@@ -40,7 +36,7 @@ fn word_of(w: &[u64], at: usize, j: usize) -> u64
 fn put_word_of(w: &mut [u64], at: usize, j: usize, x: u64)
     ensures { w.new ≡ set w.old (at + j) x }
 {
-    if j < wire::room(w.len(), at) {
+    if j < w.len().saturating_sub(at) {
         w[at + j] = x;
     }
 }
@@ -58,21 +54,13 @@ fn lower_rank(mark: u64, t: u64, x: u64) -> u64
 pub fn lower_ranks(w: &mut [u64], p: Ranked, n: usize, t: u64)
     ensures { w.new ≡ ranks_lowered w.old p t n }
 {
-    let mut at = wire::least(p.first, w.len());
-    let mut i: usize = 0;
-    while i < n {
+    let mut at = p.first.min(w.len());
+    for _i in 0..n {
         let mark = word_of(&*w, at, p.mark);
         let rank = word_of(&*w, at, p.rank);
         put_word_of(&mut *w, at, p.rank, lower_rank(mark, t, rank));
         at = next_place(at, p.stride, w.len());
-        i += 1;
     }
-}
-
-fn lesser(a: u64, b: u64) -> u64
-    ensures { result ≡ min a b }
-{
-    if a < b { a } else { b }
 }
 
 // The place with the lower rank, on a tie the earlier.
@@ -87,15 +75,13 @@ pub fn lowest_ranked(w: &[u64], p: Ranked, n: usize) -> usize
     ensures { result ≡ lowest_ranked_lem w.now p n }
 {
     let mut best: usize = 0;
-    let mut at = wire::least(p.first, w.len());
+    let mut at = p.first.min(w.len());
     let mut low = word_of(w, at, p.rank);
-    let mut i: usize = 0;
-    while i < n {
+    for i in 0..n {
         let rank = word_of(w, at, p.rank);
         best = lower_of(rank, low, i, best);
-        low = lesser(low, rank);
+        low = low.min(rank);
         at = next_place(at, p.stride, w.len());
-        i += 1;
     }
     best
 }

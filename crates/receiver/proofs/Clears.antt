@@ -1,20 +1,14 @@
--- Zeros written one after the other. Assumes nothing.
-use Rattle.wire.proofs.Basics.{◌∙◌, sym, ◌≡◌, ap, ℕ, ◌+◌, List, [], ◌∷◌, length, set, replicate, length-set, length-replicate}
-use lib.ListN.{replicate-append-replicate}
+-- A part filled with zeros. Assumes nothing.
+use Rattle.wire.proofs.Basics.{◌∙◌, sym, ◌≡◌, ap, ℕ, ◌+◌, ◌-◌, ◌≤◌, List, length, take, drop, take_all, replicate, length-replicate, length-take-le, length-drop, arith}
+use borrow.Rule.Slice.PartMut.{put_mid}
 use Rattle.wire.specs.Overlay.{overlay}
-use Rattle.wire.proofs.Overlays.{overlay-one, overlay-append}
+use Rattle.wire.proofs.Overlays.{overlay-part}
 
--- the first i from a place on are zeros
-abbrev pub Cleared : List ℕ → ℕ → ℕ → List ℕ → Type 0
-Cleared d at i d' = (length d' ≡ length d) × (d' ≡ overlay d at (replicate i 0))
-
-pub cleared_more : (d : List ℕ) (at i : ℕ) (d' : List ℕ) → Cleared d at i d' → Cleared d at (i + 1) (set d' (at + i) 0)
-cleared_more d at i d' c =
-    let zeros : List ℕ = replicate i 0 in (
-      length-set d' (at + i) 0 ∙ c.0,
-      ap (λ (x : List ℕ). set x (at + i) 0) c.1
-          ∙ sym (overlay-one (overlay d at zeros) (at + i) 0)
-          ∙ ap (λ (k : ℕ). overlay (overlay d at zeros) (at + k) (0 ∷ [])) (sym (length-replicate i 0))
-          ∙ sym (overlay-append d at zeros (0 ∷ []))
-          ∙ ap (overlay d at) (replicate-append-replicate i 1 0),
-    )
+pub cleared : (w v : List ℕ) (b n : ℕ) → b + n ≤ length w → v ≡ replicate (length (take (b + n - b) (drop b w))) 0
+    → put_mid b (b + n - b) w v ≡ overlay w b (replicate n 0)
+cleared w v b n h e =
+    let zeros : List ℕ = replicate n 0 in
+    let long : length zeros ≡ n = length-replicate n 0 in
+    let part : length (take (b + n - b) (drop b w)) ≡ n = omega (arith, length-take-le {A = ℕ}, length-drop {A = ℕ}) in
+    let filled : v ≡ take n zeros = e ∙ ap (λ (k : ℕ). replicate k 0) part ∙ sym (take_all n zeros (omega arith)) in
+    overlay-part w b zeros b n (b + n - b) v (omega arith) (omega arith) filled (omega arith)

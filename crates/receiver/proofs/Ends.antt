@@ -11,6 +11,8 @@ use Rattle.steps.specs.declared.Emptied.{Emptied}
 use Rattle.steps.specs.declared.Emptied.TheVariants.{Nobody, Was}
 use Rattle.steps.specs.declared.PayloadAt.TheVariants.{InStore}
 use Rattle.steps.specs.declared.Answer.TheVariants.{Kept, Delivered}
+use Rattle.steps.specs.Receive as lists
+use Rattle.steps.specs.Answers.{answer_told}
 use Rattle.steps.specs.Memory.{key_of, remember}
 use Rattle.steps.specs.Slots.{Slot, slot_at, oldest, no_name_lem, filled, all_held_lem, opening, release}
 use Rattle.steps.specs.Slots as step
@@ -19,12 +21,13 @@ use Rattle.steps.proofs.Branches.{step5-delivered, step5-kept}
 use Rattle.steps.proofs.Seats.{set_there, seat-free, seat-full}
 use Rattle.ranks.specs.Ranks.{lowest_ranked_lem}
 use Rattle.ranks.proofs.Ranks.{lowest-is}
-use Rattle.slots.specs.declared.Found.TheVariants.{At, Nothing}
+use Rattle.std.proofs.Common.{Some, None}
 use Rattle.slots.specs.Words.{turns, at, sender_word, sequence_word, size_word, free_in, first_below}
 use Rattle.receiver_state.specs.View.{room_word, name_in, slots_of, memory_of, view}
 use Rattle.receiver_state.specs.Inside.{Shaped, Remembers}
 use Rattle.receiver_state.proofs.Windows.{window-length}
-use Rattle.receiver_state.proofs.Firsts.{option_of, first-within}
+use Rattle.receiver_state.proofs.Firsts.{first-within}
+use Rattle.steps.specs.InsideSearch.{option_of}
 use Rattle.receiver_state.proofs.Bridge.{slots_length, free-slot, oldest-slot}
 use Rattle.receiver_state.proofs.StepListCases.{row_is, key-is, size_is, name-is}
 use Rattle.receiver.specs.Lent.{lent}
@@ -77,7 +80,7 @@ module _ (w n : List ℕ) (s : ℕ) (h : s < slot_count) (gone : Emptied) (f : F
   put-delivered r w2 n2 e D = subst (λ (a : After). Leaves a r (lent w2 n2 store1 (ledger_with ledger s f)))
       (sym (step5-delivered (view w n) (slots_of w n) store ledger s f e gone))
       (record {
-        answer = ap (λ (o : Outcome). o.answer) D.outcome ∙ (λ i. Delivered (InStore (s * (K.machine i).slot_size_lem)) (its i).size);
+        answer = ap (λ (o : Outcome). answer_told o.answer) D.outcome ∙ (λ i. lists.Delivered (InStore (s * (K.machine i).slot_size_lem)) (its i).size);
         emptied = ap (λ (o : Outcome). o.emptied) D.outcome;
         name = ap (λ (o : Outcome). o.name) D.outcome ∙ ap (λ (y : Slot). y.name) its;
         machine = D.shows.machine
@@ -100,7 +103,7 @@ pub oldest-within : (w : List ℕ) (s : ℕ) → s ≡ lowest_ranked_lem w turns
 oldest-within w s e = omega (arith, e, (lowest-is w turns (slot_count - 1)).inside)
 
 module _ (w n : List ℕ) where
-  pub seated-free : Shaped w n → (free : ℕ) → At free ≡ first_below (free_in w) slot_count → Seats w n (record { at = free; emptied = Nobody }) w n
+  pub seated-free : Shaped w n → (free : ℕ) → Some free ≡ first_below (free_in w) slot_count → Seats w n (record { at = free; emptied = Nobody }) w n
   seated-free sh free e =
       let t = seat-free (slots_of w n) free (free-slot w n ∙ ap option_of (sym e)) in
       record {
@@ -110,7 +113,7 @@ module _ (w n : List ℕ) where
         shows = record { machine = sym (ap (λ (x : step.Seat). with_slots (view w n) x.slots (memory_of w)) t); shape = sh };
       }
 
-  pub seated-full : (s a q : ℕ) (w0 n0 : List ℕ) → Nothing ≡ first_below (free_in w) slot_count → s ≡ lowest_ranked_lem w turns slot_count
+  pub seated-full : (s a q : ℕ) (w0 n0 : List ℕ) → None ≡ first_below (free_in w) slot_count → s ≡ lowest_ranked_lem w turns slot_count
       → a ≡ at w s sender_word → q ≡ at w s sequence_word → Releases w n s w0 n0 → Seats w n (record { at = s; emptied = Was (key_of a q) }) w0 n0
   seated-full s a q w0 n0 e es ea eq R =
       let inside : s < slot_count = oldest-within w s es in

@@ -11,7 +11,8 @@ use Rattle.receiver_state.specs.Inside.{Shaped, Drops}
 use Rattle.receiver_state.proofs.StepListCases.{sender-is, count-is}
 use Rattle.receiver.specs.Calls.{Changes, Forgets, forgotten}
 use Rattle.receiver.specs.Inside.{Releases, ReleasesOne, ReleasesAll}
-use Rattle.receiver.specs.declared.Call.TheVariants as call
+use Rattle.std.proofs.Common.{Ok, Err}
+use Rattle.refusals.specs.declared.Refusal.TheVariants.{WrongMemory}
 
 -- ---- one slot
 
@@ -61,18 +62,18 @@ module _ (w n : List ℕ) where
   pub whole : length w ≡ state_words_lem → length n ≡ name_bytes_lem → shaped w n ≡ true
   whole a b = rw (eq-eqb _ _ a, eq-eqb _ _ b)
 
-  pub refuses : (m : Machine) (o : Option ℕ) → view w n ≡ m → some 9 ≡ o → Changes m o w n (call.Refused 9) w n
+  pub refuses : (m : Machine) (o : Option ℕ) → view w n ≡ m → some 9 ≡ o → Changes m o w n (Err WrongMemory) w n
   refuses m o a b = record { gave = b; machine = a; words = refl; bytes = refl; still = λ k q. (refl, refl) }
 
-  pub words-forgets : (from : ℕ) → length w ≢ state_words_lem → Forgets w n from (call.Refused 9) w n
+  pub words-forgets : (from : ℕ) → length w ≢ state_words_lem → Forgets w n from (Err WrongMemory) w n
   unfolding forgotten
   words-forgets from d = rw (unshaped d) (refuses (view w n) (some 9) refl refl)
 
-  pub names-forgets : (from : ℕ) → length n ≢ name_bytes_lem → Forgets w n from (call.Refused 9) w n
+  pub names-forgets : (from : ℕ) → length n ≢ name_bytes_lem → Forgets w n from (Err WrongMemory) w n
   unfolding forgotten
   names-forgets from d = rw (nameless d) (refuses (view w n) (some 9) refl refl)
 
-  pub memory-forgets : (from : ℕ) → length w ≡ state_words_lem → length n ≡ name_bytes_lem → memory_ok (memory_of w) ≡ false → Forgets w n from (call.Refused 9) w n
+  pub memory-forgets : (from : ℕ) → length w ≡ state_words_lem → length n ≡ name_bytes_lem → memory_ok (memory_of w) ≡ false → Forgets w n from (Err WrongMemory) w n
   unfolding forgotten forget
   memory-forgets from a b d = rw (whole a b, d) (refuses (view w n) (some 9) refl refl)
 
@@ -86,7 +87,7 @@ pub known-after : (w n w1 n1 : List ℕ) (from : ℕ) → memory_ok (memory_of w
 known-after w n w1 n1 from k A = ap (λ (m : Machine). memory_ok m.memory) A.machine ∙ k
 
 module _ (w n : List ℕ) (a : length w ≡ state_words_lem) (b : length n ≡ name_bytes_lem) where
-  pub forgets : (from : ℕ) (w1 n1 w2 : List ℕ) → memory_ok (memory_of w) ≡ true → ReleasesAll w n from slot_count w1 n1 → Drops w1 from w2 → Forgets w n from call.Done w2 n1
+  pub forgets : (from : ℕ) (w1 n1 w2 : List ℕ) → memory_ok (memory_of w) ≡ true → ReleasesAll w n from slot_count w1 n1 → Drops w1 from w2 → Forgets w n from (Ok tt) w2 n1
   unfolding forgotten forget
   forgets from w1 n1 w2 k A D = rw (whole w n a b, k) (record {
     gave = refl;

@@ -8,22 +8,22 @@ use Rattle.datagram.specs.Read.{read_datagram_lem, part_of}
 use Rattle.datagram.specs.Said.{Fragment, says, said, fragment_in}
 use Rattle.datagram.specs.Said as spoken
 use Rattle.datagram.specs.declared.Header.{Header}
-use Rattle.datagram.specs.declared.Read.{Read}
-use Rattle.datagram.specs.declared.Read.TheVariants as read
-use Rattle.steps.specs.declared.Answer.{Answer}
-use Rattle.steps.specs.declared.Answer.TheVariants.{Refused, Kept, Repeat, Delivered}
+use Rattle.datagram.specs.Read.{Read}
+use Rattle.datagram.specs.Read as read
+use Rattle.refusals.specs.declared.Refusal.{Refusal}
+use Rattle.steps.specs.declared.Answer.TheVariants as given
 use Rattle.steps.specs.declared.PayloadAt.{PayloadAt}
 use Rattle.steps.specs.declared.Emptied.{Emptied}
 use Rattle.steps.specs.declared.Emptied.TheVariants.{Nobody}
-use Rattle.steps.specs.Answers.{reply, emptied_key}
+use Rattle.steps.specs.Answers.{answer_told, reply, emptied_key}
 use Rattle.steps.specs.Memory.{key_of}
 use Rattle.steps.specs.Slots.{Slot, all_held_lem, filled, slot_at, seat, opening}
 use Rattle.steps.specs.Runs.{heard, from}
-use Rattle.steps.specs.Receive.{Machine, After, with_slots, stay, Verdict, refuse, again, deliver, join, begin, decide, act, step5, receive, sequence_of, step}
+use Rattle.steps.specs.Receive.{Answer, Refused, Kept, Delivered, Machine, After, with_slots, stay, Verdict, refuse, again, deliver, join, begin, decide, act, step5, receive, sequence_of, step}
 use Rattle.steps.proofs.Branches.{step-unsound, step-sound, receive-refused, step5-delivered, step5-kept}
 use Rattle.receiver_state.specs.View.{room_word, slots_of, view, shaped, ready}
 use Rattle.receiver_state.proofs.StepListCases.{ready-after}
-use Rattle.verdict.specs.Decided.{with_header, verdict_of, decided}
+use Rattle.verdict.specs.Decided.{verdict_told, with_header, verdict_of, decided}
 use Rattle.verdict.specs.Inside.{Possible}
 use Rattle.verdict.specs.declared.Verdict as code
 use Rattle.verdict.specs.declared.Verdict.TheVariants.{Refuse, Again, Deliver, Join, Begin}
@@ -61,7 +61,7 @@ module _ (w n : List ℕ) (sender : ℕ) (v : code.Verdict) where
   by-verdict : (x : code.Verdict) (p : Plan) (w1 n1 : List ℕ) → v ≡ x → Plans w n sender x p w1 n1 → Plans w n sender v p w1 n1
   by-verdict x p w1 n1 e P = subst (λ (y : code.Verdict). Plans w n sender y p w1 n1) (sym e) P
 
-  pub planned-refuse : (k : ℕ) → v ≡ Refuse k → Plans w n sender v (plan.Refuse k) w n
+  pub planned-refuse : (k : Refusal) → v ≡ Refuse k → Plans w n sender v (plan.Refuse k) w n
   planned-refuse k e = by-verdict (Refuse k) (plan.Refuse k) w n e (record { does = λ store ledger d. refl; able = λ d q. tt; room = refl; still = (refl, refl) })
 
   pub planned-again : v ≡ Again → Plans w n sender v plan.Again w n
@@ -85,7 +85,7 @@ module _ (w n : List ℕ) (sender : ℕ) (v : code.Verdict) where
       free : List Slot
       free = (seat (slots_of w n)).slots
 
-      does : (store ledger d : List ℕ) → settled (view w1 n1) store ledger sender d (plan.Hold h t) ≡ enacted (view w n) store ledger sender d (Begin h)
+      does : (store ledger d : List ℕ) → settled (view w1 n1) store ledger sender d (plan.Hold h t) ≡ enacted (view w n) store ledger sender d (verdict_told (Begin h))
       does store ledger d =
           let f : Fragment = fragment_in d h in
           let new : Slot = opening free (key_of sender h.sequence) f in
@@ -99,14 +99,14 @@ module _ (w n : List ℕ) (sender : ℕ) (d : List ℕ) (p : Plan) where
   by-plan : (x : Plan) (o : Outcome) (w1 n1 : List ℕ) → p ≡ x → Settles w n sender x d o w1 n1 → Settles w n sender p d o w1 n1
   by-plan x o w1 n1 e S = subst (λ (y : Plan). Settles w n sender y d o w1 n1) (sym e) S
 
-  pub settled-refuse : (k : ℕ) (o : Outcome) → p ≡ plan.Refuse k → o ≡ stayed (Refused k) → Settles w n sender p d o w n
+  pub settled-refuse : (k : Refusal) (o : Outcome) → p ≡ plan.Refuse k → o ≡ stayed (given.Refused k) → Settles w n sender p d o w n
   unfolding stay
   settled-refuse k o e eo = by-plan (plan.Refuse k) o w n e (subst (λ (x : Outcome). Settles w n sender (plan.Refuse k) d x w n) (sym eo) (record {
     leaves = λ store ledger. record { answer = refl; emptied = refl; name = refl; machine = refl; store = refl; ledger = refl };
     still = (refl, refl);
   }))
 
-  pub settled-again : (o : Outcome) → p ≡ plan.Again → o ≡ stayed Repeat → Settles w n sender p d o w n
+  pub settled-again : (o : Outcome) → p ≡ plan.Again → o ≡ stayed given.Repeat → Settles w n sender p d o w n
   unfolding stay
   settled-again o e eo = by-plan plan.Again o w n e (subst (λ (x : Outcome). Settles w n sender plan.Again d x w n) (sym eo) (record {
     leaves = λ store ledger. record { answer = refl; emptied = refl; name = refl; machine = refl; store = refl; ledger = refl };
@@ -116,7 +116,7 @@ module _ (w n : List ℕ) (sender : ℕ) (d : List ℕ) (p : Plan) where
   pub settled-deliver : (h : Header) (o : Outcome) (w1 : List ℕ) → p ≡ plan.Deliver h → SmallDone w sender d h o w1 → Settles w n sender p d o w1 n
   settled-deliver h o w1 e S = by-plan (plan.Deliver h) o w1 n e (record {
     leaves = λ store ledger. record {
-      answer = ap (λ (x : Outcome). x.answer) S.outcome;
+      answer = ap (λ (x : Outcome). answer_told x.answer) S.outcome;
       emptied = ap (λ (x : Outcome). x.emptied) S.outcome;
       name = ap (λ (x : Outcome). x.name) S.outcome;
       machine = S.remembers.machine n;
@@ -196,13 +196,13 @@ module _ (w n store ledger : List ℕ) (sender : ℕ) (d : List ℕ) where
           ap (λ (x : Read). receive (view w n) store ledger sender (says d x)) r ∙ by-header h
           ∙ ap (enacted (view w n) store ledger sender d) (sym (decided-good w n store ledger sender d e h r))
 
-  pub verdict-possible : (v : code.Verdict) → v ≡ decided w n store ledger sender d → Possible w n d v
+  pub verdict-possible : (v : code.Verdict) → verdict_told v ≡ decided w n store ledger sender d → Possible w n d (verdict_told v)
   verdict-possible v ev = subst (Possible w n d) (sym ev) (possible w n store ledger sender d)
 
-  pub plan-able : (v : code.Verdict) (p : Plan) (w1 n1 : List ℕ) → v ≡ decided w n store ledger sender d → Plans w n sender v p w1 n1 → Able w1 n1 d p
+  pub plan-able : (v : code.Verdict) (p : Plan) (w1 n1 : List ℕ) → verdict_told v ≡ decided w n store ledger sender d → Plans w n sender v p w1 n1 → Able w1 n1 d p
   plan-able v p w1 n1 ev P = P.able d (verdict-possible v ev)
 
-  pub plan_storable : (room : ℕ) (v : code.Verdict) (p : Plan) (w1 n1 : List ℕ) → room ≡ get_or w room_word 0 → v ≡ decided w n store ledger sender d
+  pub plan_storable : (room : ℕ) (v : code.Verdict) (p : Plan) (w1 n1 : List ℕ) → room ≡ get_or w room_word 0 → verdict_told v ≡ decided w n store ledger sender d
       → Plans w n sender v p w1 n1 → Storable room d p
   plan_storable room v p w1 n1 ec ev P = subst (λ (C : ℕ). Storable C d p) (P.room ∙ sym ec) (able_storable w1 n1 d p (plan-able v p w1 n1 ev P))
 
@@ -216,7 +216,7 @@ module _ (w n store ledger : List ℕ) (sender : ℕ) (d : List ℕ) where
   quiet (plan.Hold h t) m C k w1 n1 w2 n2 store1 ledger1 s u es el q = step5-never _ m m.slots store ledger t.emptied t.at (fragment_in d h) k q
 
   pub receives : (room : ℕ) (v : code.Verdict) (p : Plan) (o : Outcome) (w1 n1 w2 n2 store1 ledger1 : List ℕ) → room ≡ get_or w room_word 0
-      → v ≡ decided w n store ledger sender d → Plans w n sender v p w1 n1 → Settles w1 n1 sender p d o w2 n2
+      → verdict_told v ≡ decided w n store ledger sender d → Plans w n sender v p w1 n1 → Settles w1 n1 sender p d o w2 n2
       → store1 ≡ store_after room d store p → ledger1 ≡ ledger_after d ledger p
       → length w2 ≡ length w → length n2 ≡ length n → Receives (lent w n store ledger) sender d o (lent w2 n2 store1 ledger1)
   receives room v p o w1 n1 w2 n2 store1 ledger1 ec ev P S es el lw ln =

@@ -1,21 +1,24 @@
 -- WHAT THE CALLS PROMISE, for every state, names, store, ledger, sender and datagram. Definitions only.
-use Rattle.std.specs.Prelude.{◌≡◌, List, ℕ, length}
+use Rattle.std.specs.Prelude.{Result, Ok, Err, ◌≡◌, List, ℕ, length}
 use Rattle.std.proofs.Math.Option.{Option, none, some}
 use Rattle.wire.specs.Choice.{pick}
-use Rattle.steps.specs.declared.Answer.TheVariants.{Refused}
-use Rattle.steps.specs.Answers.{reply, emptied_key}
-use Rattle.steps.specs.Receive.{Machine, After, stay, step, forget, Forgot}
+use Rattle.refusals.specs.declared.Refusal.{Refusal}
+use Rattle.refusals.specs.Numbers.{number_of}
+use Rattle.steps.specs.Answers.{answer_told, reply, emptied_key}
+use Rattle.steps.specs.Receive.{Refused, Machine, After, stay, step, forget, Forgot}
 use Rattle.steps.specs.Runs.{Heard, heard, from}
 use Rattle.receiver_state.specs.View.{view, shaped}
 use Rattle.receiver.specs.Lent.{Lent}
 use Rattle.receiver.specs.declared.Outcome.{Outcome}
-use Rattle.receiver.specs.declared.Call.{Call}
-use Rattle.receiver.specs.declared.Call.TheVariants as call
+
+-- what the other calls answer: done, or refused
+abbrev pub Call : Type 0
+Call = Result (Unit {0}) Refusal
 
 -- the number of a refusal, or none
 abbrev pub refusal_of : Call → Option ℕ
-refusal_of call.Done = none
-refusal_of (call.Refused n) = some n
+refusal_of (Ok u) = none
+refusal_of (Err r) = some (number_of r)
 
 -- a call of receive: the step list's; a state or names of another length is refused by 9
 unfoldable pub received : Lent → ℕ → List ℕ → After
@@ -25,7 +28,7 @@ received l sender d =
 
 -- the answer is that of a, and the lent memory shows what a leaves
 pub record Leaves (a : After) (r : Outcome) (l : Lent) : Type 0 where
-  pub answer : r.answer ≡ a.answer
+  pub answer : answer_told r.answer ≡ a.answer
   pub emptied : r.emptied ≡ a.emptied
   pub name : r.name ≡ a.name
   pub machine : view l.state l.names ≡ a.machine
@@ -34,7 +37,7 @@ pub record Leaves (a : After) (r : Outcome) (l : Lent) : Type 0 where
 
 -- what an outcome tells in the values of document 01, with the store as the call left it
 abbrev pub told : List ℕ → List ℕ → Outcome → Heard
-told d store r = record { answer = reply d store r.answer; emptied = emptied_key r.emptied }
+told d store r = record { answer = reply d store (answer_told r.answer); emptied = emptied_key r.emptied }
 
 -- a call with l lent was the step a: r is its outcome, and l' is what is lent afterwards
 pub record Follows (a : After) (l : Lent) (sender : ℕ) (d : List ℕ) (r : Outcome) (l' : Lent) : Type 0 where
@@ -44,7 +47,7 @@ pub record Follows (a : After) (l : Lent) (sender : ℕ) (d : List ℕ) (r : Out
   pub words : length l'.state ≡ length l.state
   pub bytes : length l'.names ≡ length l.names
   -- a refusal writes nothing
-  pub still : (k : ℕ) → r.answer ≡ Refused k → l' ≡ l
+  pub still : (k : ℕ) → answer_told r.answer ≡ Refused k → l' ≡ l
 
 abbrev pub Receives : Lent → ℕ → List ℕ → Outcome → Lent → Type 0
 Receives l sender d r l' = Follows (received l sender d) l sender d r l'

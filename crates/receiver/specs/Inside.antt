@@ -1,6 +1,7 @@
 -- INSIDE: what the receiver's private functions give. Definitions only; no promise of a public function rests on them.
 use Rattle.std.specs.Prelude.{◌≡◌, true, List, ℕ, ◌+◌, ◌*◌, ◌≤◌, ◌<◌, length, get_or, set}
 use Rattle.wire.specs.Slices.{Buffer}
+use Rattle.refusals.specs.Numbers.{number_of}
 use Rattle.datagram.specs.Limits.{max_payload}
 use Rattle.datagram.specs.Read.{part_of}
 use Rattle.datagram.specs.Said.{Fragment, fragment_in}
@@ -10,15 +11,15 @@ use Rattle.steps.specs.declared.Emptied.{Emptied}
 use Rattle.steps.specs.declared.Emptied.TheVariants.{Nobody}
 use Rattle.steps.specs.declared.PayloadAt.TheVariants.{InStore, InDatagram}
 use Rattle.steps.specs.declared.Answer.{Answer}
-use Rattle.steps.specs.declared.Answer.TheVariants.{Refused, Repeat, Delivered}
+use Rattle.steps.specs.declared.Answer.TheVariants.{Delivered}
 use Rattle.steps.specs.Memory.{key_of, remember}
 use Rattle.steps.specs.Slots.{Slot, slot_at, release, release_one_lem, release_of, seat, opening, filled, no_name_lem, padded}
-use Rattle.steps.specs.Receive.{Machine, After, with_slots, stay, store_with, ledger_with, step5, delivered_small, begin_at}
+use Rattle.steps.specs.Receive.{Refused, Repeat, Machine, After, with_slots, stay, store_with, ledger_with, step5, delivered_small, begin_at}
 use Rattle.receiver_state.specs.View.{room_word, slots_of, memory_of, view}
 use Rattle.receiver_state.specs.Inside.{Ready, Told, Shows, Remembers}
 use Rattle.verdict.specs.Inside.{Possible}
-use Rattle.verdict.specs.declared.Verdict.{Verdict}
-use Rattle.verdict.specs.declared.Verdict.TheVariants.{Refuse, Again, Deliver, Join, Begin}
+use Rattle.verdict.specs.Decided.{Verdict, Refuse, Again, Deliver, Join, Begin, verdict_told}
+use Rattle.verdict.specs.declared.Verdict as code
 use Rattle.receiver.specs.Lent.{lent}
 use Rattle.receiver.specs.Calls.{Leaves}
 use Rattle.receiver.specs.declared.Outcome.{Outcome}
@@ -110,7 +111,7 @@ enacted m store ledger sender d (Begin h) = begin_at m store ledger (key_of send
 
 -- and what a plan comes to, where the slot is open
 abbrev pub settled : Machine → List ℕ → List ℕ → ℕ → List ℕ → Plan → After
-settled m store ledger sender d (plan.Refuse k) = stay m store ledger (Refused k)
+settled m store ledger sender d (plan.Refuse r) = stay m store ledger (Refused (number_of r))
 settled m store ledger sender d plan.Again = stay m store ledger Repeat
 settled m store ledger sender d (plan.Deliver h) = delivered_small m store ledger (key_of sender h.sequence) (part_of d h.name) (length (part_of d h.payload))
 settled m store ledger sender d (plan.Hold h t) = step5 m m.slots store ledger t.emptied t.at (fragment_in d h)
@@ -137,9 +138,9 @@ pub record Begins (w n : List ℕ) (sender : ℕ) (h : Header) (r : Seat) (w' n'
   pub shows : (d : List ℕ) → Slots w n (set (seat (slots_of w n)).slots r.at (opening (seat (slots_of w n)).slots (key_of sender h.sequence) (fragment_in d h))) w' n'
 
 -- the plan comes to what the verdict comes to, whatever the store, the ledger and the datagram
-pub record Plans (w n : List ℕ) (sender : ℕ) (v : Verdict) (p : Plan) (w' n' : List ℕ) : Type 0 where
-  pub does : (store ledger d : List ℕ) → settled (view w' n') store ledger sender d p ≡ enacted (view w n) store ledger sender d v
-  pub able : (d : List ℕ) → Possible w n d v → Able w' n' d p
+pub record Plans (w n : List ℕ) (sender : ℕ) (v : code.Verdict) (p : Plan) (w' n' : List ℕ) : Type 0 where
+  pub does : (store ledger d : List ℕ) → settled (view w' n') store ledger sender d p ≡ enacted (view w n) store ledger sender d (verdict_told v)
+  pub able : (d : List ℕ) → Possible w n d (verdict_told v) → Able w' n' d p
   pub room : get_or w' room_word 0 ≡ get_or w room_word 0
   pub still : Still p w n w' n'
 

@@ -13,6 +13,7 @@ ghost use Rattle.steps.specs.Slots.{no_name_lem};
 ghost use Rattle.slots.specs.Words.{block_words};
 ghost use Rattle.receiver_state.specs.View.{state_words_lem};
 ghost use Rattle.receiver_state.specs.Inside.{Shaped, Ready, Told, named_in, Remembers};
+ghost use Rattle.verdict.specs.Decided.{verdict_told};
 ghost use Rattle.verdict.specs.Inside.{Possible};
 ghost use Rattle.receiver.specs.Lent.{lent_before, lent_after};
 ghost use Rattle.receiver.specs.Calls.{Receives, Forgets};
@@ -20,7 +21,7 @@ ghost use Rattle.receiver.specs.Inside.{stayed, Releases, ReleasesOne, ReleasesA
 ghost use Rattle.receiver.specs.Inside.{Begins, Plans, Able, Settles, Storable, StoredIn, StoredBy};
 
 use datagram::Header;
-use slots::Found;
+use refusals::Refusal;
 use steps::{Answer, Emptied, Key, PayloadAt};
 use verdict::Verdict;
 
@@ -39,14 +40,6 @@ pub struct Outcome {
     pub name: [u8; datagram::MAX_NAME],
 }
 
-// What is answered to the other calls.
-#[derive(Clone, Copy)]
-pub enum Call {
-    Done,
-    // by the number of document 01
-    Refused(u32),
-}
-
 // The slot to take, which is free now, and the key that was emptied for it.
 #[derive(Clone, Copy)]
 struct Seat {
@@ -57,7 +50,7 @@ struct Seat {
 // What is to be done once a slot is open: a fragment is held in one place of the code, whether it joins a message or begins one.
 #[derive(Clone, Copy)]
 enum Plan {
-    Refuse(u32),
+    Refuse(Refusal),
     Again,
     Deliver(Header),
     // the header first, as in Deliver: it then lies at one place in both
@@ -71,11 +64,7 @@ fn clear_block(state: &mut [u64], b: usize)
     requires { b + block_words ≤ length state.old }
     ensures { state.new ≡ overlay state.old b (replicate block_words 0) }
 {
-    let mut i: usize = 0;
-    while i < slots::BLOCK {
-        state[b + i] = 0;
-        i += 1;
-    }
+    state[b..b + slots::BLOCK].fill(0);
 }
 
 // The bytes of a name, from a place on, are zeros.
@@ -83,11 +72,7 @@ fn clear_name(names: &mut [u8], a: usize)
     requires { a + max_name ≤ length names.old }
     ensures { names.new ≡ overlay names.old a no_name_lem }
 {
-    let mut i: usize = 0;
-    while i < datagram::MAX_NAME {
-        names[a + i] = 0;
-        i += 1;
-    }
+    names[a..a + datagram::MAX_NAME].fill(0);
 }
 
 // Slot s is freed: all zeros, and the turns of those opened after it fall by one.
@@ -95,9 +80,8 @@ fn release(state: &mut [u64], names: &mut [u8], s: usize)
     requires { (s < slot_count) × Shaped state.old names.old }
     ensures { Releases state.old names.old s state.new names.new }
 {
-    let b = slots::HEAD + slots::BLOCK * s;
-    let t = words::word(&*state, b + slots::TURN);
-    clear_block(&mut *state, b);
+    let t = slots::word_of(&*state, s, slots::TURN);
+    clear_block(&mut *state, slots::HEAD + slots::BLOCK * s);
     clear_name(names, datagram::MAX_NAME * s);
     slot_turns::lower(state, t);
 }
@@ -107,16 +91,14 @@ fn occupy(state: &mut [u64], names: &mut [u8], s: usize, sender: u64, h: Header)
     requires { (s < slot_count) × Shaped state.old names.old }
     ensures { Occupies state.old names.old s sender h state.new names.new }
 {
-    let b = slots::HEAD + slots::BLOCK * s;
-    let mut block = [0u64; slots::BLOCK];
+    let mut block = [0; slots::BLOCK];
     block[slots::SENDER] = sender;
     block[slots::SEQUENCE] = words::as_word(h.sequence);
     block[slots::SIZE] = words::as_word(h.size);
     block[slots::COUNT] = words::as_word(h.count);
     block[slots::TURN] = slots::open_count(&*state);
-    let blank = [0u8; datagram::MAX_NAME];
-    words::put_words(state, b, &block);
-    wire::put_bytes(names, datagram::MAX_NAME * s, &blank);
+    words::put_words(state, slots::HEAD + slots::BLOCK * s, &block);
+    wire::put_bytes(names, datagram::MAX_NAME * s, &[0; datagram::MAX_NAME]);
 }
 
 // Fragment 0 brings its name into slot s.
@@ -155,7 +137,7 @@ fn remember_key(state: &mut [u64], sender: u64, sequence: u64)
 fn no_name() -> [u8; datagram::MAX_NAME]
     ensures { result ≡ no_name_lem }
 {
-    [0u8; datagram::MAX_NAME]
+    [0; datagram::MAX_NAME]
 }
 
 // Nothing is altered.
@@ -163,7 +145,7 @@ fn stay(answer: Answer) -> Outcome
     ensures { result ≡ stayed answer }
 {
     Outcome {
-        answer: answer,
+        answer,
         emptied: Emptied::Nobody,
         name: no_name(),
     }
@@ -174,10 +156,9 @@ fn deliver(state: &mut [u64], names: &mut [u8], s: usize, gone: Emptied) -> Outc
     requires { (s < slot_count) × Ready state.old names.old }
     ensures { Delivers state.old names.old s gone result state.new names.new }
 {
-    let b = slots::HEAD + slots::BLOCK * s;
-    let sender = words::word(&*state, b + slots::SENDER);
-    let sequence = words::word(&*state, b + slots::SEQUENCE);
-    let size = words::word(&*state, b + slots::SIZE);
+    let sender = slots::word_of(&*state, s, slots::SENDER);
+    let sequence = slots::word_of(&*state, s, slots::SEQUENCE);
+    let size = slots::word_of(&*state, s, slots::SIZE);
     let room = words::word(&*state, receiver_state::SLOT_SIZE);
     let at = s * room as usize;
     let name = slots::zero_filled(wire::part(&*names, datagram::MAX_NAME * s, datagram::MAX_NAME));
@@ -186,7 +167,7 @@ fn deliver(state: &mut [u64], names: &mut [u8], s: usize, gone: Emptied) -> Outc
     Outcome {
         answer: Answer::Delivered(PayloadAt::InStore(at), size as usize),
         emptied: gone,
-        name: name,
+        name,
     }
 }
 
@@ -198,10 +179,9 @@ fn put(state: &mut [u64], names: &mut [u8], s: usize, h: Header, d: &[u8], gone:
     ensures { Puts (buffer state) (buffer names) s gone h d.now result }
 {
     keep(&mut *state, &mut *names, s, h, d);
-    let b = slots::HEAD + slots::BLOCK * s;
-    let a = b + slots::HELD;
+    let a = slots::HEAD + slots::BLOCK * s + slots::HELD;
     let e = a + slots::HELD_WORDS;
-    let n = words::word(&*state, b + slots::COUNT);
+    let n = slots::word_of(&*state, s, slots::COUNT);
     if held_bits::all_held(&state[a..e], n as usize) {
         return deliver(state, names, s, gone);
     }
@@ -217,19 +197,14 @@ fn take_seat(state: &mut [u64], names: &mut [u8]) -> Seat
     requires { Shaped state.old names.old }
     ensures { Seats state.old names.old result state.new names.new }
 {
-    let found = slots::lowest_free(&*state);
-    let Found::At(free) = found else {
+    let Some(free) = slots::lowest_free(&*state) else {
         let s = slot_turns::oldest(&*state);
-        let b = slots::HEAD + slots::BLOCK * s;
-        let sender = words::word(&*state, b + slots::SENDER);
-        let sequence = words::word(&*state, b + slots::SEQUENCE);
+        let sender = slots::word_of(&*state, s, slots::SENDER);
+        let sequence = slots::word_of(&*state, s, slots::SEQUENCE);
         release(state, names, s);
         return Seat {
             at: s,
-            emptied: Emptied::Was(Key {
-                sender: sender,
-                sequence: sequence,
-            }),
+            emptied: Emptied::Was(Key { sender, sequence }),
         };
     };
     Seat {
@@ -244,18 +219,17 @@ fn begin(state: &mut [u64], names: &mut [u8], sender: u64, h: Header) -> Seat
     ensures { Begins state.old names.old sender h result state.new names.new }
 {
     let seat = take_seat(&mut *state, &mut *names);
-    let at = seat.at;
-    occupy(state, names, at, sender, h);
+    occupy(state, names, seat.at, sender, h);
     seat
 }
 
 // The verdict as a plan: a message that begins has its slot then.
 fn plan_for(state: &mut [u64], names: &mut [u8], sender: u64, verdict: Verdict) -> Plan
-    requires { (d : List ℕ) × Possible state.old names.old d verdict }
+    requires { (d : List ℕ) × Possible state.old names.old d (verdict_told verdict) }
     ensures { Plans state.old names.old sender verdict result state.new names.new }
 {
     match verdict {
-        Verdict::Refuse(n) => Plan::Refuse(n),
+        Verdict::Refuse(refusal) => Plan::Refuse(refusal),
         Verdict::Again => Plan::Again,
         Verdict::Deliver(h) => Plan::Deliver(h),
         Verdict::Join(s, h) => Plan::Hold(
@@ -280,7 +254,7 @@ fn small(state: &mut [u64], sender: u64, h: Header, d: &[u8]) -> Outcome
     Outcome {
         answer: Answer::Delivered(PayloadAt::InDatagram(p.at), p.len),
         emptied: Emptied::Nobody,
-        name: name,
+        name,
     }
 }
 
@@ -290,14 +264,10 @@ fn settle(state: &mut [u64], names: &mut [u8], sender: u64, plan: Plan, d: &[u8]
     ensures { Settles state.old names.old sender plan d.now result state.new names.new }
 {
     match plan {
-        Plan::Refuse(n) => stay(Answer::Refused(n)),
+        Plan::Refuse(refusal) => stay(Answer::Refused(refusal)),
         Plan::Again => stay(Answer::Repeat),
         Plan::Deliver(h) => small(state, sender, h, d),
-        Plan::Hold(h, seat) => {
-            let at = seat.at;
-            let gone = seat.emptied;
-            put(state, names, at, h, d, gone)
-        }
+        Plan::Hold(h, seat) => put(state, names, seat.at, h, d, seat.emptied),
     }
 }
 
@@ -311,8 +281,8 @@ fn put_fragment(store: &mut [u8], ledger: &mut [u32], room: usize, s: usize, h: 
     let row = receiver_state::SLOT_LEDGER * s + 2 * k;
     let p = h.payload;
     wire::put_bytes(store, at, datagram::part_at(d, h.payload));
-    words::put_entry(&mut *ledger, row, h.offset);
-    words::put_entry(ledger, row + 1, p.len as u32);
+    words::put_word(&mut *ledger, row, h.offset);
+    words::put_word(ledger, row + 1, p.len as u32);
 }
 
 fn store_in(store: &mut [u8], ledger: &mut [u32], room: u64, plan: Plan, d: &[u8])
@@ -320,13 +290,8 @@ fn store_in(store: &mut [u8], ledger: &mut [u32], room: u64, plan: Plan, d: &[u8
     ensures { StoredBy room store.old ledger.old plan d.now store.new ledger.new }
 {
     match plan {
-        Plan::Refuse(_) => {}
-        Plan::Again => {}
-        Plan::Deliver(_) => {}
-        Plan::Hold(h, seat) => {
-            let at = seat.at;
-            put_fragment(store, ledger, room as usize, at, h, d);
-        }
+        Plan::Refuse(_) | Plan::Again | Plan::Deliver(_) => {}
+        Plan::Hold(h, seat) => put_fragment(store, ledger, room as usize, seat.at, h, d),
     }
 }
 
@@ -355,11 +320,10 @@ fn release_one(state: &mut [u64], names: &mut [u8], i: usize, sender: u64)
     requires { (i < slot_count) × Shaped state.old names.old }
     ensures { ReleasesOne state.old names.old sender i state.new names.new }
 {
-    let b = slots::HEAD + slots::BLOCK * i;
-    if words::word(&*state, b + slots::COUNT) == 0 {
+    if slots::word_of(&*state, i, slots::COUNT) == 0 {
         return;
     }
-    if words::word(&*state, b + slots::SENDER) != sender {
+    if slots::word_of(&*state, i, slots::SENDER) != sender {
         return;
     }
     release(state, names, i);
@@ -369,27 +333,25 @@ fn release_all(state: &mut [u64], names: &mut [u8], sender: u64)
     requires { Shaped state.old names.old }
     ensures { ReleasesAll state.old names.old sender slot_count state.new names.new }
 {
-    let mut i: usize = 0;
-    while i < slots::SLOTS {
+    for i in 0..slots::SLOTS {
         release_one(&mut *state, &mut *names, i, sender);
-        i += 1;
     }
 }
 
 // The sender's slots are freed and its remembered keys dropped.
-pub fn forget(state: &mut [u64], names: &mut [u8], sender: u64) -> Call
+pub fn forget(state: &mut [u64], names: &mut [u8], sender: u64) -> Result<(), Refusal>
     ensures { Forgets state.old names.old sender result state.new names.new }
 {
     if state.len() != STATE_WORDS {
-        return Call::Refused(9);
+        return Err(Refusal::WrongMemory);
     }
     if names.len() != NAME_BYTES {
-        return Call::Refused(9);
+        return Err(Refusal::WrongMemory);
     }
     if !memory_places::in_order(&state[receiver_state::MEMORY..]) {
-        return Call::Refused(9);
+        return Err(Refusal::WrongMemory);
     }
     release_all(&mut *state, &mut *names, sender);
     memory_places::forget(&mut state[receiver_state::MEMORY..], sender);
-    Call::Done
+    Ok(())
 }

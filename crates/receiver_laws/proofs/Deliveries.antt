@@ -2,10 +2,10 @@
 use Rattle.wire.proofs.Basics.{◌∙◌, sym, ◌≡◌, ap, refl, subst, ℕ, List, inl, inr, length, arith}
 use Rattle.wire.proofs.Choices.{either}
 use Rattle.steps.specs.declared.PayloadAt.{PayloadAt}
-use Rattle.steps.specs.declared.Answer.{Answer}
-use Rattle.steps.specs.declared.Answer.TheVariants.{Refused, Delivered}
+use Rattle.steps.specs.Receive.{Answer}
+use Rattle.steps.specs.Receive.{Refused, Delivered}
 use Rattle.steps.specs.Receive.{After, stay}
-use Rattle.steps.specs.Answers.{reply}
+use Rattle.steps.specs.Answers.{answer_told, reply}
 use Rattle.steps.specs.Promises.{Lies}
 use Rattle.steps.proofs.Deliveries.{delivery-lies}
 use Rattle.receiver_state.specs.View.{view, shaped}
@@ -33,14 +33,14 @@ received-lies l sender d = elim (either (shaped l.state l.names)) [
 
 -- what is known of a step holds of a call that follows it
 module _ (a : After) (l : Lent) (sender : ℕ) (d : List ℕ) (r : Outcome) (l' : Lent) (k : Follows a l sender d r l') (h : LiesIn d a) (p : PayloadAt) (n : ℕ)
-    (e : r.answer ≡ Delivered p n) where
+    (e : answer_told r.answer ≡ Delivered p n) where
   pub follows-lies : Lies d l'.store p n
   follows-lies = subst (λ (s : List ℕ). Lies d s p n) (sym k.leaves.store) (h p n (sym k.leaves.answer ∙ e))
 
   -- and `payload` hands over n bytes
-  pub payload-long : length (payload_of (reply d l'.store r.answer)) ≡ n
+  pub payload-long : length (payload_of (reply d l'.store (answer_told r.answer))) ≡ n
   payload-long = ap (λ (x : Answer). length (payload_of (reply d l'.store x))) e ∙ follows-lies.long
 
 -- OF A CALL OF `receive`
-pub receive-lies : (l : Lent) (sender : ℕ) (d : List ℕ) (r : Outcome) (l' : Lent) → Receives l sender d r l' → (p : PayloadAt) (n : ℕ) → r.answer ≡ Delivered p n → Lies d l'.store p n
+pub receive-lies : (l : Lent) (sender : ℕ) (d : List ℕ) (r : Outcome) (l' : Lent) → Receives l sender d r l' → (p : PayloadAt) (n : ℕ) → answer_told r.answer ≡ Delivered p n → Lies d l'.store p n
 receive-lies l sender d r l' k = follows-lies (received l sender d) l sender d r l' k (received-lies l sender d)

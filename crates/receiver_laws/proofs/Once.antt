@@ -2,7 +2,10 @@
 -- the step list can reach, which are in order (steps, `reached_in-order`).
 use Rattle.wire.proofs.Basics.{◌∙◌, sym, ◌≡◌, ap, refl, subst, ℕ, List, true, false, inl, inr, some, Option, length, eqb, eqb-true, arith}
 use Rattle.wire.proofs.Choices.{either, and_l, and_r}
-use Rattle.steps.specs.declared.Answer.TheVariants.{Refused}
+use Rattle.steps.specs.declared.Answer.{Answer as Given}
+use Rattle.steps.specs.declared.Answer.TheVariants as given
+use Rattle.steps.specs.Answers.{answer_told}
+use Rattle.steps.specs.Receive.{Refused}
 use Rattle.steps.specs.Receive.{Machine, After, stay, step}
 use Rattle.steps.specs.Reach.{Reached, opens, receives, forgets}
 use Rattle.receiver_state.specs.View.{state_words_lem, name_bytes_lem, view, shaped}
@@ -11,8 +14,10 @@ use Rattle.receiver.specs.Lent.{Lent, lent}
 use Rattle.receiver.specs.Calls.{refusal_of, received, Follows, Receives, Changes, Forgets, forgotten}
 use Rattle.open_and_payload.specs.Ends.{Opens}
 use Rattle.receiver.specs.declared.Outcome.{Outcome}
-use Rattle.receiver.specs.declared.Call.{Call}
-use Rattle.receiver.specs.declared.Call.TheVariants as call
+use Rattle.receiver.specs.Calls.{Call}
+use Rattle.std.proofs.Common.{Ok, Err}
+use Rattle.refusals.specs.Numbers.{number_of}
+use Rattle.refusals.proofs.Names.{same_number}
 use Rattle.receiver_state.proofs.Unique.{words_same, names_same}
 
 -- words and names of the lengths that were lent
@@ -37,12 +42,34 @@ pub lent_same : (l m : Lent) → Shaped l.state l.names → Shaped m.state m.nam
     → l.store ≡ m.store → l.ledger ≡ m.ledger → l ≡ m
 lent_same l m p q e a b = λ i. lent (words_same l.state l.names m.state m.names p q e i) (names_same l.state l.names m.state m.names p q e i) (a i) (b i)
 
+-- two answers that say one thing are one
+answer-once : (a b : Given) → answer_told a ≡ answer_told b → a ≡ b
+answer-once (given.Refused j) (given.Refused k) e = let z : number_of j ≡ number_of k = cc in ap given.Refused (same_number j k z)
+answer-once (given.Refused j) given.Kept e = cc
+answer-once (given.Refused j) given.Repeat e = cc
+answer-once (given.Refused j) (given.Delivered p n) e = cc
+answer-once given.Kept (given.Refused k) e = cc
+answer-once given.Kept given.Kept e = refl
+answer-once given.Kept given.Repeat e = cc
+answer-once given.Kept (given.Delivered p n) e = cc
+answer-once given.Repeat (given.Refused k) e = cc
+answer-once given.Repeat given.Kept e = cc
+answer-once given.Repeat given.Repeat e = refl
+answer-once given.Repeat (given.Delivered p n) e = cc
+answer-once (given.Delivered p n) (given.Refused k) e = cc
+answer-once (given.Delivered p n) given.Kept e = cc
+answer-once (given.Delivered p n) given.Repeat e = cc
+answer-once (given.Delivered p n) (given.Delivered q m) e =
+    let x : p ≡ q = cc in
+    let y : n ≡ m = cc in
+    λ i. given.Delivered (x i) (y i)
+
 -- two outcomes of one step, that refuses a state or names of another length by 9
 module _ (a : After) (l : Lent) (nine : shaped l.state l.names ≡ false → a.answer ≡ Refused 9) (sender : ℕ) (d : List ℕ) (r s : Outcome) (l1 l2 : Lent)
     (A : Follows a l sender d r l1) (B : Follows a l sender d s l2) where
   one : r ≡ s
   one = λ i. record {
-    answer = (A.leaves.answer ∙ sym B.leaves.answer) i;
+    answer = answer-once r.answer s.answer (A.leaves.answer ∙ sym B.leaves.answer) i;
     emptied = (A.leaves.emptied ∙ sym B.leaves.emptied) i;
     name = (A.leaves.name ∙ sym B.leaves.name) i;
   }
@@ -65,10 +92,10 @@ receive-once l sender d = follows-once (received l sender d) l (unshaped-nine l 
 -- ---- open and forget
 
 refusal-once : (r s : Call) → refusal_of r ≡ refusal_of s → r ≡ s
-refusal-once call.Done call.Done e = refl
-refusal-once call.Done (call.Refused k) e = let z : ◌≡◌ {A = ℕ} 0 1 = cc in absurd (let h : ⊥ = omega arith in h)
-refusal-once (call.Refused j) call.Done e = let z : ◌≡◌ {A = ℕ} 0 1 = cc in absurd (let h : ⊥ = omega arith in h)
-refusal-once (call.Refused j) (call.Refused k) e = let z : j ≡ k = cc in ap call.Refused z
+refusal-once (Ok u) (Ok v) e = refl
+refusal-once (Ok u) (Err k) e = absurd (let z : ◌≡◌ {A = ℕ} 0 1 = cc in let h : ⊥ = omega arith in h)
+refusal-once (Err j) (Ok v) e = absurd (let z : ◌≡◌ {A = ℕ} 0 1 = cc in let h : ⊥ = omega arith in h)
+refusal-once (Err j) (Err k) e = let z : number_of j ≡ number_of k = cc in ap Err (same_number j k z)
 
 pub record Alike (r s : Call) (w n w' n' : List ℕ) : Type 0 where
   pub answer : r ≡ s

@@ -13,6 +13,7 @@ use Rattle.steps.specs.Memory.{key_of, memory_ok}
 use Rattle.steps.specs.Slots.{Slot, busy, no_slot, slot_at, has_key, is_free, find_open_lem, find_free, oldest, open_count_lem, lower}
 use Rattle.steps.specs.Slots as step
 use Rattle.steps.specs.Receive.{with_slots, slot_ok, sound}
+use Rattle.steps.specs.InsideSearch.{option_of}
 use Rattle.steps.proofs.Tables.{all_cong, count_same}
 use Rattle.steps.proofs.Stores.{write-out}
 use Rattle.memory.specs.Words.{memory_words, memory_in}
@@ -20,13 +21,13 @@ use Rattle.words.specs.Builds.{build}
 use Rattle.words.proofs.Builds.{length-build, get_or-build, build-is}
 use Rattle.ranks.specs.Ranks.{rank_of, lower_rank_lem, ranks_lowered, lowest_ranked_lem}
 use Rattle.ranks.proofs.Ranks.{Lowest, lowest-is}
-use Rattle.slots.specs.declared.Found.TheVariants.{Nothing}
+use Rattle.std.proofs.Common.{None}
 use Rattle.slots.specs.Words.{head_words, block_words, block_at, turns, at, sender_word, sequence_word, size_word, count_word, turn_word, held_word, first_below, free_in, busy_in, key_in, sound_in}
-use Rattle.slots.proofs.Loops.{first-here}
+use Rattle.slots.proofs.Loops.{first-here, none-below}
 use Rattle.receiver_state.specs.View.{store_word, room_word, memory_at, state_words_lem, name_bytes_lem, block, name_in, slot_in, slot_of, slots_of, memory_of, view, ready}
 use Rattle.receiver_state.specs.Inside.{Shaped}
 use Rattle.receiver_state.proofs.Windows.{window_get, window-length, window-apart, rest-apart, window_in}
-use Rattle.receiver_state.proofs.Firsts.{option_of, first-build, first-same}
+use Rattle.receiver_state.proofs.Firsts.{first-build, first-same}
 
 -- ---- looking up
 
@@ -90,10 +91,6 @@ lowest-build : (n : ℕ) (f : ℕ → Slot) → step.lowest_turn (build (suc n) 
 lowest-build zero f = omega arith
 lowest-build (suc n) f = rw (lowest-build n (λ i. f (suc i))) (sym (low-next (λ i. (f i).turn) n))
 
-none_below : (p : ℕ → Bool) (n : ℕ) → ((i : ℕ) → i < n → p i ≡ false) → first_below p n ≡ Nothing
-none_below p zero h = refl
-none_below p (suc n) h = rw (none_below p n (λ i k. h i (omega arith)), h n (omega arith))
-
 pub oldest-slot : (w n : List ℕ) → oldest (slots_of w n) ≡ lowest_ranked_lem w turns slot_count
 unfolding slots_of oldest
 oldest-slot w n =
@@ -107,7 +104,7 @@ oldest-slot w n =
     (omega (arith, b, low-le (λ i. (slot_of w n i).turn) slot_count s L.inside))
     (omega (arith, b, low_ge (λ i. (slot_of w n i).turn) (slot_of w n s).turn slot_count (least s L 0 (omega arith)) (least s L))) in
     let p : ℕ → Bool = λ i. eqb (slot_of w n i).turn t in
-    let none : first_below p s ≡ Nothing = none_below p s (λ i h. ne_eqb (slot_of w n i).turn t (λ q. omega (arith, L.first i h, turn i, turn s, q, e))) in
+    let none : first_below p s ≡ None = none-below p s (λ i h. ne_eqb (slot_of w n i).turn t (λ q. omega (arith, L.first i h, turn i, turn s, q, e))) in
     ap step.or_zero (first-build (λ (slot : Slot). eqb slot.turn t) slot_count (slot_of w n)
     ∙ ap option_of (first-here p s slot_count L.inside none (eq-eqb (slot_of w n s).turn t (sym e))))
   where

@@ -8,7 +8,7 @@ use Rattle.datagram.specs.Read.{part_of}
 use Rattle.datagram.specs.Said.{Fragment, fragment_in, says}
 use Rattle.datagram.specs.Said as said
 use Rattle.datagram.specs.declared.Header.{Header}
-use Rattle.datagram.specs.declared.Read.TheVariants.{Good}
+use Rattle.datagram.specs.Read.{Good}
 use Rattle.steps.specs.Limits.{slot_count, ledger_length}
 use Rattle.steps.specs.Search.{all_below}
 use Rattle.steps.specs.Held.{held_words, is_held}

@@ -24,7 +24,7 @@ pub const LEDGER: usize = SLOT_LEDGER * slots::SLOTS;
 pub fn slot_size(store_len: usize) -> usize
     ensures { result ≡ slot_size_of store_len }
 {
-    wire::least(store_len / slots::SLOTS, datagram::MAX_PAYLOAD)
+    (store_len / slots::SLOTS).min(datagram::MAX_PAYLOAD)
 }
 
 // Not refused by 9: the state and the names have their lengths, the store and the ledger are those of opening, and every word is within its bounds.

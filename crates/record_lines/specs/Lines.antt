@@ -1,12 +1,12 @@
 -- THE LINES OF A PROGRAM over the records of its input, one a record, and the last line. Definitions only.
-use Rattle.std.specs.Prelude.{Bool, List, ◌++◌, ℕ, ◌+◌, length}
-use Rattle.wire.specs.Slices.{Buffer}
+use Rattle.std.specs.Prelude.{Bool, false, ◌≡◌, List, ◌++◌, ℕ, ◌+◌, length, Option, Some, None}
+use Rattle.wire.specs.Slices.{Buffer, ◌⇒◌}
 use Rattle.stream.specs.declared.Kind.{Kind}
 use Rattle.stream.specs.declared.Input.{Input}
-use Rattle.stream.specs.declared.Next.{Next}
-use Rattle.stream.specs.declared.Next.TheVariants.{End, Cut}
-use Rattle.stream.specs.Records.{unread}
-use Rattle.output.specs.Output.{Finishes, last_line}
+use Rattle.stream.specs.Records.{Next, End, Cut, ended_as, unread}
+use Rattle.output.specs.declared.Output.{Output}
+use Rattle.output.specs.Output.{Finishes, Adds, last_line}
+use Rattle.record_lines.specs.declared.Told.{Told}
 use Rattle.record_lines.specs.Streams.{Rec, Stream, ended, cut, also, many, records_in}
 
 -- what a program says: line n of a record, by what it knows before it; what it knows after it; and the last line, by how the input ended and
@@ -33,3 +33,24 @@ lines_of line = lines_after (each line) 0 tt
 pub record Tells (kind : Kind) (lines : Stream → List ℕ) (b : List ℕ) (i : Input) (out : Buffer) (at : ℕ) (r : Bool) : Type 0 where
   pub came : List ℕ
   pub said : Finishes out.before at (lines (records_in many kind (length b) (unread b i ++ came))) out.after r
+
+-- a record by its parts
+abbrev pub rec_of : List ℕ → List ℕ → Rec
+rec_of head body = record { head = head; body = body }
+
+-- the same of a program's output, which holds the same buffer
+pub record TellsTo (kind : Kind) (lines : Stream → List ℕ) (b : List ℕ) (i : Input) (o o' : Output) (r : Bool) : Type 0 where
+  pub same : o'.buf.ghost_name ≡ o.buf.ghost_name
+  pub tells : Tells kind lines b i (o.buf.now ⇒ o'.buf.now) o.at r
+
+-- So far as the input went, the lines of its records went out; what is left to say is the last line, by how the input ended.
+pub record Reached {S : Type 0} (p : Says S) (s : S) (kind : Kind) (b : List ℕ) (i : Input) (o : Output) (t : Told) (o' : Output) : Type 0 where
+  pub came : List ℕ
+  pub text : List ℕ
+  pub all : lines_after p 0 s (records_in many kind (length b) (unread b i ++ came)) ≡ text ++ p.last (ended_as t.ending) t.n
+  pub adds : Adds o text o'
+
+-- or the output closed before that
+abbrev pub Reaches : {S : Type 0} → Says S → S → Kind → List ℕ → Input → Output → Option Told → Output → Type 0
+Reaches p s kind b i o (Some t) o' = Reached p s kind b i o t o'
+Reaches p s kind b i o None o' = TellsTo kind (lines_after p 0 s) b i o o' false

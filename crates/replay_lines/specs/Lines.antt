@@ -1,8 +1,7 @@
 -- The line of a receiver's answer, in ASCII. Definitions only.
 use Rattle.std.specs.Prelude.{List, ◌++◌, ℕ}
 use Rattle.wire.specs.Text.{ascii}
-use Rattle.steps.specs.declared.Answer.{Answer}
-use Rattle.steps.specs.declared.Answer.TheVariants.{Refused, Kept, Repeat, Delivered}
+use Rattle.steps.specs.Receive.{Answer, Refused, Kept, Repeat, Delivered}
 use Rattle.steps.specs.declared.Emptied.{Emptied}
 use Rattle.steps.specs.declared.Emptied.TheVariants.{Nobody, Was}
 use Rattle.text.specs.Text.{decimal}

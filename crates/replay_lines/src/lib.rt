@@ -1,60 +1,42 @@
 // The line that says what a receiver answers to a datagram: `replay` and `replay_log` share it.
 #![tactic(auto)]
 
-ghost use Rattle.output.specs.Output.{Pours};
+ghost use Rattle.output.specs.Output.{Adds};
+ghost use Rattle.steps.specs.Answers.{answer_told};
 ghost use Rattle.replay_lines.specs.Lines.{answer_text, emptied_text, line};
 
-use std::io::Stdout;
+use output::Output;
 use steps::{Answer, Emptied};
 
-fn pour_answer(stdout: Stdout, out: &mut [u8], at: usize, answer: Answer) -> usize
-    ensures { Pours out.old at (answer_text answer) out.new result }
+fn pour_answer(out: &mut Output, answer: Answer)
+    ensures { Adds out.old (answer_text (answer_told answer)) out.new }
 {
     match answer {
-        Answer::Refused(number) => output::pour_counted(
-            stdout,
-            out,
-            at,
-            b" refused ",
-            number as u64,
-        ),
-        Answer::Kept => output::pour(stdout, out, at, b" kept"),
-        Answer::Repeat => output::pour(stdout, out, at, b" repeat"),
-        Answer::Delivered(_, len) => output::pour_counted(
-            stdout,
-            out,
-            at,
-            b" delivered ",
-            len as u64,
-        ),
+        Answer::Refused(refusal) => out.pour_counted(b" refused ", u64::from(refusal.number())),
+        Answer::Kept => out.pour(b" kept"),
+        Answer::Repeat => out.pour(b" repeat"),
+        Answer::Delivered(_, len) => out.pour_counted(b" delivered ", len as u64),
     }
 }
 
 // An emptied key ends its line, sender and sequence in decimal.
-fn pour_emptied(stdout: Stdout, out: &mut [u8], at: usize, emptied: Emptied) -> usize
-    ensures { Pours out.old at (emptied_text emptied) out.new result }
+fn pour_emptied(out: &mut Output, emptied: Emptied)
+    ensures { Adds out.old (emptied_text emptied) out.new }
 {
     match emptied {
-        Emptied::Nobody => output::pour(stdout, out, at, b"\n"),
+        Emptied::Nobody => out.pour(b"\n"),
         Emptied::Was(key) => {
-            let next = output::pour_counted(stdout, out, at, b" emptied ", key.sender);
-            output::pour_counted_line(stdout, out, next, b" ", key.sequence)
+            out.pour_counted(b" emptied ", key.sender);
+            out.pour_counted_line(b" ", key.sequence);
         }
     }
 }
 
 // Line n.
-pub fn pour_line(
-    stdout: Stdout,
-    out: &mut [u8],
-    at: usize,
-    n: u64,
-    answer: Answer,
-    emptied: Emptied,
-) -> usize
-    ensures { Pours out.old at (line n answer emptied) out.new result }
+pub fn pour_line(out: &mut Output, n: u64, answer: Answer, emptied: Emptied)
+    ensures { Adds out.old (line n (answer_told answer) emptied) out.new }
 {
-    let a = output::pour_decimal(stdout, out, at, n);
-    let b = pour_answer(stdout, out, a, answer);
-    pour_emptied(stdout, out, b, emptied)
+    out.pour_decimal(n);
+    pour_answer(out, answer);
+    pour_emptied(out, emptied);
 }

@@ -1,6 +1,6 @@
 -- The lines of the program `replay_log`, in ASCII, and what they are about. Definitions only.
 use Rattle.std.specs.Prelude.{List, [], ◌∷◌, ◌++◌, ℕ, ◌+◌}
-use Rattle.wire.specs.Slices.{Buffer}
+use Rattle.steps.specs.Answers.{answer_told}
 use Rattle.steps.specs.Receive.{After}
 use Rattle.steps.specs.Runs.{World, world_of, begun}
 use Rattle.receiver.specs.Lent.{Lent}
@@ -10,15 +10,16 @@ use Rattle.flight_log.specs.Editions.{limits_in_lem}
 use Rattle.flight_log.specs.Entries.{Entry}
 use Rattle.flight_log.specs.Listed.{Listed, whole, broken, entries_in}
 use Rattle.within_limits.specs.Within.{step_within, ReceivesWithin}
-use Rattle.output.specs.Output.{Pours}
+use Rattle.output.specs.declared.Output.{Output}
+use Rattle.output.specs.Output.{Adds}
 use Rattle.log_lines.specs.Lines.{end_line, refused_line}
 use Rattle.replay_lines.specs.Lines.{line}
 
 -- An entry's datagram was received from its sender over what is lent, within a log's limits, and line n says the outcome.
-pub record Replayed (limits : Limits) (l : Lent) (e : Entry) (number : ℕ) (out : Buffer) (at : ℕ) (l' : Lent) (r : ℕ) : Type 0 where
+pub record Replayed (limits : Limits) (l : Lent) (e : Entry) (number : ℕ) (out : Output) (l' : Lent) (out' : Output) : Type 0 where
   pub outcome : Outcome
   pub heard : ReceivesWithin limits l e.sender e.datagram outcome l'
-  pub said : Pours out.before at (line number outcome.answer outcome.emptied) out.after r
+  pub said : Adds out (line number (answer_told outcome.answer) outcome.emptied) out'
 
 -- an entry's call of the step list, within a log's limits
 abbrev pub heard_by : Limits → World → Entry → After

@@ -1,12 +1,13 @@
 -- The lines of the program `replay`, in ASCII, and what they are about. Definitions only.
 use Rattle.std.specs.Prelude.{List, ℕ}
-use Rattle.wire.specs.Slices.{Buffer}
+use Rattle.steps.specs.Answers.{answer_told}
 use Rattle.steps.specs.Receive.{After}
 use Rattle.steps.specs.Runs.{World, world_of, begun, from, call}
 use Rattle.receiver.specs.declared.Outcome.{Outcome}
 use Rattle.receiver.specs.Lent.{Lent}
 use Rattle.receiver.specs.Calls.{Receives}
-use Rattle.output.specs.Output.{Pours, last_line}
+use Rattle.output.specs.declared.Output.{Output}
+use Rattle.output.specs.Output.{Adds, last_line}
 use Rattle.record_lines.specs.Streams.{Rec, Stream}
 use Rattle.record_lines.specs.Lines.{Says, lines_after}
 use Rattle.replay_lines.specs.Lines.{line}
@@ -16,10 +17,10 @@ abbrev pub only_sender : ℕ
 only_sender = 0
 
 -- Datagram d was received over what is lent, and line n says the outcome.
-pub record Replayed (l : Lent) (d : List ℕ) (number : ℕ) (out : Buffer) (at : ℕ) (l' : Lent) (r : ℕ) : Type 0 where
+pub record Replayed (l : Lent) (d : List ℕ) (number : ℕ) (out : Output) (l' : Lent) (out' : Output) : Type 0 where
   pub outcome : Outcome
   pub heard : Receives l only_sender d outcome l'
-  pub said : Pours out.before at (line number outcome.answer outcome.emptied) out.after r
+  pub said : Adds out (line number (answer_told outcome.answer) outcome.emptied) out'
 
 -- a datagram's call of the step list
 abbrev pub heard_by : World → Rec → After

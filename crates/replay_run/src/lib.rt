@@ -2,19 +2,20 @@
 // to a fresh receiver, and a line says what it answers.
 #![tactic(auto)]
 
-ghost use Rattle.std.specs.Prelude.{◌≤◌, ◌≡◌, true, length};
+ghost use Rattle.std.specs.Prelude.{◌≤◌, ◌≡◌, length};
 ghost use Rattle.wire.specs.Slices.{buffer};
-ghost use Rattle.receiver_state.specs.View.{shaped};
-ghost use Rattle.receiver.specs.Lent.{lent_before, lent_after};
+ghost use Rattle.steps.specs.Runs.{World};
+ghost use Rattle.receiver.specs.Lent.{world_in};
 ghost use Rattle.stream.specs.declared.Kind.TheVariants.{Bytes2};
 ghost use Rattle.output.specs.Output.{line_limit};
 ghost use Rattle.record_lines.specs.Lines.{Tells};
-ghost use Rattle.replay_run.specs.Lines.{lines, Replayed};
-ghost use Rattle.replay_run.specs.Inside.{lines_with};
+ghost use Rattle.replay_run.specs.Lines.{lines, says, Replayed};
+ghost use Rattle.replay_run.specs.Inside.{lent_in};
 
-use receiver::Call;
+use output::Output;
+use record_lines::Teller;
 use std::io::{Stdin, Stdout};
-use stream::{Input, Kind, Next};
+use stream::{Input, Kind};
 
 // The bytes of the store, by the paper.
 const STORE: usize = 65536;
@@ -22,94 +23,61 @@ const STORE: usize = 65536;
 // The bytes of the input buffer of a program that replays.
 pub const HOLDS: usize = 262144;
 
-// Datagram n is received, and its line goes out. Answers the place after it. All are of one sender, 0.
-fn one_more(
-    stdout: Stdout,
-    out: &mut [u8],
-    at: usize,
-    n: u64,
-    state: &mut [u64],
-    names: &mut [u8],
-    store: &mut [u8],
-    ledger: &mut [u32],
-    d: &[u8],
-) -> usize
-    ensures { Replayed (lent_before state names store ledger) d.now n (buffer out) at (lent_after state names store ledger) result }
-{
-    let outcome = receiver::receive(state, names, store, ledger, 0, d);
-    let answer = outcome.answer;
-    let emptied = outcome.emptied;
-    replay_lines::pour_line(stdout, out, at, n, answer, emptied)
+// A receiver, and the memory that it works in.
+#[derive(Drop)]
+struct Replay {
+    state: [u64; receiver::STATE_WORDS],
+    names: [u8; receiver::NAME_BYTES],
+    store: [u8; STORE],
+    ledger: [u32; receiver::LEDGER],
 }
 
-// One line a datagram of the input, and the last line. Answers whether the system took all of them; it stops where it did not.
-fn replayed(
-    stdin: Stdin,
-    stdout: Stdout,
-    buf: &mut [u8],
-    input: Input,
-    out: &mut [u8],
-    state: &mut [u64],
-    names: &mut [u8],
-    store: &mut [u8],
-    ledger: &mut [u32],
-) -> bool
-    requires { shaped state.old names.old ≡ true }
-    ensures { Tells Bytes2 (lines_with (lent_before state names store ledger)) buf.old input (buffer out) 0 result }
-{
-    let mut rest = input;
-    let mut at: usize = 0;
-    let mut n: u64 = 0;
-    while n < stream::MANY {
-        let next = stream::next_record(stdin, buf, rest, Kind::Bytes2);
-        let Next::Record(from, len, left) = next else {
-            return output::finish(stdout, out, at, n, next);
-        };
-        n += 1;
-        rest = left;
-        at = one_more(
-            stdout,
-            out,
-            at,
-            n,
-            state,
-            names,
-            store,
-            ledger,
-            wire::part(buf, from, len),
+impl Replay {
+    // Datagram n is received, and its line goes out. All are of one sender, 0.
+    fn hear(&mut self, out: &mut Output, n: u64, d: &[u8])
+        ensures { Replayed (lent_in self.old) d.now n out.old (lent_in self.new) out.new }
+    {
+        let outcome = receiver::receive(
+            &mut self.state,
+            &mut self.names,
+            &mut self.store,
+            &mut self.ledger,
+            0,
+            d,
         );
-        if at == output::CLOSED {
-            return false;
-        }
+        replay_lines::pour_line(out, n, outcome.answer, outcome.emptied);
     }
-    output::finish(stdout, out, at, n, Next::Cut)
 }
 
-// The same over a fresh receiver. A state of the receiver's own lengths is opened, so the refusal, after which nothing would be replayed, does
-// not come.
+impl Teller for Replay {
+    ghost Known = { World };
+
+    ghost says = { says };
+
+    ghost known = { λ r. world_in (lent_in r) };
+
+    fn line(&mut self, out: &mut Output, n: u64, _head: &[u8], body: &[u8]) {
+        self.hear(out, n, body);
+    }
+}
+
+// One line a datagram of the input, and the last line, over a fresh receiver. Answers whether the system took all of them; it stops where it
+// did not. A state of the receiver's own lengths is opened, so the refusal, after which nothing would be replayed, does not come.
 fn afresh(stdin: Stdin, stdout: Stdout, buf: &mut [u8], input: Input, out: &mut [u8]) -> bool
     requires { line_limit ≤ length out.old }
     ensures { Tells Bytes2 lines buf.old input (buffer out) 0 result }
 {
-    let mut state = [0u64; receiver::STATE_WORDS];
-    let mut names = [0u8; receiver::NAME_BYTES];
-    let mut store = [0u8; STORE];
-    let mut ledger = [0u32; receiver::LEDGER];
-    let opened = open_and_payload::open(&mut state, &mut names, STORE);
-    let Call::Done = opened else {
+    let mut replay = Replay {
+        state: [0u64; receiver::STATE_WORDS],
+        names: [0u8; receiver::NAME_BYTES],
+        store: [0u8; STORE],
+        ledger: [0u32; receiver::LEDGER],
+    };
+    let Ok(()) = open_and_payload::open(&mut replay.state, &mut replay.names, STORE) else {
         return false;
     };
-    replayed(
-        stdin,
-        stdout,
-        buf,
-        input,
-        out,
-        &mut state,
-        &mut names,
-        &mut store,
-        &mut ledger,
-    )
+    let mut out = Output::new(stdout, out);
+    record_lines::tell(stdin, buf, input, Kind::Bytes2, &mut out, &mut replay)
 }
 
 // Replays standard input over a lent buffer. What is read and written no contract can say; the buffer keeps its length.

@@ -7,7 +7,7 @@ use Rattle.count_rules.specs.Run.{payloads}
 use Rattle.pit_marks.specs.Lines.{Lays}
 use Rattle.count_rules.specs.Walk.{seen_after}
 use Rattle.count_rules.proofs.ReportByLists.{same-report}
-use Rattle.stretch.specs.declared.Stretch.{Stretch}
+use Rattle.stretch.specs.Stop.{Stretch}
 use Rattle.stretch.specs.Stretch.{Clean}
 use Rattle.season.specs.Season.{Map, map_of, Shows, Flight, flown, season, lists_of_all, Handed, Unrefused}
 use Rattle.season.specs.Calls.{Flew, Flown, landed, flew, CodeSeason, CodeAnyOrder}

@@ -4,8 +4,8 @@ use Rattle.wire.proofs.Choices.{zero-is-one}
 use Rattle.wire.specs.Choice.{pick}
 use Rattle.steps.specs.Answers.{Reply}
 use Rattle.flight_log.specs.declared.reader.Limits.{Limits}
-use Rattle.flight_log.specs.declared.reader.Step.{Step}
-use Rattle.flight_log.specs.declared.reader.Step.TheVariants as step
+use Rattle.flight_log.specs.Step.{Step}
+use Rattle.flight_log.specs.Step as step
 use Rattle.flight_log.specs.Said.{entry_said, read_at, onward, read_on}
 use Rattle.sorted_set.proofs.Members.{gather_append}
 use Rattle.count_rules.specs.Marks.{PitList, list_in}
@@ -13,8 +13,8 @@ use Rattle.count_rules.specs.Run.{answer_to, answers, payload_in, payloads}
 use Rattle.pit_marks.specs.declared.Sizes.{Sizes}
 use Rattle.pit_marks.specs.Sets.{rooms, Has}
 use Rattle.pit_payloads.specs.Took.{fault_in, fault_over}
-use Rattle.stretch.specs.declared.Stop.{Stop}
-use Rattle.stretch.specs.declared.Stop.TheVariants as stop
+use Rattle.stretch.specs.Stop.{Stop}
+use Rattle.stretch.specs.Stop as stop
 use Rattle.stretch.specs.Stretch.{Kit, called_on, Entered, enter_on, Stretched, here, by_step, stretch, stop_fault, entries_of}
 use Rattle.stretch.proofs.StretchAnswers.{entries-after, clean-answers, refused-some}
 use Rattle.season.specs.Season.{Handed, first_over}

@@ -8,22 +8,21 @@ use Rattle.lmcp.specs.Run.{got, refused}
 use Rattle.lmcp.specs.Read.{Read}
 use Rattle.lmcp.specs.Lists.{read_list}
 use Rattle.flight_log.specs.declared.reader.Limits.{Limits}
-use Rattle.flight_log.specs.declared.reader.Step.{Step}
-use Rattle.flight_log.specs.declared.reader.Step.TheVariants as step
+use Rattle.flight_log.specs.Step.{Step}
+use Rattle.flight_log.specs.Step as step
 use Rattle.flight_log.specs.Said.{entry_said, read_at}
-use Rattle.sorted_set.specs.declared.Entered.{Entered}
-use Rattle.sorted_set.specs.declared.Entered.TheVariants.{Now, Full}
+use Rattle.std.proofs.Common.{Option, Some, None}
 use Rattle.sorted_set.specs.Halving.{held, is_there, no_room_lem, entered, words_with}
 use Rattle.sorted_set.proofs.Sets.{words_long}
 use Rattle.count_rules.specs.Marks.{Mark, at}
 use Rattle.pit_marks.specs.declared.Sizes.{Sizes}
-use Rattle.pit_marks.specs.declared.Taken.{Taken}
-use Rattle.pit_marks.specs.declared.Taken.TheVariants as taken
+use Rattle.pit_marks.specs.Taken.{Taken}
+use Rattle.pit_marks.specs.Taken as taken
 use Rattle.pit_marks.specs.Sets.{Sets, held_in}
 use Rattle.pit_marks.specs.Enters.{key_in, with_pits, with_tiles, sizes_of, Pitted, pitted, sure_entered, if_sure, pit_entered, enter_pit_lem, onward, enter_marks, tile_entered, elements_of, enter_list_lem}
 use Rattle.pit_payloads.specs.Looks.{Left, in_read}
 use Rattle.pit_payloads.specs.Took.{fault_in, sizes_in}
-use Rattle.stretch.specs.declared.Stop.TheVariants as stop
+use Rattle.stretch.specs.Stop as stop
 use Rattle.stretch.specs.Stretch.{Kit, looked_at, kit_with, enter_on, here, by_step, stretch}
 use Rattle.pit_payloads.proofs.PayloadTaken.{sizes-same}
 
@@ -44,11 +43,11 @@ fits-held x had f =
 
 -- ---- one number into one set
 
-now-most : (w : List ℕ) (n x m : ℕ) → entered w n x ≡ Now m → m ≤ length (words_with w n x)
+now-most : (w : List ℕ) (n x m : ℕ) → entered w n x ≡ Some m → m ≤ length (words_with w n x)
 unfolding entered
 now-most w n x m e = by (is_there w n x) (no_room_lem w n) refl e
   where
-    by : (a b : Bool) → no_room_lem w n ≡ b → pick a (Now (held w n)) (pick b Full (Now (held w n + 1))) ≡ Now m → m ≤ length (words_with w n x)
+    by : (a b : Bool) → no_room_lem w n ≡ b → pick a (Some (held w n)) (pick b None (Some (held w n + 1))) ≡ Some m → m ≤ length (words_with w n x)
     by true b q u = let z : held w n ≡ m = cc in omega (arith, words_long w n x)
     by false true q u = absurd (let z : ◌≡◌ {A = ℕ} 0 1 = cc in let y : ⊥ = omega arith in y)
     by false false q u = let z : held w n + 1 ≡ m = cc in let o : min n (length w) ≡ length w → ⊥ = eqb-false _ _ q in omega (arith, words_long w n x)
@@ -61,19 +60,19 @@ record FitsP (n : ℕ) (X : Pitted) : Type 0 where
   sure : (sizes_of X.answer).sure ≤ length X.sure
 
 module _ (n : ℕ) where
-  sure-fits : (E : Entered) (p s : List ℕ) (x : ℕ) (had : Sizes) → entered s had.sure x ≡ E → had.tiles ≡ n → had.pits ≤ length p → had.sure ≤ length s
+  sure-fits : (E : Option ℕ) (p s : List ℕ) (x : ℕ) (had : Sizes) → entered s had.sure x ≡ E → had.tiles ≡ n → had.pits ≤ length p → had.sure ≤ length s
       → FitsP n (sure_entered E p (words_with s had.sure x) had)
-  sure-fits (Now m) p s x had e t a b = record { tiles = t; pits = a; sure = now-most s had.sure x m e }
-  sure-fits Full p s x had e t a b = record { tiles = t; pits = a; sure = omega (arith, words_long s had.sure x) }
+  sure-fits (Some m) p s x had e t a b = record { tiles = t; pits = a; sure = now-most s had.sure x m e }
+  sure-fits None p s x had e t a b = record { tiles = t; pits = a; sure = omega (arith, words_long s had.sure x) }
 
   if-fits : (c : Bool) (p s : List ℕ) (x : ℕ) (had : Sizes) → had.tiles ≡ n → had.pits ≤ length p → had.sure ≤ length s → FitsP n (if_sure c x p s had)
   if-fits true p s x had t a b = sure-fits (entered s had.sure x) p s x had refl t a b
   if-fits false p s x had t a b = record { tiles = t; pits = a; sure = b }
 
-  entered-fits : (E : Entered) (c : Bool) (p s : List ℕ) (x : ℕ) (had : Sizes) → entered p had.pits x ≡ E → had.tiles ≡ n → had.pits ≤ length p → had.sure ≤ length s
+  entered-fits : (E : Option ℕ) (c : Bool) (p s : List ℕ) (x : ℕ) (had : Sizes) → entered p had.pits x ≡ E → had.tiles ≡ n → had.pits ≤ length p → had.sure ≤ length s
       → FitsP n (pit_entered E c x (words_with p had.pits x) s had)
-  entered-fits (Now m) c p s x had e t a b = if-fits c (words_with p had.pits x) s x (with_pits m had) t (now-most p had.pits x m e) b
-  entered-fits Full c p s x had e t a b = record { tiles = t; pits = omega (arith, words_long p had.pits x); sure = b }
+  entered-fits (Some m) c p s x had e t a b = if-fits c (words_with p had.pits x) s x (with_pits m had) t (now-most p had.pits x m e) b
+  entered-fits None c p s x had e t a b = record { tiles = t; pits = omega (arith, words_long p had.pits x); sure = b }
 
   pit-fits : (c : Bool) (x : ℕ) (p s : List ℕ) (had : Sizes) → had.tiles ≡ n → had.pits ≤ length p → had.sure ≤ length s → FitsP n (enter_pit_lem c x p s had)
   unfolding enter_pit_lem
@@ -99,11 +98,11 @@ list-fits : (l : List ℤ) (x : Sets) (had : Sizes) → Fits x had → Fits (ent
 unfolding enter_list_lem
 list-fits l x had f = by (entered x.tiles had.tiles (at l 2)) refl
   where
-    by : (E : Entered) → entered x.tiles had.tiles (at l 2) ≡ E → let Y = tile_entered E (words_with x.tiles had.tiles (at l 2)) (enter_marks (at l 2) (elements_of l)) x had in Fits Y.sets (sizes_of Y.answer)
-    by (Now m) e =
+    by : (E : Option ℕ) → entered x.tiles had.tiles (at l 2) ≡ E → let Y = tile_entered E (words_with x.tiles had.tiles (at l 2)) (enter_marks (at l 2) (elements_of l)) x had in Fits Y.sets (sizes_of Y.answer)
+    by (Some m) e =
         let g : FitsP m (enter_marks (at l 2) (elements_of l) x.pits x.sure (with_tiles m had)) = marks_fit m (at l 2) (elements_of l) x.pits x.sure (with_tiles m had) refl f.pits f.sure in
         record { tiles = (let o = now-most x.tiles had.tiles (at l 2) m e in omega (arith, g.tiles)); pits = g.pits; sure = g.sure }
-    by Full e = record { tiles = (let o = f.tiles in omega (arith, words_long x.tiles had.tiles (at l 2))); pits = f.pits; sure = f.sure }
+    by None e = record { tiles = (let o = f.tiles in omega (arith, words_long x.tiles had.tiles (at l 2))); pits = f.pits; sure = f.sure }
 
 -- ---- a payload
 

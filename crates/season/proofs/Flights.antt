@@ -7,7 +7,7 @@ use Rattle.wire.specs.Taken.{Taken, taken, refused}
 use Rattle.steps.specs.Receive.{opened}
 use Rattle.steps.specs.Runs.{lending}
 use Rattle.receiver_state.specs.View.{state_words_lem, name_bytes_lem, view, shaped}
-use Rattle.receiver.specs.declared.Call.{Call}
+use Rattle.receiver.specs.Calls.{Call}
 use Rattle.receiver.specs.Lent.{lent}
 use Rattle.open_and_payload.specs.Ends.{Opens}
 use Rattle.flight_log.specs.Editions.{Edition, head_in, limits_in_lem}
@@ -15,16 +15,15 @@ use Rattle.flight_log.specs.Entries.{Entry}
 use Rattle.flight_log.specs.Listed.{entry_in}
 use Rattle.flight_log.specs.declared.reader.Limits.{Limits}
 use Rattle.flight_log.specs.declared.reader.EntryAt.{EntryAt}
-use Rattle.flight_log.specs.declared.reader.Step.{Step}
-use Rattle.flight_log.specs.declared.reader.Step.TheVariants.{Found, End, Refused}
+use Rattle.flight_log.specs.Step.{Step, Found, End, Refused}
 use Rattle.flight_log.specs.Said.{first_of, first_in, entry_at, step_of, step_in, next_at, entry_said, from_first, read_at}
 use Rattle.flight_log.proofs.ReadingOn.{Found_at, found_at}
 use Rattle.sorted_set.specs.Lists.{In}
 use Rattle.count_rules.specs.Run.{payloads}
 use Rattle.pit_payloads.specs.Looks.{book}
 use Rattle.pit_payloads.specs.Took.{fault_in}
-use Rattle.stretch.specs.declared.Stop.TheVariants as stop
-use Rattle.stretch.specs.declared.Stretch.{Stretch}
+use Rattle.stretch.specs.Stop as stop
+use Rattle.stretch.specs.Stop.{Stretch}
 use Rattle.stretch.specs.Stretch.{Desk, desk, Kit, kit_of, in_shape, Entered, enter_on, Stretched, here, by_step, stretch, told_on, stretch_of, CountsOn}
 use Rattle.season.specs.Season.{Map, Flight, set_out_lem, flown, Handed}
 use Rattle.season.proofs.Fits.{Fits, fits-held}

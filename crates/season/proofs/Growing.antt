@@ -12,10 +12,9 @@ use Rattle.flight_log.specs.Entries.{Entry, entry_bytes}
 use Rattle.flight_log.specs.Listed.{entry_in}
 use Rattle.flight_log.specs.declared.reader.Limits.{Limits}
 use Rattle.flight_log.specs.declared.reader.EntryAt.{EntryAt}
-use Rattle.flight_log.specs.declared.reader.First.{First}
-use Rattle.flight_log.specs.declared.reader.First.TheVariants as first
-use Rattle.flight_log.specs.declared.reader.Step.{Step}
-use Rattle.flight_log.specs.declared.reader.Step.TheVariants.{Found, End, Refused}
+use Rattle.flight_log.specs.First.{First}
+use Rattle.flight_log.specs.First as first
+use Rattle.flight_log.specs.Step.{Step, Found, End, Refused}
 use Rattle.flight_log.specs.Said.{first_of, first_in, entry_at, step_of, step_in, next_at, entry_said, from_first, read_at}
 use Rattle.flight_log.proofs.LogRoundTrip.{entry-back, Back, back-entry, head-back, HeadBack, back_head}
 use Rattle.flight_log.proofs.ReadingOn.{found_at}
@@ -24,9 +23,9 @@ use Rattle.count_rules.specs.Run.{payloads}
 use Rattle.pit_marks.specs.declared.Sizes.{Sizes}
 use Rattle.pit_marks.specs.Sets.{held_in}
 use Rattle.pit_payloads.specs.Took.{fault_in, lists_in}
-use Rattle.stretch.specs.declared.Stop.{Stop}
-use Rattle.stretch.specs.declared.Stop.TheVariants as stop
-use Rattle.stretch.specs.declared.Stretch.{Stretch}
+use Rattle.stretch.specs.Stop.{Stop}
+use Rattle.stretch.specs.Stop as stop
+use Rattle.stretch.specs.Stop.{Stretch}
 use Rattle.stretch.specs.Stretch.{Desk, Kit, kit_of, in_shape, Entered, enter_on, Stretched, here, before, taking, by_step, stretch, Clean, told_on, stretch_of, CountsOn}
 use Rattle.stretch.proofs.MidStretch.{before-none, before-both, payloads-both, shape_same}
 use Rattle.season.specs.Season.{both, Begun, from_first_lem, past_head, LogGrows}

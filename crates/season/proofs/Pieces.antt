@@ -5,8 +5,8 @@ use Rattle.wire.specs.Choice.{pick}
 use Rattle.words.specs.Builds.{build}
 use Rattle.steps.specs.Answers.{Reply}
 use Rattle.flight_log.specs.declared.reader.Limits.{Limits}
-use Rattle.flight_log.specs.declared.reader.Step.{Step}
-use Rattle.flight_log.specs.declared.reader.Step.TheVariants as step
+use Rattle.flight_log.specs.Step.{Step}
+use Rattle.flight_log.specs.Step as step
 use Rattle.flight_log.specs.Editions.{limits_in_lem}
 use Rattle.flight_log.specs.Said.{entry_said, read_at}
 use Rattle.sorted_set.specs.Lists.{In}
@@ -15,8 +15,8 @@ use Rattle.count_rules.proofs.Steps.{how_many-append}
 use Rattle.pit_marks.specs.declared.Sizes.{Sizes}
 use Rattle.pit_marks.specs.Sets.{held_in}
 use Rattle.pit_payloads.specs.Took.{fault_in, lists_in}
-use Rattle.stretch.specs.declared.Stop.TheVariants as stop
-use Rattle.stretch.specs.declared.Stretch.{Stretch}
+use Rattle.stretch.specs.Stop as stop
+use Rattle.stretch.specs.Stop.{Stretch}
 use Rattle.stretch.specs.Stretch.{Desk, Kit, kit_of, in_shape, Entered, enter_on, Stretched, here, before, by_step, stretch, totals_of, told_on, stretch_of, CountsOn}
 use Rattle.stretch.proofs.MidStretch.{before-none, before-both, payloads-both, shape_same}
 use Rattle.season.specs.Season.{and_on, added_up, both_totals, both}

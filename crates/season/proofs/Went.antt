@@ -4,8 +4,8 @@ use Rattle.wire.specs.Choice.{pick}
 use Rattle.steps.specs.Answers.{Reply, refused_by, kept, repeat, delivered}
 use Rattle.steps.specs.Runs.{World}
 use Rattle.flight_log.specs.declared.reader.Limits.{Limits}
-use Rattle.flight_log.specs.declared.reader.Step.{Step}
-use Rattle.flight_log.specs.declared.reader.Step.TheVariants as step
+use Rattle.flight_log.specs.Step.{Step}
+use Rattle.flight_log.specs.Step as step
 use Rattle.flight_log.specs.Said.{entry_said, read_at}
 use Rattle.sorted_set.specs.Lists.{In}
 use Rattle.sorted_set.proofs.Members.{in_left, in_right, in_either}
@@ -17,8 +17,8 @@ use Rattle.pit_marks.specs.Sets.{Sets, rooms, Has, PartOf, Partly}
 use Rattle.pit_payloads.specs.Took.{fault_in, lists_in, fault_over}
 use Rattle.pit_payloads.specs.Inside.{Took}
 use Rattle.pit_payloads.proofs.PayloadTaken.{takes}
-use Rattle.stretch.specs.declared.Stop.{Stop}
-use Rattle.stretch.specs.declared.Stop.TheVariants as stop
+use Rattle.stretch.specs.Stop.{Stop}
+use Rattle.stretch.specs.Stop as stop
 use Rattle.stretch.specs.Stretch.{Kit, looked_at, kit_with, Entered, enter_on, Stretched, here, before, by_step, stretch, Clean, stop_fault}
 use Rattle.stretch.proofs.StretchAnswers.{list-long, seen-then, lists-both}
 use Rattle.season.specs.Season.{Handed, first_over}

@@ -3,14 +3,14 @@ use Rattle.std.specs.Prelude.{◌≡◌, List, [], ◌∷◌, ◌++◌, ℕ, len
 use Rattle.wire.specs.Bytes.{Bytes}
 use Rattle.wire.specs.Slices.{Buffer}
 use Rattle.receiver_state.specs.View.{state_words_lem, name_bytes_lem}
-use Rattle.receiver.specs.declared.Call.{Call}
+use Rattle.receiver.specs.Calls.{Call}
 use Rattle.receiver.specs.Lent.{lent}
 use Rattle.open_and_payload.specs.Ends.{Opens}
 use Rattle.count_rules.specs.Marks.{PitList}
 use Rattle.pit_marks.specs.Lines.{Lays}
 use Rattle.pit_payloads.specs.Looks.{book}
-use Rattle.stretch.specs.declared.Stop.TheVariants as stop
-use Rattle.stretch.specs.declared.Stretch.{Stretch}
+use Rattle.stretch.specs.Stop as stop
+use Rattle.stretch.specs.Stop.{Stretch}
 use Rattle.stretch.specs.Stretch.{Desk, desk, CountsOn}
 use Rattle.season.specs.Season.{Map, Shows, Flight, lists_of_all, LinesOf, SameLogs}
 

@@ -18,9 +18,9 @@ use Rattle.pit_marks.specs.declared.Sizes.{Sizes}
 use Rattle.pit_marks.specs.Sets.{Sets, Has}
 use Rattle.pit_marks.specs.Lines.{Lays}
 use Rattle.pit_payloads.specs.Took.{fault_over}
-use Rattle.stretch.specs.declared.Stop.TheVariants as stop
+use Rattle.stretch.specs.Stop as stop
 use Rattle.stretch.specs.declared.Totals.{Totals}
-use Rattle.stretch.specs.declared.Stretch.{Stretch}
+use Rattle.stretch.specs.Stop.{Stretch}
 use Rattle.stretch.specs.Stretch.{Desk, Kit, Stretched, before, stretch, Clean, entries_of, CountsOn}
 
 -- ---- in pieces

@@ -1,14 +1,8 @@
 -- Turns that stay. Assumes nothing.
-use Rattle.wire.proofs.Basics.{◌∙◌, ◌≡◌, ap, refl, ℕ, ◌≤◌, ◌+◌, ◌<◌, suc, zero, List, [], ◌∷◌, not, get_or, set, eqb, le-ltb, dec_le, arith}
+use Rattle.wire.proofs.Basics.{◌∙◌, ◌≡◌, ap, refl, ℕ, ◌≤◌, ◌+◌, ◌<◌, suc, zero, List, [], ◌∷◌, not, get_or, set, eqb, le-ltb, arith}
 use Rattle.wire.proofs.Choices.{and-false}
 use Rattle.ranks.specs.declared.Ranked.{Ranked}
 use Rattle.ranks.specs.Ranks.{place_at, mark_of, rank_of, lower_rank_lem, ranks_lowered}
-
-pub above_more : (f : ℕ → ℕ) (i t x : ℕ) → x ≡ f i → x ≤ t → ((j : ℕ) → j < i → f j ≤ t) → (j : ℕ) → j < i + 1 → f j ≤ t
-above_more f i t x e h d j l = elim (dec_le (suc j) i) [
-  | yes q ↦ d j q
-  | no q ↦ let z : j ≡ i = omega arith in rw z (omega arith)
-]
 
 set_self : (w : List ℕ) (k : ℕ) → set w k (get_or w k 0) ≡ w
 set_self [] k = refl

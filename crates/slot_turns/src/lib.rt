@@ -27,26 +27,11 @@ pub fn oldest(state: &[u64]) -> usize
     ranks::lowest_ranked(state, turns(), slots::SLOTS)
 }
 
-// The turn of slot i.
-fn turn_of(state: &[u64], i: usize) -> u64
-    requires { i < slot_count }
-    ensures { result ≡ at state.now i turn_word }
-{
-    words::word(state, slots::HEAD + slots::BLOCK * i + slots::TURN)
-}
-
 // Where this is true, no turn is above t.
 fn none_above(state: &[u64], t: u64) -> bool
     ensures { result ≡ true → (i : ℕ) → i < slot_count → at state.now i turn_word ≤ t }
 {
-    let mut i: usize = 0;
-    while i < slots::SLOTS {
-        if t < turn_of(state, i) {
-            return false;
-        }
-        i += 1;
-    }
-    true
+    (0..slots::SLOTS).all(|i| slots::word_of(state, i, slots::TURN) <= t)
 }
 
 // A slot of turn t was freed: each open slot with a turn above it falls by one.

@@ -1,27 +1,20 @@
--- Laws of the definitions of specs/Words.antt, one turn at a time, as the loops use them.
-use Rattle.wire.proofs.Basics.{◌∙◌, sym, ap, ◌≡◌, ℕ, ◌+◌, ◌<◌, suc, zero, true, false, Bool, ℕ_discrete, add-one, arith}
-use Rattle.steps.specs.Search.{count}
-use Rattle.slots.specs.declared.Found.TheVariants.{At, Nothing}
+-- What a search of the slots finds. Assumes nothing.
+use Rattle.wire.proofs.Basics.{refl, ◌≤◌, sym, ◌≡◌, ℕ, ◌<◌, suc, zero, true, false, Bool, ℕ_discrete, arith}
+use Rattle.std.specs.Prelude.{Option, Some, None, MatchOption}
 use Rattle.slots.specs.Words.{first_below}
 
 module _ (p : ℕ → Bool) where
-  pub first-none : (i : ℕ) → first_below p i ≡ Nothing → p i ≡ false → first_below p (i + 1) ≡ Nothing
-  first-none i a e = rw add-one (rw (a, e))
-
-  pub first-here : (i n : ℕ) → i < n → first_below p i ≡ Nothing → p i ≡ true → first_below p n ≡ At i
+  pub first-here : (i n : ℕ) → i < n → first_below p i ≡ None → p i ≡ true → first_below p n ≡ Some i
   first-here i zero h a e = absurd (omega arith)
   first-here i (suc n) h a e = elim (ℕ_discrete n i) [ yes q ↦ rw q (rw (a, e)) | no q ↦ rw (first-here i n (omega arith) a e) ]
 
-  pub count_yes : (i : ℕ) → p i ≡ true → count p (i + 1) ≡ count p i + 1
-  count_yes i e = rw add-one (rw e (omega arith))
+pub none-below : (p : ℕ → Bool) (n : ℕ) → ((k : ℕ) → k < n → p k ≡ false) → first_below p n ≡ None
+none-below p zero h = refl
+none-below p (suc n) h = rw (none-below p n (λ i k. h i (omega arith)), h n (omega arith)) refl
 
-  pub count_no : (i : ℕ) → p i ≡ false → count p (i + 1) ≡ count p i
-  count_no i e = rw add-one (rw e (omega arith))
-
-  -- one more is passed, which counts exactly when x is not 0
-  pub count_turn : (i x n m : ℕ) → (x ≡ 0 → p i ≡ false) → ((x ≡ 0 → ⊥) → p i ≡ true) → n ≡ count p i → ((x ≡ 0 → ⊥) → m ≡ n + 1) → (x ≡ 0 → m ≡ n)
-      → m ≡ count p (i + 1)
-  count_turn i x n m none some e more same = elim (ℕ_discrete x 0) [
-    | yes q ↦ same q ∙ e ∙ sym (count_no i (none q))
-    | no q ↦ more q ∙ ap (λ k. k + 1) e ∙ sym (count_yes i (some q))
-  ]
+-- what a search of a range finds is the first that passes
+pub find-first : (p : ℕ → Bool) (n : ℕ) (r : Option ℕ)
+    → MatchOption r ((k : ℕ) → 0 ≤ k → k < n → p k ≡ false) (λ i. (0 ≤ i) × (i < n) × (p i ≡ true) × ((k : ℕ) → 0 ≤ k → k < i → p k ≡ false))
+    → r ≡ first_below p n
+find-first p n None h = sym (none-below p n (λ k l. h k (omega arith) l))
+find-first p n (Some i) h = sym (first-here p i n h.1 (none-below p i (λ k l. h.3 k (omega arith) l)) h.2)

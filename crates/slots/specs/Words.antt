@@ -1,11 +1,9 @@
 -- The slots' words, and what the functions find and leave in them. Definitions only.
 -- After the words of the head each slot has a block: sender, sequence, size, count, turn, and the words of held fragments.
-use Rattle.std.specs.Prelude.{Bool, true, false, not, ◌&&◌, ◌||◌, List, ℕ, zero, suc, ◌+◌, ◌*◌, get_or, eqb, leb}
+use Rattle.std.specs.Prelude.{Option, Some, None, Bool, true, false, not, ◌&&◌, ◌||◌, List, ℕ, zero, suc, ◌+◌, ◌*◌, get_or, eqb, leb}
 use Rattle.datagram.specs.Limits.{max_fragments}
 use Rattle.steps.specs.Held.{held_words}
 use Rattle.ranks.specs.declared.Ranked.{Ranked}
-use Rattle.slots.specs.declared.Found.{Found}
-use Rattle.slots.specs.declared.Found.TheVariants.{At, Nothing}
 
 -- the words before the first slot's: the store's length at opening, and the slot size
 abbrev pub head_words : ℕ
@@ -47,13 +45,13 @@ abbrev pub at : List ℕ → ℕ → ℕ → ℕ
 at w i j = get_or w (block_at i + j) 0
 
 -- the least number below n that passes
-abbrev pub or_here : Found → Bool → ℕ → Found
-or_here (At i) b n = At i
-or_here Nothing true n = At n
-or_here Nothing false n = Nothing
+abbrev pub or_here : Option ℕ → Bool → ℕ → Option ℕ
+or_here (Some i) b n = Some i
+or_here None true n = Some n
+or_here None false n = None
 
-abbrev pub first_below : (ℕ → Bool) → ℕ → Found
-first_below p zero = Nothing
+abbrev pub first_below : (ℕ → Bool) → ℕ → Option ℕ
+first_below p zero = None
 first_below p (suc n) = or_here (first_below p n) (p n) n
 
 -- slot i is free, or open, or open for that key

@@ -6,7 +6,7 @@ ghost use Rattle.wire.specs.Overlay.{overlay};
 ghost use Rattle.steps.specs.Search.{all_below, count};
 ghost use Rattle.datagram.specs.Limits.{max_name};
 ghost use Rattle.steps.specs.Limits.{slot_count};
-ghost use Rattle.slots.specs.Words.{block_words, block_at, key_in, free_in, busy_in, first_below, sound_in};
+ghost use Rattle.slots.specs.Words.{block_at, key_in, free_in, busy_in, first_below, sound_in};
 
 // How many messages may be open at once.
 pub const SLOTS: usize = 8;
@@ -29,101 +29,60 @@ pub const HELD_WORDS: usize = held_bits::WORDS;
 // The words of a slot.
 pub const BLOCK: usize = HELD + HELD_WORDS;
 
-#[derive(Clone, Copy)]
-pub enum Found {
-    At(usize),
-    Nothing,
-}
-
-// Word j of slot i.
-fn at(state: &[u64], i: usize, j: usize) -> u64
-    requires { (i < slot_count) × (j < block_words) }
+// Word j of slot i: SENDER, SEQUENCE, SIZE, COUNT, TURN, or one of those from HELD on. A place that saturates is past the end, as the true one is.
+pub fn word_of(state: &[u64], i: usize, j: usize) -> u64
     ensures { result ≡ get_or state.now (block_at i + j) 0 }
 {
-    words::word(state, HEAD + BLOCK * i + j)
+    let block = HEAD.saturating_add(BLOCK.saturating_mul(i));
+    words::word(state, block.saturating_add(j))
 }
 
 fn is_key(state: &[u64], i: usize, sender: u64, sequence: u64) -> bool
     requires { i < slot_count }
     ensures { result ≡ key_in state.now sender sequence i }
 {
-    if at(state, i, COUNT) == 0 {
-        return false;
-    }
-    if at(state, i, SENDER) != sender {
-        return false;
-    }
-    at(state, i, SEQUENCE) == sequence
+    word_of(state, i, COUNT) != 0
+        && word_of(state, i, SENDER) == sender
+        && word_of(state, i, SEQUENCE) == sequence
 }
 
 // The lowest slot in which the key is open.
-pub fn find_open(state: &[u64], sender: u64, sequence: u64) -> Found
+pub fn find_open(state: &[u64], sender: u64, sequence: u64) -> Option<usize>
     ensures { result ≡ first_below (key_in state.now sender sequence) slot_count }
 {
-    let mut i: usize = 0;
-    while i < SLOTS {
-        if is_key(state, i, sender, sequence) {
-            return Found::At(i);
-        }
-        i += 1;
-    }
-    Found::Nothing
+    (0..SLOTS).find(|i| is_key(state, *i, sender, sequence))
 }
 
 // The lowest free slot.
-pub fn lowest_free(state: &[u64]) -> Found
+pub fn lowest_free(state: &[u64]) -> Option<usize>
     ensures { result ≡ first_below (free_in state.now) slot_count }
 {
-    let mut i: usize = 0;
-    while i < SLOTS {
-        if at(state, i, COUNT) == 0 {
-            return Found::At(i);
-        }
-        i += 1;
-    }
-    Found::Nothing
+    (0..SLOTS).find(|i| word_of(state, *i, COUNT) == 0)
 }
 
 // How many slots are open.
 pub fn open_count(state: &[u64]) -> u64
     ensures { result ≡ count (busy_in state.now) slot_count }
 {
-    let mut n: u64 = 0;
-    let mut i: usize = 0;
-    while i < SLOTS {
-        if at(state, i, COUNT) != 0 {
-            n += 1;
-        }
-        i += 1;
-    }
-    n
+    (0..SLOTS)
+        .filter(|i| word_of(state, *i, COUNT) != 0)
+        .count() as u64
 }
 
 fn is_sound(state: &[u64], room: u64, i: usize) -> bool
     requires { i < slot_count }
     ensures { result ≡ sound_in state.now room i }
 {
-    if at(state, i, COUNT) == 0 {
-        return true;
-    }
-    if room < at(state, i, SIZE) {
-        return false;
-    }
-    at(state, i, COUNT) <= datagram::MAX_FRAGMENTS as u64
+    word_of(state, i, COUNT) == 0
+        || word_of(state, i, SIZE) <= room
+            && word_of(state, i, COUNT) <= datagram::MAX_FRAGMENTS as u64
 }
 
 // Of every open slot the size is at most that of a slot, and the count at most that of fragments.
 pub fn all_sound(state: &[u64], room: u64) -> bool
     ensures { result ≡ all_below slot_count (sound_in state.now room) }
 {
-    let mut i: usize = 0;
-    while i < SLOTS {
-        if !is_sound(state, room, i) {
-            return false;
-        }
-        i += 1;
-    }
-    true
+    (0..SLOTS).all(|i| is_sound(state, room, i))
 }
 
 // ---- names

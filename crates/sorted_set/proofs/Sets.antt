@@ -5,7 +5,7 @@ use native.Mathlib.Nat.{sub-zero, zero-sub, suc-sub-suc}
 use lib.Seq.{take-nil}
 use Rattle.wire.specs.Choice.{pick}
 use Rattle.wire.proofs.Choices.{either, never, and_l, and_r, pick_all}
-use Rattle.sorted_set.specs.declared.Entered.TheVariants.{Now, Full}
+use Rattle.std.proofs.Common.{Some, None}
 use Rattle.sorted_set.specs.Lists.{In, enter, below}
 use Rattle.wire.specs.Halving.{middle, halve}
 use Rattle.wire.proofs.Halves.{done, turn, halve-most}
@@ -99,7 +99,7 @@ module _ (w : List ℕ) (n : ℕ) (l : List ℕ) (h : Holds w n l) where
         ∙ ((λ j. take (rank_below j) (h.front j) ++ (x ∷ drop (rank_below j) (h.front j)))
         ∙ sym (places.enter-at x l h.rises f))))
 
-    pub entered-is : entered w n x ≡ pick (ltb (length w) (length (enter x l))) Full (Now (length (enter x l)))
+    pub entered-is : entered w n x ≡ pick (ltb (length w) (length (enter x l))) None (Some (length (enter x l)))
     unfolding entered
     entered-is = elim (either (is_there w n x)) [
       | inl t ↦
@@ -114,7 +114,7 @@ module _ (w : List ℕ) (n : ℕ) (l : List ℕ) (h : Holds w n l) where
             | inr q ↦
                 let v : n ≡ length w → ⊥ = λ u. eqb-false _ _ q (all_held ∙ u) in
                 let u : n + 1 ≤ length w = (let s = h.size in omega arith) in
-                rw (t, q, e, le-ltb (length w) (n + 1) u) (ap (λ (k : ℕ). Now (k + 1)) all_held)
+                rw (t, q, e, le-ltb (length w) (n + 1) u) (ap (λ (k : ℕ). Some (k + 1)) all_held)
           ]
     ]
 

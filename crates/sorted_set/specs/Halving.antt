@@ -1,11 +1,9 @@
 -- The words of a lent slice whose first n are a set: where a number belongs among them, by halving, and entering it once. For words that do not
 -- rise this says what comes of them all the same. Definitions only.
-use Rattle.std.specs.Prelude.{◌≡◌, Bool, ◌&&◌, List, ◌∷◌, ◌++◌, ℕ, ◌+◌, ◌-◌, ◌≤◌, min, ltb, eqb, length, get_or, take, drop}
+use Rattle.std.specs.Prelude.{◌≡◌, Bool, ◌&&◌, List, ◌∷◌, ◌++◌, ℕ, ◌+◌, ◌-◌, ◌≤◌, min, ltb, eqb, length, get_or, take, drop, Option, Some, None, Result, Ok, Err}
 use Rattle.wire.specs.Choice.{pick}
 use Rattle.wire.specs.Halving.{halve}
 use Rattle.sorted_set.specs.Lists.{Rising}
-use Rattle.sorted_set.specs.declared.Entered.{Entered}
-use Rattle.sorted_set.specs.declared.Entered.TheVariants.{Now, Full}
 
 -- no more than there are
 abbrev pub held : List ℕ → ℕ → ℕ
@@ -27,17 +25,21 @@ inserted w at n x = take at w ++ (x ∷ (take (n - at) (drop at w) ++ drop (n + 
 abbrev pub is_there : List ℕ → ℕ → ℕ → Bool
 is_there w n x = ltb (rank_in w n x) (held w n) && eqb (get_or w (rank_in w n x) 0) x
 
+-- where it stands, or else where it belongs
+abbrev pub found_in : List ℕ → ℕ → ℕ → Result ℕ ℕ
+found_in w n x = pick (is_there w n x) (Ok (rank_in w n x)) (Err (rank_in w n x))
+
 abbrev pub no_room_lem : List ℕ → ℕ → Bool
 no_room_lem w n = eqb (held w n) (length w)
 
 -- how many there are with x, or that there is no room; and what the words are then
-unfoldable pub entered : List ℕ → ℕ → ℕ → Entered
-entered w n x = pick (is_there w n x) (Now (held w n)) (pick (no_room_lem w n) Full (Now (held w n + 1)))
+unfoldable pub entered : List ℕ → ℕ → ℕ → Option ℕ
+entered w n x = pick (is_there w n x) (Some (held w n)) (pick (no_room_lem w n) None (Some (held w n + 1)))
 
 unfoldable pub words_with : List ℕ → ℕ → ℕ → List ℕ
 words_with w n x = pick (is_there w n x) w (pick (no_room_lem w n) w (inserted w (rank_in w n x) (held w n) x))
 
-pub record Enters (w : List ℕ) (n x : ℕ) (r : Entered) (w' : List ℕ) : Type 0 where
+pub record Enters (w : List ℕ) (n x : ℕ) (r : Option ℕ) (w' : List ℕ) : Type 0 where
   pub gave : r ≡ entered w n x
   pub left : w' ≡ words_with w n x
 

@@ -1,3 +1,4 @@
+pub mod Ranges
 pub mod RunComputed
 pub mod Answered
 pub mod Tables

@@ -5,8 +5,8 @@ use Rattle.wire.proofs.Choices.{either}
 use Rattle.datagram.specs.Limits.{max_fragments}
 use Rattle.datagram.specs.Read.{read_datagram_lem}
 use Rattle.datagram.specs.Said.{Said, refused, says, said}
-use Rattle.datagram.specs.declared.Read.{Read}
-use Rattle.datagram.specs.declared.Read.TheVariants as read
+use Rattle.datagram.specs.Read.{Read}
+use Rattle.datagram.specs.Read as read
 use Rattle.datagram.proofs.Larger.{larger}
 use Rattle.steps.specs.Receive.{Machine, After, Refused, stay, receive, sound, step, step_within}
 use Rattle.steps.specs.Reach.{Reached, receives}

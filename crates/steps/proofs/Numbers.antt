@@ -8,12 +8,11 @@ use Rattle.datagram.specs.Limits.{max_datagram, max_fragments}
 use Rattle.datagram.specs.Name.{name_length_lem}
 use Rattle.datagram.specs.Read.{magic_in, small_magic, fragment_magic, size_in, number_in, count_in, place, good_form, fragment_header, formed, zero_to, small_to, read_small_lem, read_fragment_lem, read_datagram_lem, part_of}
 use Rattle.datagram.specs.Said.{Fragment, Said, refused, small, fragment, fragment_in, says, said}
-use Rattle.datagram.specs.declared.Named.{Named}
-use Rattle.datagram.specs.declared.Named.TheVariants.{Nameless, Long}
+use Rattle.std.proofs.Common.{Option as Maybe, Some, None}
 use Rattle.datagram.specs.declared.Place.{Place}
 use Rattle.datagram.specs.declared.Header.{Header}
-use Rattle.datagram.specs.declared.Read.{Read}
-use Rattle.datagram.specs.declared.Read.TheVariants as read
+use Rattle.datagram.specs.Read.{Read}
+use Rattle.datagram.specs.Read as read
 use Rattle.steps.specs.Limits.{slot_count, senders_most, keys_each, ledger_length, slot_size_of}
 use Rattle.steps.specs.Search.{all_below}
 use Rattle.steps.specs.Held.{is_held}
@@ -34,17 +33,17 @@ Numbered (read.Good h) = Unit {0}
 Numbered (read.Refused n) = ForForm n
 
 module _ (d : List ℕ) where
-  small-number : (r : Named) → Numbered (small_to d r)
-  small-number Nameless = (lit≤ tt, lit≤ tt)
-  small-number (Long c) = tt
+  small-number : (r : Maybe ℕ) → Numbered (small_to d r)
+  small-number None = (lit≤ tt, lit≤ tt)
+  small-number (Some c) = tt
 
   formed-number : (name : Place) (at : ℕ) → Numbered (formed d name at)
   unfolding formed
   formed-number name at = pick_all Numbered (good_form (fragment_header d name at)) (λ e. tt) (λ e. (lit≤ tt, lit≤ tt))
 
-  zero_number : (r : Named) → Numbered (zero_to d r)
-  zero_number Nameless = (lit≤ tt, lit≤ tt)
-  zero_number (Long c) = formed-number (place 20 c) (21 + c)
+  zero_number : (r : Maybe ℕ) → Numbered (zero_to d r)
+  zero_number None = (lit≤ tt, lit≤ tt)
+  zero_number (Some c) = formed-number (place 20 c) (21 + c)
 
   fragment-number : (C N : ℕ) → Numbered (read_fragment_lem C N d)
   unfolding read_fragment_lem

@@ -5,8 +5,8 @@ use Rattle.wire.proofs.Choices.{and_l, and_r}
 use Rattle.datagram.specs.Limits.{max_fragments}
 use Rattle.datagram.specs.Read.{read_datagram_lem}
 use Rattle.datagram.specs.Said.{fragment, Fragment, Said, refused, small, says, said}
-use Rattle.datagram.specs.declared.Read.{Read}
-use Rattle.datagram.specs.declared.Read.TheVariants as read
+use Rattle.datagram.specs.Read.{Read}
+use Rattle.datagram.specs.Read as read
 use Rattle.datagram.proofs.Larger.{larger}
 use Rattle.datagram.proofs.Saids.{Formed, fragment-formed}
 use Rattle.steps.specs.Limits.{slot_count, ledger_length, slot_size_of}

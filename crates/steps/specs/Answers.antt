@@ -1,9 +1,19 @@
 -- What the receiver's answers say, in the values of document 01. Definitions only.
 use Rattle.std.proofs.Math.Option.{Option, none, some}
 use Rattle.std.specs.Prelude.{List, ℕ, take, drop}
+use Rattle.refusals.specs.Numbers.{number_of}
 use Rattle.steps.specs.Memory.{Key}
 use Rattle.steps.specs.Slots.{Emptied, Nobody, Was}
 use Rattle.steps.specs.Receive.{PayloadAt, InDatagram, InStore, Answer, Refused, Kept, Repeat, Delivered}
+use Rattle.steps.specs.declared.Answer.{Answer as Given}
+use Rattle.steps.specs.declared.Answer.TheVariants as given
+
+-- what the code answers, in the papers' values
+abbrev pub answer_told : Given → Answer
+answer_told (given.Refused r) = Refused (number_of r)
+answer_told given.Kept = Kept
+answer_told given.Repeat = Repeat
+answer_told (given.Delivered p n) = Delivered p n
 
 pub data Reply : Type 0 where
   -- by the number of document 01's table

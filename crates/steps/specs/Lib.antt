@@ -1,5 +1,6 @@
 pub mod Limits
 pub mod Search
+pub mod InsideSearch
 pub mod Held
 pub mod Memory
 pub mod Slots

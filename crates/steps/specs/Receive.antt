@@ -13,8 +13,13 @@ use Rattle.steps.specs.Memory.{Key, key_of, Memory, empty_memory, is_remembered_
 use Rattle.steps.specs.Slots.{Slot, busy, no_slot, slot_at, find_open_lem, release, release_of, Seat, seat, opening, filled, all_held_lem, no_name_lem, padded, Emptied, Nobody}
 pub use Rattle.steps.specs.declared.PayloadAt.{PayloadAt}
 pub use Rattle.steps.specs.declared.PayloadAt.TheVariants.{InDatagram, InStore}
-pub use Rattle.steps.specs.declared.Answer.{Answer}
-pub use Rattle.steps.specs.declared.Answer.TheVariants.{Refused, Kept, Repeat, Delivered}
+
+-- the answer to a datagram: refused by the number of document 01, or a payload delivered, with its place and its length
+pub data Answer : Type 0 where
+  Refused : ℕ → Answer
+  Kept : Answer
+  Repeat : Answer
+  Delivered : PayloadAt → ℕ → Answer
 
 -- what the receiver knows between two calls: the length of the store at opening, the slot size C, the slots, the memory of keys
 pub record Machine : Type 0 where

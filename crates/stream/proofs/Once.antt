@@ -3,12 +3,8 @@ use Rattle.wire.proofs.Basics.{◌∙◌, sym, ◌≡◌, ap, subst, ℕ, ◌+�
 use Rattle.wire.proofs.Choices.{never}
 use Rattle.stream.specs.declared.Kind.{Kind}
 use Rattle.stream.specs.declared.Input.{Input}
-use Rattle.stream.specs.declared.Next.{Next}
-use Rattle.stream.specs.declared.Next.TheVariants.{Record, End, Cut}
-use Rattle.stream.specs.declared.All.{All}
-use Rattle.stream.specs.declared.All.TheVariants.{Whole, Longer}
-use Rattle.stream.specs.Records.{head_of, body_length_lem, is_whole, unread, holds, Took, Ends, Lacks, Gives}
-use Rattle.stream.specs.Whole.{HoldsAll}
+use Rattle.stream.specs.Records.{Next, Record, End, Cut, head_of, body_length_lem, is_whole, unread, holds, Took, Ends, Lacks, Gives}
+use Rattle.stream.specs.Whole.{All, Whole, Longer, HoldsAll}
 use Rattle.stream.proofs.Taking.{whole-none}
 
 -- ---- records

@@ -8,11 +8,8 @@ use Rattle.wire.proofs.Choices.{and-of, and-false}
 use Rattle.stream.specs.declared.Kind.{Kind}
 use Rattle.stream.specs.declared.Kind.TheVariants.{Bytes2, Bytes4, Numbers, Entry}
 use Rattle.stream.specs.declared.Input.{Input}
-use Rattle.stream.specs.declared.Skip.{Skip}
-use Rattle.stream.specs.declared.Skip.TheVariants.{Done, Ended}
-use Rattle.stream.specs.declared.Next.{Next}
-use Rattle.stream.specs.declared.Next.TheVariants.{Record, End, Cut}
-use Rattle.stream.specs.Records.{head_of, width_of, unit_of, body_length_lem, is_whole, unread, Roomy, holds, Took, Ends, Lacks, Gives}
+use Rattle.std.proofs.Common.{Option, Some, None}
+use Rattle.stream.specs.Records.{Next, Record, End, Cut, head_of, width_of, unit_of, body_length_lem, is_whole, unread, Roomy, holds, Took, Ends, Lacks, Gives}
 use Rattle.stream.specs.InsideWindows.{Within, Ready, Headed, Fronted, Grown, Gone, Lacking, Dropped, after_skip_lem}
 use Rattle.stream.proofs.Slices.{slice-rest, slice_slice, slice-within, slice-append}
 use Rattle.stream.proofs.Passing.{grown-joined}
@@ -195,7 +192,7 @@ module _ {kind : Kind} {b : List ℕ} {one : Input} {body : ℕ} (h : Headed kin
       subst (λ (k : ℕ). len ≡ min body (length b - (k + 1)) → Ready b one (k + len) c two → two.end - two.at < k + len → Lacks kind b one) e
       (λ size r s. lacks-body h len size r s)
 
-  pub body_dropped : (skip : Skip) (d : List ℕ) → len ≡ min body (length b - (head + 1)) → Ready b one (head + len) c two → head + len ≤ two.end - two.at
+  pub body_dropped : (skip : Option Input) (d : List ℕ) → len ≡ min body (length b - (head + 1)) → Ready b one (head + len) c two → head + len ≤ two.end - two.at
       → Dropped c (two.at + head + len) two.end (body - len) d skip → Gives kind b one d (after_skip_lem (two.at + head) len skip)
   body_dropped skip d =
       subst
@@ -203,10 +200,10 @@ module _ {kind : Kind} {b : List ℕ} {one : Input} {body : ℕ} (h : Headed kin
       → Dropped c (two.at + k + len) two.end (body - len) d skip → Gives kind b one d (after_skip_lem (two.at + k) len skip)) e
       (by_skip skip)
     where
-      by_skip : (s : Skip) → len ≡ min body (length b - (head_of kind + 1)) → Ready b one (head_of kind + len) c two → head_of kind + len ≤ two.end - two.at
+      by_skip : (s : Option Input) → len ≡ min body (length b - (head_of kind + 1)) → Ready b one (head_of kind + len) c two → head_of kind + len ≤ two.end - two.at
           → Dropped c (two.at + head_of kind + len) two.end (body - len) d s → Gives kind b one d (after_skip_lem (two.at + head_of kind) len s)
-      by_skip (Done left) size r k g = took h len size r k g
-      by_skip Ended size r k l = lacks_rest h len size r k l
+      by_skip (Some left) size r k g = took h len size r k g
+      by_skip None size r k l = lacks_rest h len size r k l
 
 -- ---- from the input as it was
 

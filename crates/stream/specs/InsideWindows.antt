@@ -1,13 +1,9 @@
 -- INSIDE: what only private contracts use. Definitions only; no promise of a public function rests on them.
-use Rattle.std.specs.Prelude.{◌≡◌, List, ◌++◌, ℕ, ◌+◌, ◌≤◌, ◌<◌, min, ◌-◌, length, take, drop}
+use Rattle.std.specs.Prelude.{◌≡◌, List, ◌++◌, ℕ, ◌+◌, ◌≤◌, ◌<◌, min, ◌-◌, length, take, drop, Option, Some, None}
 use Rattle.std.proofs.Math.Seq.{slice}
 use Rattle.stream.specs.declared.Input.{Input}
-use Rattle.stream.specs.Records.{head_of, body_length_lem, unread}
+use Rattle.stream.specs.Records.{Next, Record, Cut, head_of, body_length_lem, unread}
 use Rattle.stream.specs.declared.Kind.{Kind}
-use Rattle.stream.specs.declared.Next.{Next}
-use Rattle.stream.specs.declared.Next.TheVariants.{Record, Cut}
-use Rattle.stream.specs.declared.Skip.{Skip}
-use Rattle.stream.specs.declared.Skip.TheVariants.{Done, Ended}
 
 -- the same unread bytes, within a buffer of n
 pub record Within (i : Input) (n : ℕ) (r : Input) : Type 0 where
@@ -56,11 +52,11 @@ pub record Lacking (before : List ℕ) (place end rest : ℕ) : Type 0 where
   pub came : List ℕ
   pub fewer : length (slice place end before ++ came) < rest
 
-abbrev pub Dropped : List ℕ → ℕ → ℕ → ℕ → List ℕ → Skip → Type 0
-Dropped before place end rest after (Done left) = Gone before place end rest after left
-Dropped before place end rest after Ended = Lacking before place end rest
+abbrev pub Dropped : List ℕ → ℕ → ℕ → ℕ → List ℕ → Option Input → Type 0
+Dropped before place end rest after (Some left) = Gone before place end rest after left
+Dropped before place end rest after None = Lacking before place end rest
 
 -- the answer then
-abbrev pub after_skip_lem : ℕ → ℕ → Skip → Next
-after_skip_lem at len (Done left) = Record at len left
-after_skip_lem at len Ended = Cut
+abbrev pub after_skip_lem : ℕ → ℕ → Option Input → Next
+after_skip_lem at len (Some left) = Record at len left
+after_skip_lem at len None = Cut

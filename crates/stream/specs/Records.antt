@@ -1,12 +1,28 @@
 -- Records in the input, each after a head that says how long it is. Definitions only.
-use Rattle.std.specs.Prelude.{◌≡◌, Bool, true, false, ◌&&◌, List, [], ◌++◌, ℕ, ◌+◌, ◌-◌, ◌*◌, ◌≤◌, ◌<◌, min, length, take, drop, leb}
+use Rattle.std.specs.Prelude.{◌≡◌, Bool, true, false, ◌&&◌, List, [], ◌++◌, ℕ, ◌+◌, ◌-◌, ◌*◌, ◌≤◌, ◌<◌, min, length, take, drop, leb, Result, Ok, Err}
 use Rattle.std.proofs.Math.Seq.{slice}
 use Rattle.wire.specs.Bytes.{be}
 use Rattle.stream.specs.declared.Kind.{Kind}
 use Rattle.stream.specs.declared.Kind.TheVariants.{Bytes2, Bytes4, Numbers, Entry}
 use Rattle.stream.specs.declared.Input.{Input}
-use Rattle.stream.specs.declared.Next.{Next}
-use Rattle.stream.specs.declared.Next.TheVariants.{Record, End, Cut}
+use Rattle.stream.specs.declared.Record.{Record as RecordAt}
+use Rattle.stream.specs.declared.Ending.{Ending}
+use Rattle.stream.specs.declared.Ending.TheVariants as ending
+
+-- THE ANSWER: a record, where its body stands, how much of it, and the input after it; or the input ended, or was cut inside a record
+pub data Next : Type 0 where
+  Record : ℕ → ℕ → Input → Next
+  End : Next
+  Cut : Next
+
+-- what the code says
+abbrev pub ended_as : Ending → Next
+ended_as ending.End = End
+ended_as ending.Cut = Cut
+
+abbrev pub told : Result RecordAt Ending → Next
+told (Ok r) = Record r.at r.len r.rest
+told (Err e) = ended_as e
 
 -- a 2-byte length; a 4-byte length; one byte and then a 4-byte count of 8-byte numbers; an 8-byte sender, an 8-byte tick and a 2-byte length
 abbrev pub head_of : Kind → ℕ

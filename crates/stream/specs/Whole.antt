@@ -1,7 +1,15 @@
 -- Input that a buffer holds as a whole. Definitions only.
-use Rattle.std.specs.Prelude.{◌≡◌, List, ℕ, ◌≤◌, ◌<◌, length, take}
-use Rattle.stream.specs.declared.All.{All}
-use Rattle.stream.specs.declared.All.TheVariants.{Whole, Longer}
+use Rattle.std.specs.Prelude.{◌≡◌, List, ℕ, ◌≤◌, ◌<◌, length, take, Option, Some, None}
+
+-- the whole input stands at the front of the buffer, so many bytes; or it is longer than the buffer
+pub data All : Type 0 where
+  Whole : ℕ → All
+  Longer : All
+
+-- what the code says
+abbrev pub told_all : Option ℕ → All
+told_all (Some k) = Whole k
+told_all None = Longer
 
 -- `came` is what the system gave: it stands at the front of the buffer
 pub record Held (n : ℕ) (after : List ℕ) (k : ℕ) : Type 0 where

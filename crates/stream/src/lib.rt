@@ -5,9 +5,9 @@
 ghost use Rattle.std.specs.Prelude.{◌≡◌, ◌-◌, ◌≤◌, ◌<◌, length, drop};
 ghost use Rattle.std.proofs.Math.Seq.{slice};
 ghost use Rattle.wire.specs.Bytes.{be};
-ghost use Rattle.stream.specs.Records.{head_of, body_length_lem, Gives};
-ghost use Rattle.stream.specs.Whole.{HoldsAll};
-ghost use Rattle.stream.specs.InsideWindows.{Ready, Within, Fronted, Grown, Dropped, Headed, after_skip_lem};
+ghost use Rattle.stream.specs.Records.{head_of, body_length_lem, Gives, told};
+ghost use Rattle.stream.specs.Whole.{HoldsAll, told_all};
+ghost use Rattle.stream.specs.InsideWindows.{Ready, Within, Fronted, Grown, Dropped, Headed};
 
 use std::io::{Read, Stdin};
 
@@ -19,7 +19,7 @@ pub const HOLDS: usize = 131072;
 
 // How records stand in the input: after a 2-byte length, after a 4-byte length, as one byte and a 4-byte count of 8-byte numbers, or as an
 // entry of a flight: an 8-byte sender, an 8-byte tick and a 2-byte length.
-#[derive(Clone, Copy)]
+#[derive(Clone, Copy, Debug, PartialEq, Eq)]
 pub enum Kind {
     Bytes2,
     Bytes4,
@@ -28,32 +28,27 @@ pub enum Kind {
 }
 
 // The unread bytes of the buffer: from `at` up to `end`.
-#[derive(Clone, Copy)]
+// Kept: the buffer stands beside it, since a record is read in the buffer while what follows it is unread, and since a program's contract
+// (record_lines' `Tells`) has the two apart. Only the loop over records passes them on together.
+#[derive(Clone, Copy, Debug, PartialEq, Eq)]
 pub struct Input {
     pub at: usize,
     pub end: usize,
 }
 
-// A record's body: where it stands in the buffer, with its head before it, and how much of it; and the input after it. Or the input ended, or
-// was cut inside a record.
-#[derive(Clone, Copy)]
-pub enum Next {
-    Record(usize, usize, Input),
+// A record's body: where it stands in the buffer, with its head before it, and how much of it; and the input after it.
+#[derive(Clone, Copy, Debug, PartialEq, Eq)]
+pub struct Record {
+    pub at: usize,
+    pub len: usize,
+    pub rest: Input,
+}
+
+// Why there is no record: the input ended, or it was cut inside one.
+#[derive(Clone, Copy, Debug, PartialEq, Eq)]
+pub enum Ending {
     End,
     Cut,
-}
-
-// The whole input stands at the front of a buffer, so many bytes; or it is longer than the buffer.
-#[derive(Clone, Copy)]
-pub enum All {
-    Whole(usize),
-    Longer,
-}
-
-#[derive(Drop)]
-enum Skip {
-    Done(Input),
-    Ended,
 }
 
 fn head_of(kind: Kind) -> usize
@@ -92,13 +87,8 @@ fn to_front(buf: &mut [u8], at: usize, end: usize) -> usize
     requires { (0 < at) × (at ≤ end) × (end ≤ length buf.old) }
     ensures { Fronted buf.old at end buf.new result }
 {
-    let n = end - at;
-    let mut i: usize = 0;
-    while i < n {
-        buf[i] = buf[at + i];
-        i += 1;
-    }
-    n
+    buf.copy_within(at..end, 0);
+    end - at
 }
 
 // One read into the buffer from a place on. Answers the place after what came: the place itself where the input has ended, or a read failed.
@@ -146,13 +136,14 @@ fn ready(stdin: Stdin, buf: &mut [u8], input: Input, want: usize) -> Input
 }
 
 // Drops `rest` bytes of the input after a place: those that are held, then as many as come. They pass through the buffer after the place.
-fn drop_after(stdin: Stdin, buf: &mut [u8], place: usize, end: usize, rest: usize) -> Skip
+// Answers the input after them, or nothing where it ended before.
+fn drop_after(stdin: Stdin, buf: &mut [u8], place: usize, end: usize, rest: usize) -> Option<Input>
     requires { (place ≤ end) × (end ≤ length buf.old) }
     ensures { Dropped buf.old place end rest buf.new result }
 {
     let held = end - place;
     if rest <= held {
-        return Skip::Done(Input {
+        return Some(Input {
             at: place + rest,
             end,
         });
@@ -161,80 +152,79 @@ fn drop_after(stdin: Stdin, buf: &mut [u8], place: usize, end: usize, rest: usiz
     while 0 < left {
         let more = read_from(stdin, buf, place);
         if more == place {
-            return Skip::Ended;
+            return None;
         }
         let got = more - place;
         if left <= got {
-            return Skip::Done(Input {
+            return Some(Input {
                 at: place + left,
                 end: more,
             });
         }
         left -= got;
     }
-    Skip::Ended
-}
-
-// The answer once the rest of a body was dropped, or could not be.
-fn after_skip(at: usize, len: usize, skip: Skip) -> Next
-    ensures { result ≡ after_skip_lem at len skip }
-{
-    match skip {
-        Skip::Done(left) => Next::Record(at, len, left),
-        Skip::Ended => Next::Cut,
-    }
+    None
 }
 
 // The record whose head of `head` bytes is unread, with a body of `body` bytes.
-fn take_body(stdin: Stdin, buf: &mut [u8], one: Input, kind: Kind, body: usize) -> Next
+fn take_body(
+    stdin: Stdin,
+    buf: &mut [u8],
+    one: Input,
+    kind: Kind,
+    body: usize,
+) -> Result<Record, Ending>
     requires { Headed kind buf.old one body }
-    ensures { Gives kind buf.old one buf.new result }
+    ensures { Gives kind buf.old one buf.new (told result) }
 {
     let head = head_of(kind);
-    let len = wire::least(body, buf.len() - (head + 1));
+    let len = body.min(buf.len() - (head + 1));
     let two = ready(stdin, buf, one, head + len);
     let at = two.at;
     let end = two.end;
     if end - at < head + len {
-        return Next::Cut;
+        return Err(Ending::Cut);
     }
     let place = at + head;
-    after_skip(
-        place,
+    let Some(rest) = drop_after(stdin, buf, place + len, end, body - len) else {
+        return Err(Ending::Cut);
+    };
+    Ok(Record {
+        at: place,
         len,
-        drop_after(stdin, buf, place + len, end, body - len),
-    )
+        rest,
+    })
 }
 
 // An input that lies within a buffer of n bytes.
 fn within(input: Input, n: usize) -> Input
     ensures { Within input n result }
 {
-    let end = wire::least(input.end, n);
+    let end = input.end.min(n);
     Input {
-        at: wire::least(input.at, end),
+        at: input.at.min(end),
         end,
     }
 }
 
 // The next record of the input. A body longer than the buffer holds is given by its front; the rest of it is read and dropped. A buffer
 // with no room for a head and one byte more is answered by Cut.
-pub fn next_record(stdin: Stdin, buf: &mut [u8], input: Input, kind: Kind) -> Next
-    ensures { Gives kind buf.old input buf.new result }
+pub fn next_record(stdin: Stdin, buf: &mut [u8], input: Input, kind: Kind) -> Result<Record, Ending>
+    ensures { Gives kind buf.old input buf.new (told result) }
 {
     let head = head_of(kind);
     if buf.len() <= head + 1 {
-        return Next::Cut;
+        return Err(Ending::Cut);
     }
     let inside = within(input, buf.len());
     let one = ready(stdin, buf, inside, head);
     let at = one.at;
     let end = one.end;
     if at == end {
-        return Next::End;
+        return Err(Ending::End);
     }
     if end - at < head {
-        return Next::Cut;
+        return Err(Ending::Cut);
     }
     let body = body_length(&buf[at..end], kind);
     take_body(stdin, buf, one, kind, body)
@@ -245,23 +235,23 @@ pub fn head(buf: &[u8], at: usize, kind: Kind) -> &[u8]
     ensures { result.now ≡ slice (at - head_of kind) at buf.now }
 {
     let n = head_of(kind);
-    wire::part(buf, wire::room(at, n), wire::least(n, at))
+    wire::part(buf, at.saturating_sub(n), n.min(at))
 }
 
-// The whole input, read to its end or until it is seen to be longer than the buffer.
+// The whole input, read to its end: how many bytes of the buffer it takes. Nothing where it is seen to be longer than the buffer.
 #[tactic(auto, using(crate::proofs::Held::held_all_lem))]
-pub fn read_all(stdin: Stdin, buf: &mut [u8]) -> All
-    ensures { HoldsAll (length buf.old) buf.new result }
+pub fn read_all(stdin: Stdin, buf: &mut [u8]) -> Option<usize>
+    ensures { HoldsAll (length buf.old) buf.new (told_all result) }
 {
     let most = buf.len();
     let n = fill(stdin, buf, 0, 0, most);
     if n < most {
-        return All::Whole(n);
+        return Some(n);
     }
     let mut over = [0u8; 1];
     let more = read_from(stdin, &mut over, 0);
     if more == 0 {
-        return All::Whole(n);
+        return Some(n);
     }
-    All::Longer
+    None
 }

@@ -1,7 +1,6 @@
 -- The totals with one answer more. Assumes nothing.
 use Rattle.wire.proofs.Basics.{◌∙◌, sym, ◌≡◌, ap, refl, ℕ, ◌≤◌, ◌+◌, ◌<◌, suc, zero, ◌^◌, List, [], ◌∷◌, ◌++◌, true, false, Bool, length, get_or, arith}
-use Rattle.steps.specs.declared.Answer.{Answer}
-use Rattle.steps.specs.declared.Answer.TheVariants.{Refused, Kept, Repeat, Delivered}
+use Rattle.steps.specs.Receive.{Answer, Refused, Kept, Repeat, Delivered}
 use Rattle.steps.specs.Search.{one}
 use Rattle.steps.specs.Answers.{Reply, refused_by, kept, repeat, reply}
 use Rattle.words.specs.Builds.{build}

@@ -1,9 +1,9 @@
 -- One entry: the receiver's call is the step list's, its answer is told, and what it delivers is taken. Assumes nothing.
 use Rattle.wire.proofs.Basics.{◌∙◌, sym, ◌≡◌, ap, refl, subst, ℕ, ◌<◌, List, [], ◌∷◌, ◌++◌, true, false, Bool, inl, inr, length, arith}
 use Rattle.wire.specs.Bytes.{Bytes}
-use Rattle.steps.specs.declared.Answer.TheVariants.{Refused}
+use Rattle.steps.specs.Receive.{Refused}
 use Rattle.steps.specs.Receive.{After, stay}
-use Rattle.steps.specs.Answers.{Reply, refused_by, kept, repeat, delivered, reply}
+use Rattle.steps.specs.Answers.{answer_told, Reply, refused_by, kept, repeat, delivered, reply}
 use Rattle.steps.specs.Runs.{World}
 use Rattle.receiver.specs.declared.Outcome.{Outcome}
 use Rattle.receiver.specs.Lent.{Lent}
@@ -21,9 +21,8 @@ use Rattle.pit_payloads.specs.Looks.{Book, Left, in_read, Leaves}
 use Rattle.pit_payloads.specs.Took.{lists_in}
 use Rattle.pit_payloads.proofs.Empty.{empty-read, empty_left}
 use Rattle.stretch.specs.declared.Totals.{Totals}
-use Rattle.stretch.specs.declared.Ran.{Ran}
 use Rattle.stretch.specs.Stretch.{Desk, desk, Kit, kit_of, in_shape, called_on, reply_on, looked_at, enter_on, totals_of}
-use Rattle.stretch.specs.Inside.{told_of, with_lists, ran_by_lem, TakesPayload, TakesEntry}
+use Rattle.stretch.specs.Inside.{Ran, told_of, with_lists, ran_by_lem, TakesPayload, TakesEntry}
 use Rattle.stretch.proofs.Adds.{told_more}
 
 -- an answer is refused by a number below ten
@@ -70,8 +69,8 @@ module _ (k : Desk) (sizes : Sizes) (b' : Book) (totals : Totals) (r : Ran) wher
 
 -- the entry, whose datagram is d, and that delivers the payload x
 module _ (l : Limits) (e : Entry) (k : Desk) (totals : Totals) (sizes : Sizes) (d : List ℕ) (ed : d ≡ e.datagram) (outcome : Outcome) (m' : Lent)
-    (R : ReceivesWithin l k.lent e.sender d outcome m') (after : Totals) (ea : after ≡ told_of totals outcome.answer)
-    (x : List ℕ) (ex : x ≡ payload_of (reply d m'.store outcome.answer)) (r : Ran) (b' : Book) (T : TakesPayload x k.book after sizes r b') where
+    (R : ReceivesWithin l k.lent e.sender d outcome m') (after : Totals) (ea : after ≡ told_of totals (answer_told outcome.answer))
+    (x : List ℕ) (ex : x ≡ payload_of (reply d m'.store (answer_told outcome.answer))) (r : Ran) (b' : Book) (T : TakesPayload x k.book after sizes r b') where
   abbrev W : World
   W = (kit_of k sizes).world
 
@@ -85,13 +84,13 @@ module _ (l : Limits) (e : Entry) (k : Desk) (totals : Totals) (sizes : Sizes) (
   unfolding received_within called_on called
   call-is = ap (λ (z : List ℕ). received_within l k.lent e.sender z) ed
 
-  answered : outcome.answer ≡ A.answer
+  answered : answer_told outcome.answer ≡ A.answer
   answered = R.leaves.answer ∙ ap (λ (z : After). z.answer) call-is
 
   stored : m'.store ≡ A.store
   stored = R.leaves.store ∙ ap (λ (z : After). z.store) call-is
 
-  reply-is : reply d m'.store outcome.answer ≡ y
+  reply-is : reply d m'.store (answer_told outcome.answer) ≡ y
   reply-is = λ i. reply (ed i) (stored i) (answered i)
 
   so : Read-so k sizes b' after r y
@@ -100,8 +99,8 @@ module _ (l : Limits) (e : Entry) (k : Desk) (totals : Totals) (sizes : Sizes) (
   told : (rs : List Reply) (n : ℕ) → totals ≡ totals_of rs n → after ≡ totals_of (rs ++ y ∷ []) n
   told rs n q =
       ea
-      ∙ (ap (λ (z : Totals). told_of z outcome.answer) q
-      ∙ (told_more rs n d m'.store outcome.answer (λ j u. number (in_shape k) l W e j (sym answered ∙ u)) ∙ ap (λ (z : Reply). totals_of (rs ++ z ∷ []) n) reply-is))
+      ∙ (ap (λ (z : Totals). told_of z (answer_told outcome.answer)) q
+      ∙ (told_more rs n d m'.store (answer_told outcome.answer) (λ j u. number (in_shape k) l W e j (sym answered ∙ u)) ∙ ap (λ (z : Reply). totals_of (rs ++ z ∷ []) n) reply-is))
 
   pub entry-takes : TakesEntry l e k totals sizes r (desk m' b')
   unfolding enter_on

@@ -3,3 +3,4 @@ pub mod Enters
 pub mod StretchAnswers
 pub mod MidStretch
 pub mod Once
+pub mod Faults

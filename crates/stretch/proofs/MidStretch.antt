@@ -7,8 +7,8 @@ use Rattle.steps.specs.Answers.{Reply}
 use Rattle.receiver_state.specs.View.{state_words_lem, name_bytes_lem}
 use Rattle.flight_log.specs.declared.reader.Limits.{Limits}
 use Rattle.flight_log.specs.declared.reader.EntryAt.{EntryAt}
-use Rattle.flight_log.specs.declared.reader.Step.{Step}
-use Rattle.flight_log.specs.declared.reader.Step.TheVariants as step
+use Rattle.flight_log.specs.Step.{Step}
+use Rattle.flight_log.specs.Step as step
 use Rattle.flight_log.specs.Editions.{limits_in_lem}
 use Rattle.flight_log.specs.Said.{entry_said, read_at}
 use Rattle.sorted_set.specs.Lists.{In}
@@ -16,15 +16,16 @@ use Rattle.sorted_set.proofs.Members.{in_left, in_right, in_either}
 use Rattle.count_rules.specs.Run.{payload_in, payloads}
 use Rattle.pit_marks.specs.declared.Sizes.{Sizes}
 use Rattle.pit_marks.specs.Sets.{held_in}
-use Rattle.pit_payloads.specs.declared.Looked.{Looked}
-use Rattle.pit_payloads.specs.declared.Looked.TheVariants as looked
+use Rattle.pit_payloads.specs.Looked.{Looked}
+use Rattle.pit_payloads.specs.Looked as looked
 use Rattle.pit_payloads.specs.Took.{lists_in}
-use Rattle.stretch.specs.declared.Stop.{Stop}
-use Rattle.stretch.specs.declared.Stop.TheVariants as stop
-use Rattle.stretch.specs.declared.Stretch.{Stretch}
-use Rattle.stretch.specs.declared.Ran.{Ran}
+use Rattle.stretch.specs.Stop.{Stop}
+use Rattle.stretch.specs.Stop as stop
+use Rattle.stretch.specs.Stop.{Stretch}
+use Rattle.stretch.specs.declared.Stretch.{Stretch as Answer}
+use Rattle.stretch.specs.Told.{stop_told, stretch_told}
 use Rattle.stretch.specs.Stretch.{Desk, Kit, kit_of, in_shape, Entered, enter_on, Stretched, here, before, taking, by_step, stretch, totals_of, told_on, CountsOn}
-use Rattle.stretch.specs.Inside.{Few, ran, no_totals, stop_of_lem, stopped_at, TakesEntry}
+use Rattle.stretch.specs.Inside.{Ran, Few, ran, no_totals, stop_of_lem, stopped_at, TakesEntry}
 use Rattle.stretch.proofs.Adds.{few}
 
 -- ---- answers before a stretch
@@ -215,5 +216,10 @@ module _ (log : List ℕ) (lim : Limits) (most place : ℕ) (k₀ : Desk) (had�
           totals' many' handed' (T.words ∙ g.words) (T.names ∙ g.names) (λ u. some u)
 
 -- an answer that is told so
-pub as-told : {log : List ℕ} {place most : ℕ} {k : Desk} {had : Sizes} {r s : Stretch} {k' : Desk} → r ≡ s → CountsOn log place most k had s k' → CountsOn log place most k had r k'
-as-told {log} {place} {most} {k} {had} {k' = k'} e = subst (λ (x : Stretch). CountsOn log place most k had x k') (sym e)
+module _ {log : List ℕ} {place most : ℕ} {k : Desk} {had : Sizes} {k' : Desk} where
+  as-told : {r s : Stretch} → r ≡ s → CountsOn log place most k had s k' → CountsOn log place most k had r k'
+  as-told e = subst (λ (x : Stretch). CountsOn log place most k had x k') (sym e)
+
+  pub counts-so : (x : Answer) (st : Stop) (at n : ℕ) (r : Ran) → stop_told x.stop ≡ st → x.place ≡ at → x.entries ≡ n → x.totals ≡ r.totals → x.sizes ≡ r.sizes
+      → CountsOn log place most k had (stopped_at st at n r) k' → CountsOn log place most k had (stretch_told x) k'
+  counts-so x st at n r p q u v w = as-told (λ i. record { stop = p i; place = q i; entries = u i; totals = v i; sizes = w i })

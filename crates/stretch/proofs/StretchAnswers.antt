@@ -9,8 +9,8 @@ use Rattle.lmcp.specs.Read.{Read}
 use Rattle.lmcp.specs.Message.{listed}
 use Rattle.lmcp.specs.Lists.{read_list}
 use Rattle.flight_log.specs.declared.reader.Limits.{Limits}
-use Rattle.flight_log.specs.declared.reader.Step.{Step}
-use Rattle.flight_log.specs.declared.reader.Step.TheVariants as step
+use Rattle.flight_log.specs.Step.{Step}
+use Rattle.flight_log.specs.Step as step
 use Rattle.flight_log.specs.Entries.{Entry}
 use Rattle.flight_log.specs.Listed.{Listed, whole, broken, after}
 use Rattle.flight_log.specs.Said.{entry_said, read_at, onward, read_on}
@@ -18,8 +18,8 @@ use Rattle.count_rules.specs.Marks.{PitList, list_in}
 use Rattle.count_rules.specs.Run.{answer_to, answers, payload_in, lists_read}
 use Rattle.count_rules.specs.Walk.{seen_at, list_at, seen_after}
 use Rattle.pit_payloads.specs.Took.{fault_in}
-use Rattle.stretch.specs.declared.Stop.{Stop}
-use Rattle.stretch.specs.declared.Stop.TheVariants as stop
+use Rattle.stretch.specs.Stop.{Stop}
+use Rattle.stretch.specs.Stop as stop
 use Rattle.stretch.specs.Stretch.{Kit, called_on, Entered, enter_on, Stretched, here, by_step, stretch, Clean, stop_fault, entries_of}
 
 pub entries-after : (e : Entry) (x : Listed) → entries_of (after e x) ≡ e ∷ entries_of x

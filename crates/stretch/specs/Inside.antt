@@ -1,24 +1,22 @@
 -- INSIDE: one answer, one payload, one entry. Definitions only; no promise of a public function rests on them.
 use Rattle.std.specs.Prelude.{◌≡◌, List, [], ◌∷◌, ◌++◌, ℕ, ◌+◌, ◌^◌, ◌<◌, length, get_or, set}
 use Rattle.wire.specs.Bytes.{Bytes}
-use Rattle.steps.specs.declared.Answer.{Answer}
-use Rattle.steps.specs.declared.Answer.TheVariants.{Refused, Kept, Repeat, Delivered}
+use Rattle.steps.specs.Receive.{Answer, Refused, Kept, Repeat, Delivered}
 use Rattle.steps.specs.Answers.{Reply}
 use Rattle.flight_log.specs.declared.reader.Limits.{Limits}
-use Rattle.flight_log.specs.declared.reader.Step.{Step}
-use Rattle.flight_log.specs.declared.reader.Step.TheVariants as step
+use Rattle.flight_log.specs.Step.{Step}
+use Rattle.flight_log.specs.Step as step
 use Rattle.flight_log.specs.Entries.{Entry}
 use Rattle.sorted_set.specs.Lists.{In}
 use Rattle.count_rules.specs.Run.{payload_in}
 use Rattle.pit_marks.specs.declared.Sizes.{Sizes}
-use Rattle.pit_payloads.specs.declared.Looked.{Looked}
+use Rattle.pit_payloads.specs.Looked.{Looked}
 use Rattle.pit_payloads.specs.Looks.{Book, Looks}
 use Rattle.pit_payloads.specs.Took.{fault_in, lists_in, sizes_in}
-use Rattle.stretch.specs.declared.Stop.{Stop}
-use Rattle.stretch.specs.declared.Stop.TheVariants as stop
+use Rattle.stretch.specs.Stop.{Stop}
+use Rattle.stretch.specs.Stop as stop
 use Rattle.stretch.specs.declared.Totals.{Totals}
-use Rattle.stretch.specs.declared.Stretch.{Stretch}
-use Rattle.stretch.specs.declared.Ran.{Ran}
+use Rattle.stretch.specs.Stop.{Stretch}
 use Rattle.stretch.specs.Stretch.{Desk, kit_of, in_shape, Entered, enter_on, totals_of}
 
 abbrev pub no_totals : Totals
@@ -46,6 +44,12 @@ told_of t (Delivered p n) = record { kept = t.kept; repeated = t.repeated; deliv
 -- n lists more
 abbrev pub with_lists : Totals → ℕ → Totals
 with_lists t n = record { kept = t.kept; repeated = t.repeated; delivered = t.delivered; refused = t.refused; lists = t.lists + n }
+
+-- how far the stretch has come: what stands against it, or 0, the totals, and how many numbers the sets have
+pub record Ran : Type 0 where
+  pub fault : ℕ
+  pub totals : Totals
+  pub sizes : Sizes
 
 abbrev pub ran : ℕ → Totals → Sizes → Ran
 ran n t s = record { fault = n; totals = t; sizes = s }

@@ -3,7 +3,7 @@
 use Rattle.std.specs.Prelude.{◌≡◌, Bool, List, [], ◌∷◌, ◌++◌, ℕ, zero, suc, ◌+◌, eqb, ℤ, length}
 use Rattle.wire.specs.Bytes.{Bytes}
 use Rattle.wire.specs.Choice.{pick}
-use Rattle.steps.specs.declared.Answer.TheVariants as answer
+use Rattle.steps.specs.Receive as answer
 use Rattle.steps.specs.Receive.{After, stay}
 use Rattle.steps.specs.Answers.{Reply, refused_by, kept, repeat, delivered, reply}
 use Rattle.steps.specs.Runs.{World, world_of}
@@ -11,8 +11,8 @@ use Rattle.receiver_state.specs.View.{shaped}
 use Rattle.receiver.specs.Lent.{Lent, world_in}
 use Rattle.lmcp.specs.Lists.{read_list}
 use Rattle.flight_log.specs.declared.reader.Limits.{Limits}
-use Rattle.flight_log.specs.declared.reader.Step.{Step}
-use Rattle.flight_log.specs.declared.reader.Step.TheVariants as step
+use Rattle.flight_log.specs.Step.{Step}
+use Rattle.flight_log.specs.Step as step
 use Rattle.flight_log.specs.Editions.{limits_in_lem}
 use Rattle.flight_log.specs.Entries.{Entry}
 use Rattle.flight_log.specs.Listed.{Listed, whole, broken}
@@ -22,14 +22,14 @@ use Rattle.count_rules.specs.Run.{called, kept_in, repeated_in, delivered_in, re
 use Rattle.count_rules.specs.Walk.{list_at}
 use Rattle.pit_marks.specs.declared.Sizes.{Sizes}
 use Rattle.pit_marks.specs.Sets.{Sets, held_in}
-use Rattle.pit_payloads.specs.declared.Looked.{Looked}
-use Rattle.pit_payloads.specs.declared.Looked.TheVariants as looked
+use Rattle.pit_payloads.specs.Looked.{Looked}
+use Rattle.pit_payloads.specs.Looked as looked
 use Rattle.pit_payloads.specs.Looks.{Book, Left, left, in_read}
 use Rattle.pit_payloads.specs.Took.{fault_in, lists_in, sizes_in}
-use Rattle.stretch.specs.declared.Stop.{Stop}
-use Rattle.stretch.specs.declared.Stop.TheVariants as stop
+use Rattle.stretch.specs.Stop.{Stop}
+use Rattle.stretch.specs.Stop as stop
 use Rattle.stretch.specs.declared.Totals.{Totals}
-use Rattle.stretch.specs.declared.Stretch.{Stretch}
+use Rattle.stretch.specs.Stop.{Stretch}
 
 -- ---- what is lent: to the receiver, and the book of number list and sets
 

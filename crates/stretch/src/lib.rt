@@ -2,28 +2,33 @@
 #![tactic(auto)]
 
 ghost use Rattle.std.specs.Prelude.{◌≡◌, ℕ, ◌+◌, ◌<◌, ◌^◌, get_or};
+ghost use Rattle.refusals.specs.Numbers.{number_of};
+ghost use Rattle.steps.specs.Answers.{answer_told};
 ghost use Rattle.flight_log.specs.Said.{entry_said};
 ghost use Rattle.receiver.specs.Lent.{lent_before, lent_after};
-ghost use Rattle.pit_marks.specs.Sets.{held_in, sets_of};
-ghost use Rattle.pit_payloads.specs.Looks.{book_before, book_after};
+ghost use Rattle.pit_marks.specs.Sets.{held_in};
+ghost use Rattle.pit_marks.specs.Told.{sets_in, SameWords};
+ghost use Rattle.pit_payloads.specs.Looks.{book};
 ghost use Rattle.stretch.specs.Stretch.{desk, CountsOn};
-ghost use Rattle.stretch.specs.Inside.{Few, one_more_lem, told_of, ran, ran_by_lem, no_totals, stop_of_lem, stopped_at, TakesPayload, TakesEntry};
+ghost use Rattle.stretch.specs.Told.{stretch_told};
+ghost use Rattle.stretch.specs.InsideTold.{fault_told};
+ghost use Rattle.stretch.specs.Inside.{Few, one_more_lem, told_of, ran, no_totals, TakesPayload, TakesEntry};
 
-use flight_log::{EntryAt, Limits, Step};
-use pit_marks::Sizes;
-use pit_payloads::Looked;
+use flight_log::{EntryAt, Limits};
+use pit_marks::{PitSets, Sizes};
+use refusals::Refusal;
 use steps::Answer;
 
 // The receiver's numbers of refusal are below this.
 pub const REFUSALS: usize = 10;
 
-// Why it stopped: as many entries were taken as were asked for, or the log ended, or the log's own refusal, or 13, 60 or 61 by what is lent.
-#[derive(Clone, Copy)]
+// Why it stopped: as many entries were taken as were asked for, or the log ended, or the log's own refusal, or what stands against a list by what is lent.
+#[derive(Clone, Copy, Debug, PartialEq, Eq)]
 pub enum Stop {
     Taken,
     End,
-    Broken(u32),
-    Refused(u32),
+    Broken(Refusal),
+    Refused(Refusal),
 }
 
 // The answers of a stretch (refused[k]: by number k), and the lists entered.
@@ -46,106 +51,61 @@ pub struct Stretch {
     pub sizes: Sizes,
 }
 
-// How far the stretch has come: the refusal that ended it, or 0, the totals, and how many numbers the sets have.
-#[derive(Drop)]
-struct Ran {
-    fault: u32,
-    totals: Totals,
-    sizes: Sizes,
-}
-
 // ---- the totals
 
-// One refusal more, by that number.
-fn one_refused(by: [u64; REFUSALS], number: u32) -> [u64; REFUSALS]
-    requires { (k : ℕ) → get_or by k 0 + 1 < 2 ^ 64 }
-    ensures { result ≡ one_more_lem by number }
+fn nothing() -> Totals
+    ensures { result ≡ no_totals }
 {
-    let mut after = by;
-    let k = number as usize;
-    if k < REFUSALS {
-        after[k] += 1;
-        return after;
+    Totals {
+        kept: 0,
+        repeated: 0,
+        delivered: 0,
+        refused: [0u64; REFUSALS],
+        lists: 0,
     }
-    after
+}
+
+// One refusal more, by its number.
+fn one_refused(by: &mut [u64; REFUSALS], refusal: Refusal)
+    requires { (k : ℕ) → get_or by.old k 0 + 1 < 2 ^ 64 }
+    ensures { by.new ≡ one_more_lem by.old (number_of refusal) }
+{
+    let k = refusal.number() as usize;
+    if k < REFUSALS {
+        by[k] += 1;
+    }
 }
 
 // One answer more.
-fn told(t: Totals, answer: Answer) -> Totals
-    requires { Few t }
-    ensures { result ≡ told_of t answer }
+fn told(totals: &mut Totals, answer: Answer)
+    requires { Few totals.old }
+    ensures { totals.new ≡ told_of totals.old (answer_told answer) }
 {
-    let mut after = t;
     match answer {
-        Answer::Kept => {
-            after.kept += 1;
-            return after;
-        }
-        Answer::Repeat => {
-            after.repeated += 1;
-            return after;
-        }
-        Answer::Delivered(_, _) => {
-            after.delivered += 1;
-            return after;
-        }
-        Answer::Refused(number) => {
-            let by = t.refused;
-            let more = one_refused(by, number);
-            after.refused = more;
-            return after;
-        }
+        Answer::Kept => totals.kept += 1,
+        Answer::Repeat => totals.repeated += 1,
+        Answer::Delivered(_, _) => totals.delivered += 1,
+        Answer::Refused(refusal) => one_refused(&mut totals.refused, refusal),
     }
 }
 
-// ---- one payload
-
-// By what the payload is.
-fn ran_by(totals: Totals, sizes: Sizes, looked: Looked) -> Ran
-    requires { totals.lists + 1 < 2 ^ 64 }
-    ensures { result ≡ ran_by_lem totals sizes looked }
-{
-    match looked {
-        Looked::Other => Ran {
-            fault: 0,
-            totals,
-            sizes,
-        },
-        Looked::Refused(now, e) => Ran {
-            fault: e,
-            totals,
-            sizes: now,
-        },
-        Looked::Listed(now) => {
-            let mut after = totals;
-            after.lists += 1;
-            Ran {
-                fault: 0,
-                totals: after,
-                sizes: now,
-            }
-        }
-    }
-}
+// ---- one entry
 
 // One payload more.
 fn one_payload(
     payload: &[u8],
     numbers: &mut [i64],
-    tiles: &mut [u64],
-    pits: &mut [u64],
-    sure: &mut [u64],
-    totals: Totals,
-    sizes: Sizes,
-) -> Ran
-    requires { totals.lists + 1 < 2 ^ 64 }
-    ensures { TakesPayload payload.now (book_before numbers tiles pits sure) totals sizes result (book_after numbers tiles pits sure) }
+    sets: &mut PitSets,
+    totals: &mut Totals,
+) -> Result<(), Refusal>
+    requires { totals.old.lists + 1 < 2 ^ 64 }
+    ensures same { SameWords sets.old sets.new }
+    ensures takes { TakesPayload payload.now (book numbers.old (sets_in sets.old)) totals.old sets.old.sizes (ran (fault_told result) totals.new sets.new.sizes) (book numbers.new (sets_in sets.new)) }
 {
-    let looked = pit_payloads::take_payload(payload, numbers, tiles, pits, sure, sizes);
-    ran_by(totals, sizes, looked)
+    let is_list = pit_payloads::take_payload(payload, numbers, sets)?;
+    totals.lists += u64::from(is_list);
+    Ok(())
 }
-
-// ---- one entry
 
 // One entry more: its datagram is received from its sender, within the log's limits; what is delivered is read where it lies.
 fn one_entry(
@@ -157,15 +117,13 @@ fn one_entry(
     store: &mut [u8],
     ledger: &mut [u32],
     numbers: &mut [i64],
-    tiles: &mut [u64],
-    pits: &mut [u64],
-    sure: &mut [u64],
-    totals: Totals,
-    sizes: Sizes,
-) -> Ran
-    requires { Few totals }
-    ensures { TakesEntry limits (entry_said log.now entry) (desk (lent_before state names store ledger) (book_before numbers tiles pits sure)) totals sizes result
-        (desk (lent_after state names store ledger) (book_after numbers tiles pits sure)) }
+    sets: &mut PitSets,
+    totals: &mut Totals,
+) -> Result<(), Refusal>
+    requires { Few totals.old }
+    ensures same { SameWords sets.old sets.new }
+    ensures takes { TakesEntry limits (entry_said log.now entry) (desk (lent_before state names store ledger) (book numbers.old (sets_in sets.old))) totals.old sets.old.sizes
+        (ran (fault_told result) totals.new sets.new.sizes) (desk (lent_after state names store ledger) (book numbers.new (sets_in sets.new))) }
 {
     let d = wire::part(log, entry.at, entry.len);
     let outcome = within_limits::receive_within(
@@ -177,63 +135,21 @@ fn one_entry(
         entry.sender,
         d,
     );
-    let answer = outcome.answer;
-    let after = told(totals, answer);
+    told(&mut *totals, outcome.answer);
     let payload = open_and_payload::payload(outcome, &*store, d);
-    one_payload(payload, numbers, tiles, pits, sure, after, sizes)
+    one_payload(payload, numbers, sets, totals)
 }
 
 // ---- the stretch
 
 // Sizes above what is lent count as what is lent.
-fn held(sizes: Sizes, tiles: &[u64], pits: &[u64], sure: &[u64]) -> Sizes
-    ensures { result ≡ held_in (sets_of tiles.now pits.now sure.now) sizes }
+fn held(sets: &PitSets) -> Sizes
+    ensures { result ≡ held_in (sets_in sets.now) sets.now.sizes }
 {
     Sizes {
-        tiles: wire::least(sizes.tiles, tiles.len()),
-        pits: wire::least(sizes.pits, pits.len()),
-        sure: wire::least(sizes.sure, sure.len()),
-    }
-}
-
-fn nothing(sizes: Sizes) -> Ran
-    ensures { result ≡ ran 0 no_totals sizes }
-{
-    Ran {
-        fault: 0,
-        totals: Totals {
-            kept: 0,
-            repeated: 0,
-            delivered: 0,
-            refused: [0u64; REFUSALS],
-            lists: 0,
-        },
-        sizes,
-    }
-}
-
-// Why it stops where the log has no entry.
-fn stop_of(step: Step) -> Stop
-    ensures { result ≡ stop_of_lem step }
-{
-    match step {
-        Step::Found(_) => Stop::Taken,
-        Step::End => Stop::End,
-        Step::Refused(e) => Stop::Broken(e),
-    }
-}
-
-fn stopped(stop: Stop, place: usize, entries: u64, done: Ran) -> Stretch
-    ensures { result ≡ stopped_at stop place entries done }
-{
-    let totals = done.totals;
-    let sizes = done.sizes;
-    Stretch {
-        stop,
-        place,
-        entries,
-        totals,
-        sizes,
+        tiles: sets.sizes.tiles.min(sets.tiles.len()),
+        pits: sets.sizes.pits.min(sets.pits.len()),
+        sure: sets.sizes.sure.min(sets.sure.len()),
     }
 }
 
@@ -248,28 +164,24 @@ pub fn count_on(
     store: &mut [u8],
     ledger: &mut [u32],
     numbers: &mut [i64],
-    tiles: &mut [u64],
-    pits: &mut [u64],
-    sure: &mut [u64],
-    sizes: Sizes,
+    sets: &mut PitSets,
 ) -> Stretch
-    ensures { CountsOn log.now place most (desk (lent_before state names store ledger) (book_before numbers tiles pits sure)) sizes result
-        (desk (lent_after state names store ledger) (book_after numbers tiles pits sure)) }
+    ensures same { SameWords sets.old sets.new }
+    ensures counts { CountsOn log.now place most (desk (lent_before state names store ledger) (book numbers.old (sets_in sets.old))) sets.old.sizes (stretch_told result)
+        (desk (lent_after state names store ledger) (book numbers.new (sets_in sets.new))) }
 {
     let limits = flight_log::limits_in(log);
     let mut at = place;
-    let mut taken: u64 = 0;
-    let mut done = nothing(held(sizes, &*tiles, &*pits, &*sure));
-    while taken < most {
-        let step = flight_log::read_on(log, at);
-        let Step::Found(entry) = step else {
-            return stopped(stop_of(step), at, taken, done);
+    let mut totals = nothing();
+    sets.sizes = held(&*sets);
+    for taken in 0..most {
+        let entry = match flight_log::read_on(log, at) {
+            Ok(Some(entry)) => entry,
+            Ok(None) => return stopped(Stop::End, at, taken, totals, sets.sizes),
+            Err(e) => return stopped(Stop::Broken(e), at, taken, totals, sets.sizes),
         };
         at = entry.next;
-        taken += 1;
-        let before = done.totals;
-        let had = done.sizes;
-        done = one_entry(
+        let entered = one_entry(
             log,
             entry,
             limits,
@@ -278,15 +190,28 @@ pub fn count_on(
             &mut *store,
             &mut *ledger,
             &mut *numbers,
-            &mut *tiles,
-            &mut *pits,
-            &mut *sure,
-            before,
-            had,
+            &mut *sets,
+            &mut totals,
         );
-        if done.fault != 0 {
-            return stopped(Stop::Refused(done.fault), at, taken, done);
+        if let Err(e) = entered {
+            return stopped(Stop::Refused(e), at, taken + 1, totals, sets.sizes);
         }
     }
-    stopped(Stop::Taken, at, taken, done)
+    stopped(Stop::Taken, at, most, totals, sets.sizes)
+}
+
+fn stopped(stop: Stop, place: usize, entries: u64, totals: Totals, sizes: Sizes) -> Stretch
+    ensures stop { result.stop ≡ stop }
+    ensures place { result.place ≡ place }
+    ensures entries { result.entries ≡ entries }
+    ensures totals { result.totals ≡ totals }
+    ensures sizes { result.sizes ≡ sizes }
+{
+    Stretch {
+        stop,
+        place,
+        entries,
+        totals,
+        sizes,
+    }
 }

@@ -2,8 +2,7 @@
 // is then the buffer's end.
 #![tactic(auto)]
 
-ghost use Rattle.std.specs.Prelude.{true, false, [], ◌∷◌, ◌++◌, ◌≡◌, ◌+◌, ◌<◌, min, pos, nat_abs};
-ghost use Rattle.std.specs.Int.Signed.{lt_z};
+ghost use Rattle.std.specs.Prelude.{[], ◌∷◌, ◌++◌, ◌≡◌, ◌+◌, ◌<◌, min};
 ghost use Rattle.wire.specs.Text.{ascii};
 ghost use Rattle.text.specs.Text.{digit, decimal, signed_decimal, hex};
 ghost use Rattle.text.specs.Put.{Put};
@@ -12,7 +11,7 @@ ghost use Rattle.text.specs.Put.{Put};
 fn place_after(len: usize, at: usize, n: usize) -> usize
     ensures { result ≡ min (at + n) len }
 {
-    if n < wire::room(len, at) { at + n } else { len }
+    at.saturating_add(n).min(len)
 }
 
 fn put_one(out: &mut [u8], at: usize, b: u8) -> usize
@@ -45,6 +44,7 @@ fn letter(d: u64) -> u8
 }
 
 // A number in decimal, with no zero in front.
+// Kept: by hand and not by `write!`, since that may answer Err, of which no clause says what was written, and `Put` is promised of every number.
 pub fn put_decimal(out: &mut [u8], at: usize, n: u64) -> usize
     ensures { Put out.old at (decimal n) out.new result }
 {
@@ -55,39 +55,22 @@ pub fn put_decimal(out: &mut [u8], at: usize, n: u64) -> usize
     put_one(out, next, letter(n % 10))
 }
 
-// The negation of a number below 0, by way of -1 - z, since that of the lowest is no i64.
-fn negated(z: i64) -> u64
-    requires { lt_z z (pos 0) ≡ true }
-    ensures { result ≡ nat_abs z }
-{
-    let m = -1 - z;
-    let k = m as u64;
-    k + 1
-}
-
-fn counted(z: i64) -> u64
-    requires { lt_z z (pos 0) ≡ false }
-    ensures { result ≡ nat_abs z }
-{
-    z as u64
-}
-
 // A signed number in decimal.
 pub fn put_signed(out: &mut [u8], at: usize, z: i64) -> usize
     ensures { Put out.old at (signed_decimal z) out.new result }
 {
     if z < 0 {
-        let next = put_one(out, at, 45);
-        return put_decimal(out, next, negated(z));
+        let next = put_one(out, at, b'-');
+        return put_decimal(out, next, z.unsigned_abs());
     }
-    put_decimal(out, at, counted(z))
+    put_decimal(out, at, z.unsigned_abs())
 }
 
 // One byte as two digits.
 fn put_pair(out: &mut [u8], at: usize, b: u8) -> usize
     ensures { Put out.old at (hex (b ∷ [])) out.new result }
 {
-    let v = b as u64;
+    let v = u64::from(b);
     let next = put_one(out, at, letter(v / 16));
     put_one(out, next, letter(v % 16))
 }
@@ -96,11 +79,9 @@ fn put_pair(out: &mut [u8], at: usize, b: u8) -> usize
 pub fn put_hex(out: &mut [u8], at: usize, bytes: &[u8]) -> usize
     ensures { Put out.old at (hex bytes.now) out.new result }
 {
-    let mut next = wire::least(at, out.len());
-    let mut i: usize = 0;
-    while i < bytes.len() {
-        next = put_pair(out, next, bytes[i]);
-        i += 1;
+    let mut next = at.min(out.len());
+    for b in bytes {
+        next = put_pair(out, next, *b);
     }
     next
 }

@@ -22,8 +22,7 @@ use Rattle.count_rules.proofs.Keys.{pits-end, sure-end, sure-within, pits-within
 use Rattle.count_rules.proofs.ListMembers.{only, Taken, taken-from, taken_in}
 use Rattle.pit_marks.specs.declared.Sizes.{Sizes}
 use Rattle.pit_marks.specs.Sets.{Sets, Has}
-use Rattle.tile_pits.specs.declared.Pits.TheVariants.{Many}
-use Rattle.tile_pits.specs.Pits.{Map, many_in, key_at, numbers_in, certain_in, lacking, pits_given, GivesPits}
+use Rattle.tile_pits.specs.Pits.{Many, Map, many_in, key_at, numbers_in, certain_in, lacking, pits_given, GivesPits}
 use Rattle.tile_pits.specs.Meaning.{pits_of_lem, chosen, Shows, Called}
 use Rattle.tile_pits.proofs.Parts.{there_in, in-there, key-is, to-keys, from-keys, numbers-are, many-are}
 

@@ -1,54 +1,52 @@
--- The ways in which the pits of a tile are given. Assumes nothing.
-use Rattle.wire.proofs.Basics.{◌∙◌, sym, ◌≡◌, ap, ℕ, ◌≤◌, ◌+◌, ◌<◌, suc, ◌%◌, List, true, false, length, get_or, ltb, eq-eqb, le-ltb, ne_eqb, lt-ltb, arith}
+-- The pits of a tile, as they are given. Assumes nothing.
+use Rattle.wire.proofs.Basics.{◌∙◌, sym, ◌≡◌, ap, refl, ℕ, ◌≤◌, ◌+◌, ◌<◌, ◌-◌, ◌%◌, List, Bool, true, false, length, get_or, take, drop, length-take-le, length-drop, get_or-take, get_or-drop, le-ltb, arith}
 use Rattle.wire.specs.Choice.{pick}
+use mir.Val.{bool_byte}
+use Rattle.std.proofs.Common.{Result, Ok, Err}
+use Rattle.std.specs.Result.{is_ok}
+use Rattle.wire.specs.Overlay.{overlay}
+use Rattle.words.specs.Builds.{build}
+use Rattle.words.proofs.Builds.{build-is, length-build, get_or-build}
 use Rattle.wire.specs.Slices.{◌⇒◌}
-use Rattle.wire.proofs.Choices.{pick_all, or-of-right}
-use Rattle.sorted_set.specs.Halving.{held, rank_in, is_there}
-use Rattle.sorted_set.proofs.Sets.{rank_most}
-use Rattle.count_rules.specs.Keys.{span, pit_key}
-use Rattle.pit_marks.specs.Lines.{end_of, pits_in}
-use Rattle.tile_pits.specs.declared.Pits.TheVariants.{Many, Refused}
-use Rattle.tile_pits.specs.Pits.{Map, first_of, many_in, numbers_in, certain_in, lacking, GivesPits}
+use Rattle.sorted_set.specs.Halving.{rank_in, is_there, found_in}
+use Rattle.count_rules.specs.Keys.{span}
+use Rattle.tile_pits.specs.Pits.{Many, Map, first_of, many_in, numbers_in, certain_in, lacking, GivesPits}
 use Rattle.tile_pits.specs.InsidePits.{LaysPits}
 
--- a tile's part lies inside the words
-pub part-inside : (w : List ℕ) (n t : ℕ) → first_of w n t + pits_in w n t ≤ length w
-unfolding pits_in
-part-inside w n t =
-    let a = rank_most w (pit_key (t % span) 0) n in
-    let b : end_of w n (t % span) ≤ held w n = pick_all (λ (k : ℕ). k ≤ held w n) (ltb (suc (t % span)) span) (λ e. rank_most w (pit_key (suc (t % span)) 0) n) (λ e. omega arith) in
-    omega arith
+-- 1 where a number is found among the first n, else 0
+pub sureness-of : (w : List ℕ) (n x : ℕ) (f : Result ℕ ℕ) (k : Bool) (v : ℕ) → f ≡ found_in w n x → k ≡ is_ok f → v ≡ bool_byte k → v ≡ pick (is_there w n x) 1 0
+sureness-of w n x f k v p q r = r ∙ (ap bool_byte (q ∙ ap is_ok p) ∙ by (is_there w n x) (rank_in w n x))
+  where
+    by : (b : Bool) (at : ℕ) → bool_byte (is_ok (pick b (Ok at) (Err at))) ≡ pick b 1 0
+    by true at = refl
+    by false at = refl
 
--- ---- whether a number stands among the first n
+-- what is laid of a part of words is laid of the words from a place on
+module _ (w : List ℕ) (first n : ℕ) (h : first + n ≤ length w) (part : List ℕ) (e : part ≡ take (first + n - first) (drop first w)) (g : ℕ → ℕ) where
+  is_part : part ≡ take n (drop first w)
+  is_part = let k : first + n - first ≡ n = omega arith in e ∙ ap (λ (i : ℕ). take i (drop first w)) k
 
-module _ (w : List ℕ) (n x at m : ℕ) (e : at ≡ rank_in w n x) (f : m ≡ held w n) where
-  pub stands_yes : at < m → (v : ℕ) → v ≡ get_or w at 0 → v ≡ x → ◌≡◌ {A = ℕ} 1 (pick (is_there w n x) 1 0)
-  stands_yes h v p q =
-      let b : get_or w (rank_in w n x) 0 ≡ x = ap (λ (i : ℕ). get_or w i 0) (sym e) ∙ (sym p ∙ q) in
-      rw (lt-ltb (rank_in w n x) (held w n) (omega arith), eq-eqb (get_or w (rank_in w n x) 0) x b)
+  part-long : length part ≡ n
+  part-long = ap (λ (l : List ℕ). length l) is_part ∙ length-take-le n (drop first w) (rw (length-drop first w) (omega arith))
 
-  pub stands-no : at < m → (v : ℕ) → v ≡ get_or w at 0 → (v ≡ x → ⊥) → ◌≡◌ {A = ℕ} 0 (pick (is_there w n x) 1 0)
-  stands-no h v p q =
-      rw (lt-ltb (rank_in w n x) (held w n) (omega arith), ne_eqb (get_or w (rank_in w n x) 0) x (λ b. q (p ∙ (ap (λ (i : ℕ). get_or w i 0) e ∙ b))))
+  part-at : (i : ℕ) → i < n → get_or part i 0 ≡ get_or w (first + i) 0
+  part-at i b = ap (λ (l : List ℕ). get_or l i 0) is_part ∙ (get_or-take n (drop first w) i 0 b ∙ get_or-drop first w i 0)
 
-  pub stands-out : m ≤ at → ◌≡◌ {A = ℕ} 0 (pick (is_there w n x) 1 0)
-  stands-out h = rw (le-ltb (rank_in w n x) (held w n) (omega arith))
+  pub part-laid : build (length part) (λ i. g (get_or part i 0)) ≡ build n (λ i. g (get_or w (first + i) 0))
+  part-laid = build-is (length part) (λ i. g (get_or part i 0)) (build n (λ i. g (get_or w (first + i) 0))) 0 (length-build n (λ i. g (get_or w (first + i) 0)) ∙ sym part-long)
+      (λ i b. let o : i < n = omega (arith, part-long) in ap g (part-at i o) ∙ sym (get_or-build n (λ i. g (get_or w (first + i) 0)) i 0 o))
 
 -- ---- the answer
 
-module _ (x : Map) (t : ℕ) (a b : List ℕ) (n : ℕ) (e : n ≡ many_in x t) where
-  refused : lacking (many_in x t) a b ≡ true → GivesPits x t (a ⇒ a) (b ⇒ b) (Refused 13)
-  refused l = record { gave = rw l; numbers = rw l; sureness = rw l }
-
-  pub short-numbers : length a < n → GivesPits x t (a ⇒ a) (b ⇒ b) (Refused 13)
-  short-numbers h = refused (rw (lt-ltb (length a) (many_in x t) (omega arith)))
-
-  pub short-certain : length b < n → GivesPits x t (a ⇒ a) (b ⇒ b) (Refused 13)
-  short-certain h = refused (or-of-right (ltb (length a) (many_in x t)) (lt-ltb (length b) (many_in x t) (omega arith)))
-
-  pub given : n ≤ length a → n ≤ length b → (first : ℕ) → first ≡ first_of x.pits x.had-pits t → (a' b' : List ℕ)
-      → LaysPits x.pits first n x.sure x.had-sure (a ⇒ a') (b ⇒ b') → GivesPits x t (a ⇒ a') (b ⇒ b') (Many n)
+module _ (x : Map) (t : ℕ) (a b : List ℕ) (n : ℕ) (e : n ≡ many_in x t) (first : ℕ) (f : first ≡ first_of x.pits x.had-pits t) (o : first + n ≤ length x.pits) where
+  pub given : n ≤ length a → n ≤ length b → (a' b' : List ℕ)
+      → LaysPits (take (first + n - first) (drop first x.pits)) x.sure x.had-sure (a ⇒ a') (b ⇒ b') → GivesPits x t (a ⇒ a') (b ⇒ b') (Many n)
   unfolding numbers_in certain_in
-  given h g first f a' b' p =
+  given h g a' b' p =
       let l : lacking (many_in x t) a b ≡ false = rw (le-ltb (length a) (many_in x t) (omega arith), le-ltb (length b) (many_in x t) (omega arith)) in
-      record { gave = rw l (ap Many e); numbers = rw l (p.numbers ∙ rw (e, f)); sureness = rw l (p.sureness ∙ rw (e, f)) }
+      let k = part-laid x.pits first n o _ refl in
+      record {
+        gave = rw l (ap Many e);
+        numbers = rw l (p.numbers ∙ (ap (overlay a 0) (k (λ y. y % span)) ∙ rw (e, f)));
+        sureness = rw l (p.sureness ∙ (ap (overlay b 0) (k (λ y. pick (is_there x.sure x.had-sure y) 1 0)) ∙ rw (e, f)));
+      }

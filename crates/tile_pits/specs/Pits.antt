@@ -1,15 +1,15 @@
 -- WHICH PITS A TILE HAS, out of the sets: the tile's part of the pits, and whether each stands among the sure ones too. For words that are no sets this
 -- says what comes of them all the same. Definitions only.
-use Rattle.std.specs.Prelude.{◌≡◌, Bool, ◌||◌, List, ℕ, ◌+◌, ◌%◌, ltb, length, get_or}
+use Rattle.std.specs.Prelude.{◌≡◌, Bool, ◌||◌, List, ℕ, ◌+◌, ◌%◌, ltb, length, get_or, Result, Ok, Err}
 use Rattle.wire.specs.Choice.{pick}
 use Rattle.wire.specs.Overlay.{overlay}
 use Rattle.wire.specs.Slices.{Buffer}
 use Rattle.words.specs.Builds.{build}
 use Rattle.sorted_set.specs.Halving.{rank_in, is_there}
 use Rattle.count_rules.specs.Keys.{span, pit_key}
+use Rattle.refusals.specs.declared.Refusal.{Refusal}
+use Rattle.refusals.specs.Numbers.{number_of}
 use Rattle.pit_marks.specs.Lines.{pits_in}
-use Rattle.tile_pits.specs.declared.Pits.{Pits}
-use Rattle.tile_pits.specs.declared.Pits.TheVariants.{Many, Refused}
 
 -- the pits of all tiles and the sure ones, with how many numbers each has
 pub record Map : Type 0 where
@@ -44,6 +44,16 @@ certain_in x t = build (many_in x t) (λ i. pick (is_there x.sure x.had-sure (ke
 -- one of the two has no room for them
 abbrev pub lacking : ℕ → List ℕ → List ℕ → Bool
 lacking n number certain = ltb (length number) n || ltb (length certain) n
+
+-- how many the tile has, or the number of the refusal
+pub data Pits : Type 0 where
+  Many : ℕ → Pits
+  Refused : ℕ → Pits
+
+-- what the code says
+abbrev pub told : Result ℕ Refusal → Pits
+told (Ok n) = Many n
+told (Err r) = Refused (number_of r)
 
 -- how many, or that there is no room
 abbrev pub pits_given : Bool → ℕ → Pits

@@ -7,9 +7,11 @@ use Rattle.wire.specs.Bytes.{Bytes}
 use Rattle.wire.specs.Choice.{pick}
 use Rattle.wire.specs.Overlay.{overlay}
 use Rattle.wire.specs.Taken.{Taken, taken, refused}
-use Rattle.varint.specs.Seven.{groups, seven, lowest, groups_in, seven_in, groups_after, placed, seven_at}
-use Rattle.varint.specs.declared.Seven.{Seven}
-use Rattle.varint.specs.declared.Seven.TheVariants.{Number, Refused}
+use Rattle.varint.specs.Seven.{groups, seven, lowest, groups_in, seven_in, groups_after, placed, seven_at, Seven, Number, Refused, told}
+use Rattle.std.proofs.Common.{Result, Ok, Err}
+use Rattle.refusals.specs.declared.Refusal.{Refusal}
+use Rattle.refusals.specs.Numbers.{number_of}
+use Rattle.refusals.proofs.Names.{same_number}
 use Rattle.wire.proofs.Numbers.{drop-bytes}
 use Rattle.wire.proofs.Overlays.{overlay-one, overlay-append}
 
@@ -253,3 +255,14 @@ number-taken s at v next h r e f = by-taken (seven_in (drop at s)) refl
         let n : next ≡ at + length (seven w) = omega arith in
         let d : rest ≡ drop next s = sym (drop-append_seam (seven w) rest) ∙ ap (drop (length (seven w))) b ∙ drop-drop (length (seven w)) at s ∙ ap (λ (k : ℕ). drop k s) (sym n) in
         record { is = p ∙ ap (λ (x : ℕ). taken x rest) m ∙ ap (taken v) d; on = omega arith; within = omega arith }
+
+-- ---- the code's answer says one thing: no second answer satisfies `read_seven`
+
+pub told-once : (r s : Result (ℕ × ℕ) Refusal) → told r ≡ told s → r ≡ s
+told-once (Ok (v, next)) (Ok (w, after)) e =
+    let f : v ≡ w = cc in
+    let g : next ≡ after = cc in
+    rw (f, g) refl
+told-once (Ok (v, next)) (Err s) e = cc
+told-once (Err r) (Ok (w, after)) e = cc
+told-once (Err r) (Err s) e = let f : number_of r ≡ number_of s = cc in ap Err (same_number r s f)

@@ -1,10 +1,10 @@
 -- Seven-bit numbers: document 02, L1. "Written in groups of seven bits, lowest group first, the top bit set on all but the last, and only in
 -- the shortest form". Definitions only.
-use Rattle.std.specs.Prelude.{List, [], ◌∷◌, ℕ, zero, suc, ◌+◌, ◌-◌, ◌*◌, ◌/◌, ◌%◌, eqb, ltb, length, drop}
+use Rattle.std.specs.Prelude.{List, [], ◌∷◌, ℕ, zero, suc, ◌+◌, ◌-◌, ◌*◌, ◌/◌, ◌%◌, eqb, ltb, length, drop, Result, Ok, Err}
 use Rattle.wire.specs.Choice.{pick}
 use Rattle.wire.specs.Taken.{Taken, taken, refused}
-use Rattle.varint.specs.declared.Seven.{Seven}
-use Rattle.varint.specs.declared.Seven.TheVariants.{Number, Refused}
+use Rattle.refusals.specs.declared.Refusal.{Refusal}
+use Rattle.refusals.specs.Numbers.{number_of}
 
 -- a 64-bit number has its first group and at most nine after it
 abbrev pub groups_after : ℕ
@@ -36,6 +36,15 @@ abbrev pub seven_in : List ℕ → Taken ℕ
 seven_in b = groups_in groups_after b
 
 -- ---- the code's answer: the number and the place of s at which what follows it begins
+
+pub data Seven : Type 0 where
+  Number : ℕ → ℕ → Seven
+  Refused : ℕ → Seven
+
+-- what the code says, in the papers' values
+abbrev pub told : Result (ℕ × ℕ) Refusal → Seven
+told (Ok (v, next)) = Number v next
+told (Err r) = Refused (number_of r)
 
 abbrev pub placed : List ℕ → Taken ℕ → Seven
 placed s (taken v rest) = Number v (length s - length rest)

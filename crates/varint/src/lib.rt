@@ -3,17 +3,12 @@
 
 ghost use Rattle.std.specs.Prelude.{◌≡◌, ◌*◌, ◌^◌, ◌<◌, ◌≤◌, length, drop};
 ghost use Rattle.wire.specs.Overlay.{overlay};
-ghost use Rattle.varint.specs.Seven.{groups_after, groups, seven, groups_in, placed, seven_at};
+ghost use Rattle.varint.specs.Seven.{groups_after, groups, seven, groups_in, placed, seven_at, told};
+
+use refusals::Refusal;
 
 // A 64-bit number has its first group and at most nine after it.
 const GROUPS_AFTER: usize = 9;
-
-// A number and the place after it, or the refusal: 43 where it is cut, 41 where it is not in its shortest form or its tenth byte is above 1.
-#[derive(Clone, Copy)]
-pub enum Seven {
-    Number(u64, usize),
-    Refused(u32),
-}
 
 fn length_of(k: usize, v: u64) -> usize
     requires { k ≤ groups_after }
@@ -57,38 +52,35 @@ pub fn put_seven(out: &mut [u8], at: usize, v: u64)
     put_groups(out, at, GROUPS_AFTER, v);
 }
 
-fn read_groups(s: &[u8], at: usize, k: usize) -> Seven
+// The number of at most k groups after its first, and the place after it.
+fn read_groups(s: &[u8], at: usize, k: usize) -> Result<(u64, usize), Refusal>
     requires { k ≤ groups_after }
-    ensures { result ≡ placed s.now (groups_in k (drop at s.now)) }
+    ensures { told result ≡ placed s.now (groups_in k (drop at s.now)) }
 {
     if s.len() <= at {
-        return Seven::Refused(43);
+        return Err(Refusal::LogCut);
     }
     let x = wire::wide(s[at]);
     if k == 0 {
         if 1 < x {
-            return Seven::Refused(41);
+            return Err(Refusal::NotShortest);
         }
-        return Seven::Number(x, at + 1);
+        return Ok((x, at + 1));
     }
     if x < 128 {
-        return Seven::Number(x, at + 1);
+        return Ok((x, at + 1));
     }
-    let high = read_groups(s, at + 1, k - 1);
-    match high {
-        Seven::Number(v, next) => {
-            if v == 0 {
-                return Seven::Refused(41);
-            }
-            Seven::Number(x - 128 + 128 * v, next)
-        }
-        Seven::Refused(n) => Seven::Refused(n),
+    let (v, next) = read_groups(s, at + 1, k - 1)?;
+    if v == 0 {
+        return Err(Refusal::NotShortest);
     }
+    Ok((x - 128 + 128 * v, next))
 }
 
-// The number at a place.
-pub fn read_seven(s: &[u8], at: usize) -> Seven
-    ensures { result ≡ seven_at s.now at }
+// The number at a place, and the place after it. It is refused by 43 where it is cut, and by 41 where it is not in its shortest form or its tenth
+// byte is above 1.
+pub fn read_seven(s: &[u8], at: usize) -> Result<(u64, usize), Refusal>
+    ensures { told result ≡ seven_at s.now at }
 {
     read_groups(s, at, GROUPS_AFTER)
 }

@@ -6,23 +6,22 @@ use Rattle.datagram.specs.Read.{read_datagram_lem, part_of}
 use Rattle.datagram.specs.Said.{Fragment, fragment_in, says}
 use Rattle.datagram.specs.Said as said
 use Rattle.datagram.specs.declared.Header.{Header}
-use Rattle.datagram.specs.declared.Read.{Read}
-use Rattle.datagram.specs.declared.Read.TheVariants.{Good, Refused}
+use Rattle.datagram.specs.Read.{Read}
+use Rattle.datagram.specs.Read.{Good, Refused}
 use Rattle.steps.specs.Limits.{slot_count}
 use Rattle.steps.specs.Held.{is_held}
 use Rattle.steps.specs.Memory.{key_of, is_remembered_lem}
 use Rattle.steps.specs.Slots.{slot_at, find_open_lem}
 use Rattle.steps.specs.Receive.{Machine, Verdict, refuse, again, deliver, join, begin, same_message, same_fragment_lem, agrees_with_all, step2, step3, step3or4, decide}
 use Rattle.steps.proofs.Seats.{open-found}
-use Rattle.slots.specs.declared.Found.{Found}
-use Rattle.slots.specs.declared.Found.TheVariants.{At, Nothing}
+use Rattle.std.proofs.Common.{Option as Maybe, Some, None}
 use Rattle.slots.specs.Words.{key_in, first_below}
 use Rattle.receiver_state.specs.View.{room_word, slots_of, view, ready}
 use Rattle.receiver_state.specs.Inside.{Ready, Told}
-use Rattle.receiver_state.proofs.Firsts.{option_of}
+use Rattle.steps.specs.InsideSearch.{option_of}
 use Rattle.receiver_state.proofs.Bridge.{slots_length, open-slot}
 use Rattle.verdict.specs.Decided.{with_header, verdict_of, by_read, decided}
-use Rattle.verdict.specs.declared.Verdict.TheVariants as code
+use Rattle.verdict.specs.Decided as code
 use Rattle.verdict.specs.Inside.{small_verdict, Possible}
 use Rattle.verdict.proofs.Gates.{ready-is, told}
 
@@ -89,12 +88,12 @@ possible w n store ledger sender d = go (ready w n (length store) (length ledger
 -- ---- in the terms of the code
 
 module _ (w n : List ℕ) (sender x q : ℕ) (ex : x ≡ q) where
-  pub open_is : (g : Found) → g ≡ first_below (key_in w sender x) slot_count → find_open_lem (slots_of w n) (key_of sender q) ≡ option_of g
+  pub open_is : (g : Maybe ℕ) → g ≡ first_below (key_in w sender x) slot_count → find_open_lem (slots_of w n) (key_of sender q) ≡ option_of g
   open_is g eg = open-slot w n sender q ∙ ap option_of (sym (eg ∙ ap (λ (y : ℕ). first_below (key_in w sender y) slot_count) ex))
 
-pub small-verdict : (d : List ℕ) (h : Header) (g : Found) → small_verdict h g ≡ with_header h (step2 (option_of g) (part_of d h.name) (part_of d h.payload))
-small-verdict d h (At s) = refl
-small-verdict d h Nothing = refl
+pub small-verdict : (d : List ℕ) (h : Header) (g : Maybe ℕ) → small_verdict h g ≡ with_header h (step2 (option_of g) (part_of d h.name) (part_of d h.payload))
+small-verdict d h (Some s) = refl
+small-verdict d h None = refl
 
 module _ (w n store ledger : List ℕ) (sender : ℕ) (d : List ℕ) where
   pub unready : ready w n (length store) (length ledger) ≡ false → decided w n store ledger sender d ≡ code.Refuse 9

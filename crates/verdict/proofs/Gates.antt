@@ -5,7 +5,7 @@ use Rattle.wire.proofs.Choices.{never, and_l, and_r}
 use Rattle.datagram.specs.Limits.{max_fragments}
 use Rattle.datagram.specs.Read.{read_datagram_lem, part_of}
 use Rattle.datagram.specs.declared.Header.{Header}
-use Rattle.datagram.specs.declared.Read.TheVariants.{Good}
+use Rattle.datagram.specs.Read.{Good}
 use Rattle.datagram.proofs.Names.{name-short}
 use Rattle.datagram.proofs.Places.{Inside, SmallForm, FragmentForm, accepted-good, part_length}
 use Rattle.steps.specs.Limits.{slot_count, ledger_length, slot_size_of}

@@ -1,17 +1,39 @@
 -- WHAT IS DECIDED about a datagram, for every state, names, store, ledger and sender: the step list's verdict, with the header that was read. Definitions only.
 use Rattle.std.specs.Prelude.{List, ℕ, length, get_or}
 use Rattle.wire.specs.Choice.{pick}
+use Rattle.refusals.specs.Numbers.{number_of}
 use Rattle.datagram.specs.Limits.{max_fragments}
 use Rattle.datagram.specs.Read.{read_datagram_lem, part_of}
 use Rattle.datagram.specs.Said.{says, fragment_in}
 use Rattle.datagram.specs.declared.Header.{Header}
-use Rattle.datagram.specs.declared.Read.{Read}
-use Rattle.datagram.specs.declared.Read.TheVariants.{Good, Refused}
+use Rattle.datagram.specs.Read.{Read}
+use Rattle.datagram.specs.Read.{Good, Refused}
 use Rattle.steps.specs.Receive.{Machine, decide, refuse, again, deliver, join, begin}
 use Rattle.steps.specs.Receive as steps
 use Rattle.receiver_state.specs.View.{room_word, view, ready}
-use Rattle.verdict.specs.declared.Verdict.{Verdict}
-use Rattle.verdict.specs.declared.Verdict.TheVariants.{Refuse, Again, Deliver, Join, Begin}
+use Rattle.verdict.specs.declared.Verdict as code
+use Rattle.verdict.specs.declared.Verdict.TheVariants as code_verdict
+
+-- what is to be done, with the header that was read
+pub data Verdict : Type 0 where
+  -- refused, by the number of document 01
+  Refuse : ℕ → Verdict
+  -- a repeat
+  Again : Verdict
+  -- a small message, delivered from the datagram
+  Deliver : Header → Verdict
+  -- the fragment goes into that open slot
+  Join : ℕ → Header → Verdict
+  -- the fragment opens a slot
+  Begin : Header → Verdict
+
+-- what the code decides, in the papers' values
+abbrev pub verdict_told : code.Verdict → Verdict
+verdict_told (code_verdict.Refuse r) = Refuse (number_of r)
+verdict_told code_verdict.Again = Again
+verdict_told (code_verdict.Deliver h) = Deliver h
+verdict_told (code_verdict.Join s h) = Join s h
+verdict_told (code_verdict.Begin h) = Begin h
 
 -- a verdict on the datagram with that header
 abbrev pub with_header : Header → steps.Verdict → Verdict

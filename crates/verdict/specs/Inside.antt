@@ -1,22 +1,13 @@
 -- INSIDE: what the private functions give, and what is known of a verdict. Definitions only; no promise of a public function rests on them.
-use Rattle.std.specs.Prelude.{◌≡◌, true, List, ℕ, ◌<◌}
+use Rattle.std.specs.Prelude.{Option, Some, None, ◌≡◌, true, List, ℕ, ◌<◌}
 use Rattle.datagram.specs.declared.Header.{Header}
-use Rattle.datagram.specs.declared.Read.{Read}
-use Rattle.datagram.specs.declared.Read.TheVariants.{Good, Refused}
 use Rattle.steps.specs.Limits.{slot_count}
-use Rattle.slots.specs.declared.Found.{Found}
-use Rattle.slots.specs.declared.Found.TheVariants.{At, Nothing}
 use Rattle.receiver_state.specs.Inside.{Ready, Told}
-use Rattle.verdict.specs.declared.Verdict.{Verdict}
-use Rattle.verdict.specs.declared.Verdict.TheVariants.{Refuse, Again, Deliver, Join, Begin}
+use Rattle.verdict.specs.Decided.{Verdict, Refuse, Again, Deliver, Join, Begin}
 
-abbrev pub passed_on_lem : Read → ℕ
-passed_on_lem (Refused n) = n
-passed_on_lem (Good h) = 0
-
-abbrev pub small_verdict : Header → Found → Verdict
-small_verdict h (At s) = Refuse 8
-small_verdict h Nothing = Deliver h
+abbrev pub small_verdict : Header → Option ℕ → Verdict
+small_verdict h (Some s) = Refuse 8
+small_verdict h None = Deliver h
 
 -- something is done only with a state in order and a header that was read; only a small message is delivered at once, and a slot that is joined is one
 -- of them all

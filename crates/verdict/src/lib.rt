@@ -4,24 +4,23 @@
 
 ghost use Rattle.std.specs.Prelude.{◌≡◌, false, ◌<◌, length, get_or};
 ghost use Rattle.datagram.specs.Said.{says, fragment_in};
-ghost use Rattle.datagram.specs.declared.Read.TheVariants.{Good};
+ghost use Rattle.datagram.specs.Read.{Good};
 ghost use Rattle.steps.specs.Limits.{slot_count, ledger_length};
 ghost use Rattle.steps.specs.Slots.{slot_at};
 ghost use Rattle.steps.specs.Receive.{same_fragment_lem, step3};
 ghost use Rattle.steps.specs.Receive as steps;
 ghost use Rattle.receiver_state.specs.View.{room_word, view, slots_of};
 ghost use Rattle.receiver_state.specs.Inside.{Ready, Told};
-ghost use Rattle.verdict.specs.Decided.{with_header, decided};
-ghost use Rattle.verdict.specs.Inside.{passed_on_lem, small_verdict};
+ghost use Rattle.verdict.specs.Decided.{verdict_told, with_header, decided};
+ghost use Rattle.verdict.specs.Inside.{small_verdict};
 
-use datagram::{Header, Read};
-use slots::Found;
+use datagram::Header;
+use refusals::Refusal;
 
 // What is to be done, with the header that was read.
-#[derive(Clone, Copy)]
+#[derive(Clone, Copy, Debug, PartialEq, Eq)]
 pub enum Verdict {
-    // by the number of document 01
-    Refuse(u32),
+    Refuse(Refusal),
     // a repeat
     Again,
     // a small message, delivered from the datagram
@@ -78,24 +77,23 @@ fn at_open(
     d: &[u8],
 ) -> Verdict
     requires { (s < slot_count) × Ready state.now names.now × Told d.now h × (length ledger.now ≡ ledger_length) × (h.small ≡ false) }
-    ensures { result ≡ with_header h (step3 (get_or state.now room_word 0) store.now ledger.now s
+    ensures { verdict_told result ≡ with_header h (step3 (get_or state.now room_word 0) store.now ledger.now s
         (slot_at (slots_of state.now names.now) s) (fragment_in d.now h)) }
 {
-    let b = slots::HEAD + slots::BLOCK * s;
-    if words::word(state, b + slots::SIZE) != words::as_word(h.size) {
-        return Verdict::Refuse(8);
+    if slots::word_of(state, s, slots::SIZE) != words::as_word(h.size) {
+        return Verdict::Refuse(Refusal::Disagrees);
     }
-    if words::word(state, b + slots::COUNT) != words::as_word(h.count) {
-        return Verdict::Refuse(8);
+    if slots::word_of(state, s, slots::COUNT) != words::as_word(h.count) {
+        return Verdict::Refuse(Refusal::Disagrees);
     }
-    let a = b + slots::HELD;
+    let a = slots::HEAD + slots::BLOCK * s + slots::HELD;
     let e = a + slots::HELD_WORDS;
     let held = &state[a..e];
     if held_bits::is_held(held, words::as_size(h.number)) {
         if same_fragment(state, names, store, ledger, s, h, d) {
             return Verdict::Again;
         }
-        return Verdict::Refuse(8);
+        return Verdict::Refuse(Refusal::Disagrees);
     }
     let from = receiver_state::SLOT_LEDGER * s;
     let to = from + receiver_state::SLOT_LEDGER;
@@ -110,16 +108,16 @@ fn at_open(
     ) {
         return Verdict::Join(s, h);
     }
-    Verdict::Refuse(8)
+    Verdict::Refuse(Refusal::Disagrees)
 }
 
 // Step 2: a small message is delivered where its key is not open.
-fn at_small(found: Found, h: Header) -> Verdict
-    ensures { result ≡ small_verdict h found }
+fn at_small(found: Option<usize>, h: Header) -> Verdict
+    ensures { verdict_told result ≡ small_verdict h found }
 {
     match found {
-        Found::At(_) => Verdict::Refuse(8),
-        Found::Nothing => Verdict::Deliver(h),
+        Some(_) => Verdict::Refuse(Refusal::Disagrees),
+        None => Verdict::Deliver(h),
     }
 }
 
@@ -134,7 +132,7 @@ fn by_key(
     d: &[u8],
 ) -> Verdict
     requires { Ready state.now names.now × Told d.now h × (length ledger.now ≡ ledger_length) }
-    ensures { result ≡ with_header h (steps.decide (view state.now names.now) store.now ledger.now sender (says d.now (Good h))) }
+    ensures { verdict_told result ≡ with_header h (steps.decide (view state.now names.now) store.now ledger.now sender (says d.now (Good h))) }
 {
     let sequence = words::as_word(h.sequence);
     if memory::is_remembered(&state[receiver_state::MEMORY..], sender, sequence) {
@@ -144,20 +142,10 @@ fn by_key(
     if h.small {
         return at_small(found, h);
     }
-    let Found::At(s) = found else {
+    let Some(s) = found else {
         return Verdict::Begin(h);
     };
     at_open(state, names, store, ledger, s, h, d)
-}
-
-// The reader's refusal is passed on. Only a refusal is asked about, so the other arm is never taken; 0 is the number of no refusal.
-fn passed_on(read: Read) -> u32
-    ensures { result ≡ passed_on_lem read }
-{
-    match read {
-        Read::Refused(n) => n,
-        Read::Good(_) => 0,
-    }
 }
 
 // THE VERDICT on a datagram of that sender.
@@ -169,15 +157,15 @@ pub fn decide(
     sender: u64,
     d: &[u8],
 ) -> Verdict
-    ensures { result ≡ decided state.now names.now store.now ledger.now sender d.now }
+    ensures { verdict_told result ≡ decided state.now names.now store.now ledger.now sender d.now }
 {
     if !receiver_state::is_ready(state, names, store.len(), ledger.len()) {
-        return Verdict::Refuse(9);
+        return Verdict::Refuse(Refusal::WrongMemory);
     }
     let room = words::word(state, receiver_state::SLOT_SIZE);
     let read = datagram::read_datagram(d, room as usize, datagram::MAX_FRAGMENTS);
-    let Read::Good(h) = read else {
-        return Verdict::Refuse(passed_on(read));
+    let Ok(h) = read else {
+        return Verdict::Refuse(read.unwrap_err());
     };
     by_key(state, names, store, ledger, sender, h, d)
 }

@@ -1,32 +1,23 @@
 -- Laws of a sender's place in a list. Assumes nothing.
-use Rattle.wire.proofs.Basics.{◌∙◌, sym, ◌≡◌, ap, refl, ℕ, ◌≤◌, ◌+◌, ◌<◌, suc, List, [], ◌∷◌, ◌++◌, true, false, Bool, length, drop, get_or, drop_of_length-le, drop-cons, eqb, eq-eqb, ne_eqb, eqb-true}
-use Rattle.wire.proofs.Basics.{add-one, arith}
+use Rattle.wire.proofs.Basics.{◌∙◌, ◌≡◌, ap, refl, ℕ, ◌≤◌, ◌+◌, ◌<◌, suc, List, [], ◌∷◌, ◌++◌, true, false, Bool, length, get_or, eqb, eq-eqb, eqb-true}
+use Rattle.wire.proofs.Basics.{arith}
+use Rattle.std.specs.Prelude.{◌==◌, cond, not, nat_lt, Some, None, position}
+use Rattle.std.specs.List.{position_or_len}
+use Rattle.wire.proofs.Basics.{le-ltb, lt-ltb}
+use native.Mathlib.Decide.{dec_lt}
+use Rattle.std.specs.Option.{unwrap_or}
 use Rattle.wire.specs.Choice.{pick}
 use Rattle.watch.specs.Senders.{place}
 
--- a search from the front: it has passed i senders, none of them this one
-pub record Passed (sender : ℕ) (l : List ℕ) (i : ℕ) : Type 0 where
-  pub within : i ≤ length l
-  pub rest : place sender l ≡ i + place sender (drop i l)
-
-pub passed_none : (sender : ℕ) (l : List ℕ) → Passed sender l 0
-passed_none sender l = record { within = omega arith; rest = omega arith }
-
--- the sender at i is this one, or it is not
-place_here : (sender : ℕ) (l : List ℕ) (i : ℕ) → i < length l → get_or l i 0 ≡ sender → place sender (drop i l) ≡ 0
-place_here sender l i h e = rw (drop-cons l i 0 h, eq-eqb (get_or l i 0) sender e) refl
-
-place-next : (sender : ℕ) (l : List ℕ) (i : ℕ) → i < length l → (get_or l i 0 ≡ sender → ⊥) → place sender (drop i l) ≡ suc (place sender (drop (i + 1) l))
-place-next sender l i h e = rw (add-one, drop-cons l i 0 h, ne_eqb (get_or l i 0) sender e) refl
-
-pub passed_here : {sender : ℕ} {l : List ℕ} {i : ℕ} → Passed sender l i → i < length l → get_or l i 0 ≡ sender → i ≡ place sender l
-passed_here {sender} {l} {i} p h e = omega (arith, place_here sender l i h e)
-
-pub passed-more : {sender : ℕ} {l : List ℕ} {i : ℕ} → Passed sender l i → i < length l → (get_or l i 0 ≡ sender → ⊥) → Passed sender l (i + 1)
-passed-more {sender} {l} {i} p h e = record { within = omega arith; rest = omega (arith, place-next sender l i h e) }
-
-pub passed-all : {sender : ℕ} {l : List ℕ} {i : ℕ} → Passed sender l i → length l ≤ i → i ≡ place sender l
-passed-all {sender} {l} {i} p h = sym (p.rest ∙ ap (λ (d : List ℕ). i + place sender d) (drop_of_length-le l h) ∙ omega arith)
+-- the place is where a search from the front comes to
+place-first : (sender : ℕ) (l : List ℕ) → position_or_len (λ s. s == sender) l ≡ place sender l
+place-first sender [] = refl
+place-first sender (s ∷ l) = by-test (eqb s sender) (place-first sender l)
+  where
+    by-test : (t : Bool) → position_or_len (λ x. x == sender) l ≡ place sender l
+        → cond (not t) (1 + position_or_len (λ x. x == sender) l) 0 ≡ pick t 0 (suc (place sender l))
+    by-test true h = refl
+    by-test false h = omega (arith, h)
 
 place-le-by : (t : Bool) (n m : ℕ) → n ≤ m → pick t 0 (suc n) ≤ suc m
 place-le-by true n m h = omega arith
@@ -55,3 +46,18 @@ pub place-new : (sender : ℕ) (l : List ℕ) → place sender l ≡ length l �
 place-new sender [] e = rw (eq-eqb sender sender refl)
 place-new sender (s ∷ l) e =
     place-new-by (eqb s sender) (place sender l) (length l) (place sender (l ++ sender ∷ [])) e (place-new sender l)
+
+-- the place that it gives, or the list's length
+or-last : (k n : ℕ) → k ≤ n → unwrap_or (cond (nat_lt k n) (Some k) None) n ≡ k
+or-last k n h =
+    elim (dec_lt k n) [
+      | yes l ↦ rw (lt-ltb k n l) refl
+      | no l ↦ rw (le-ltb k n (omega arith)) (omega arith)
+    ]
+
+pub position-place : (sender : ℕ) (l : List ℕ) (n : ℕ) → n ≡ length l → unwrap_or (position (λ s. s == sender) l) n ≡ place sender l
+position-place sender l n e =
+    let p = place-first sender l in
+    ap (unwrap_or (position (λ s. s == sender) l)) e
+    ∙ or-last (position_or_len (λ s. s == sender) l) (length l) (omega (arith, p, place-le sender l))
+    ∙ p

@@ -2,18 +2,20 @@
 // number says about those between. The state goes in by value and comes back.
 #![tactic(auto)]
 
-ghost use Rattle.std.specs.Prelude.{◌≡◌, ◌≤◌, length, take};
+ghost use Rattle.std.specs.Prelude.{◌≡◌, ◌≤◌, ◌==◌, length, position, take};
 ghost use Rattle.differences.specs.Noted.{notes};
 ghost use Rattle.watch.specs.Senders.{empty, place, moved};
 ghost use Rattle.watch.specs.Watching.{asked, Result};
 
 use differences::Answer;
+use refusals::Refusal;
 
 // How many senders a watch has room for.
 pub const SENDERS: usize = 16;
 
 // The first `count` places are in use: a sender, and the last number that moved its watch.
-#[derive(Clone, Copy)]
+// Kept: two arrays, since qm_watch_see is lent the senders and the last numbers as two lists, and copies each as it lies.
+#[derive(Clone, Copy, Debug, PartialEq, Eq)]
 pub struct Watch {
     pub senders: [u64; SENDERS],
     pub lasts: [u32; SENDERS],
@@ -21,7 +23,7 @@ pub struct Watch {
 }
 
 // The answer and the watch afterwards.
-#[derive(Clone, Copy)]
+#[derive(Clone, Copy, Debug, PartialEq, Eq)]
 pub struct Seen {
     pub answer: Answer,
     pub watch: Watch,
@@ -38,19 +40,18 @@ pub fn new() -> Watch
     }
 }
 
+fn position_of(senders: &[u64], sender: u64) -> Option<usize>
+    ensures { result ≡ position (λ s. s == sender) senders.now }
+{
+    senders.iter().position(|s| *s == sender)
+}
+
 // Where a sender stands among the first `count`, or `count`.
 fn find(senders: &[u64], count: usize, sender: u64) -> usize
     requires { count ≤ length senders.now }
     ensures { result ≡ place sender (take count senders.now) }
 {
-    let mut i: usize = 0;
-    while i < count {
-        if senders[i] == sender {
-            return i;
-        }
-        i += 1;
-    }
-    i
+    position_of(&senders[..count], sender).unwrap_or(count)
 }
 
 // Asks what a sender's number says. The watch stays.
@@ -59,7 +60,7 @@ pub fn ask(w: Watch, sender: u64, number: u32) -> Answer
 {
     let count = w.count;
     if SENDERS < count {
-        return Answer::Refused(14);
+        return Answer::Refused(Refusal::TooManySenders);
     }
     let at = find(&w.senders, count, sender);
     if at < count {
@@ -71,7 +72,7 @@ pub fn ask(w: Watch, sender: u64, number: u32) -> Answer
     if at < SENDERS {
         return Answer::First;
     }
-    Answer::Refused(14)
+    Answer::Refused(Refusal::TooManySenders)
 }
 
 // Moves a sender's watch to a number. It asks nothing.
@@ -100,7 +101,7 @@ pub fn see(w: Watch, sender: u64, number: u32) -> Seen
     ensures { Result w sender number result }
 {
     let answer = ask(w, sender, number);
-    if differences::does_move(answer) {
+    if answer.does_move() {
         let watch = move_to(w, sender, number);
         return Seen { answer, watch };
     }

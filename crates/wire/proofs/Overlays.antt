@@ -2,6 +2,8 @@
 use Rattle.wire.proofs.Basics.{◌∙◌, sym, ◌≡◌, ap, refl, ℕ, ◌≤◌, ◌+◌, ◌<◌, ◌-◌, suc, zero, ◌%◌, min, ◌/◌, List, [], ◌∷◌, ◌++◌, append_assoc, length, drop, get_or, take, set, length-take-le, sets}
 use Rattle.wire.proofs.Basics.{take_all, drop_at, take-suc, take-append_seam, not-suc-le-zero, zero-add, le_of_suc-le-suc, dec_le, add-one, arith}
 use native.Mathlib.Nat.{suc-add}
+use borrow.Rule.Slice.PartMut.{put_mid}
+use Rattle.std.proofs.lemmas.Slice.{put_mid-paste}
 use Rattle.wire.specs.Bytes.{bytes}
 use Rattle.wire.specs.Overlay.{overlay}
 use Rattle.wire.proofs.Numbers.{length-bytes}
@@ -20,11 +22,11 @@ overlay-nil (x ∷ d) zero = refl
 overlay-nil (x ∷ d) (suc at) = ap (λ (l : List ℕ). x ∷ l) (overlay-nil d at)
 
 -- past the end nothing is written
-pub overlay-out : (d : List ℕ) (at : ℕ) (s : List ℕ) → length d ≤ at → overlay d at s ≡ d
+pub overlay-out : {X : Type 0} (d : List X) (at : ℕ) (s : List X) → length d ≤ at → overlay d at s ≡ d
 unfolding overlay
 overlay-out [] at s h = refl
 overlay-out (x ∷ d) zero s h = absurd (not-suc-le-zero h)
-overlay-out (x ∷ d) (suc at) s h = ap (λ (l : List ℕ). x ∷ l) (overlay-out d at s (le_of_suc-le-suc h))
+overlay-out {X} (x ∷ d) (suc at) s h = ap (λ (l : List X). x ∷ l) (overlay-out d at s (le_of_suc-le-suc h))
 
 pub overlay-one : (d : List ℕ) (at y : ℕ) → overlay d at (y ∷ []) ≡ set d at y
 unfolding overlay
@@ -43,16 +45,16 @@ overlay-append (x ∷ d) zero (y ∷ s) t =
     rw (zero-add (suc (length s))) (ap (λ (l : List ℕ). y ∷ l) e)
 
 -- where it fits, it is the part before, the bytes, and the part after
-pub overlay-eq : (d : List ℕ) (at : ℕ) (s : List ℕ) → at + length s ≤ length d → overlay d at s ≡ take at d ++ s ++ drop (at + length s) d
+pub overlay-eq : {X : Type 0} (d : List X) (at : ℕ) (s : List X) → at + length s ≤ length d → overlay d at s ≡ take at d ++ s ++ drop (at + length s) d
 unfolding overlay
 overlay-eq [] zero [] h = refl
 overlay-eq [] zero (y ∷ s) h = absurd (let z : ⊥ = omega arith in z)
 overlay-eq [] (suc at) s h = absurd (let z : ⊥ = omega arith in z)
-overlay-eq (x ∷ d) (suc at) s h = rw (suc-add at (length s)) (ap (λ (l : List ℕ). x ∷ l) (overlay-eq d at s (omega arith)))
+overlay-eq {X} (x ∷ d) (suc at) s h = rw (suc-add at (length s)) (ap (λ (l : List X). x ∷ l) (overlay-eq d at s (omega arith)))
 overlay-eq (x ∷ d) zero [] h = refl
-overlay-eq (x ∷ d) zero (y ∷ s) h =
+overlay-eq {X} (x ∷ d) zero (y ∷ s) h =
     let e : overlay d zero s ≡ s ++ drop (length s) d = overlay-eq d zero s (omega arith) ∙ ap (λ (n : ℕ). s ++ drop n d) (zero-add (length s)) in
-    rw (zero-add (suc (length s))) (ap (λ (l : List ℕ). y ∷ l) e)
+    rw (zero-add (suc (length s))) (ap (λ (l : List X). y ∷ l) e)
 
 -- ---- what stands where after a write: at the place, before it and after it
 
@@ -100,14 +102,14 @@ overlay-apart (x ∷ d) zero zero (y ∷ s) t h = absurd (let z : ⊥ = omega ar
 overlay-apart (x ∷ d) zero (suc b) (y ∷ s) t h = ap (λ (l : List ℕ). y ∷ l) (overlay-apart d zero b s t (omega arith))
 
 -- only as many bytes as there is room for count
-pub overlay-cut : (d : List ℕ) (at : ℕ) (s : List ℕ) (n : ℕ) → length d ≤ at + n → overlay d at (take n s) ≡ overlay d at s
+pub overlay-cut : {X : Type 0} (d : List X) (at : ℕ) (s : List X) (n : ℕ) → length d ≤ at + n → overlay d at (take n s) ≡ overlay d at s
 unfolding overlay
 overlay-cut [] at s n h = refl
-overlay-cut (x ∷ d) (suc at) s n h = ap (λ (l : List ℕ). x ∷ l) (overlay-cut d at s n (omega arith))
+overlay-cut {X} (x ∷ d) (suc at) s n h = ap (λ (l : List X). x ∷ l) (overlay-cut d at s n (omega arith))
 overlay-cut (x ∷ d) zero [] zero h = refl
 overlay-cut (x ∷ d) zero [] (suc n) h = refl
 overlay-cut (x ∷ d) zero (y ∷ s) zero h = absurd (let z : ⊥ = omega arith in z)
-overlay-cut (x ∷ d) zero (y ∷ s) (suc n) h = ap (λ (l : List ℕ). y ∷ l) (overlay-cut d zero s n (omega arith))
+overlay-cut {X} (x ∷ d) zero (y ∷ s) (suc n) h = ap (λ (l : List X). y ∷ l) (overlay-cut d zero s n (omega arith))
 
 -- a turn of a loop that copies
 pub overlay-turn : (d : List ℕ) (at : ℕ) (s : List ℕ) (i : ℕ) → i < length s
@@ -118,11 +120,26 @@ overlay-turn d at s i h =
     sym (rw (add-one, take-suc s i 0 h) (a ∙ rw l (overlay-one (overlay d at (take i s)) (at + i) (get_or s i 0))))
 
 -- as many bytes as there are, and as there is room for
-pub overlay-least : (d : List ℕ) (at : ℕ) (s : List ℕ) (n : ℕ) → n ≡ min (length s) (length d - at) → overlay d at (take n s) ≡ overlay d at s
+pub overlay-least : {X : Type 0} (d : List X) (at : ℕ) (s : List X) (n : ℕ) → n ≡ min (length s) (length d - at) → overlay d at (take n s) ≡ overlay d at s
 overlay-least d at s n e = elim (dec_le (length s) n) [
   | yes h ↦ ap (overlay d at) (take_all n s h)
   | no h ↦ overlay-cut d at s n (omega arith)
 ]
+
+-- the part of d that s has room in, copied from s
+pub overlay-part : {X : Type 0} (d : List X) (at : ℕ) (s : List X) (a n k : ℕ) (t : List X)
+    → a ≡ min at (length d) → n ≡ min (length s) (length d - at) → t ≡ take n s → k ≡ n → put_mid a k d t ≡ overlay d at s
+overlay-part {X} d at s a n k t e f g h =
+    let l : length (take n s) ≡ n = length-take-le n s (omega arith) in
+    let fits : a + length (take n s) ≤ length d = rw l (omega arith) in
+    let o : overlay d a (take n s) ≡ take a d ++ take n s ++ drop (a + n) d = overlay-eq d a (take n s) fits ∙ ap (λ (m : ℕ). take a d ++ take n s ++ drop (a + m) d) l in
+    put_mid-paste a k d t (take n s) n g (sym h) (sym l)
+    ∙ ap (λ (x : List X). take a d ++ x ++ drop (a + n) d) (take_all n (take n s) (omega arith))
+    ∙ sym o
+    ∙ elim (dec_le at (length d)) [
+      | yes i ↦ let q : a ≡ at = omega arith in ap (λ (m : ℕ). overlay d m (take n s)) q ∙ overlay-least d at s n f
+      | no i ↦ overlay-out d a (take n s) (omega arith) ∙ sym (overlay-out d at s (omega arith))
+    ]
 
 -- what was written at the front stands there
 pub overlay-front : (d s : List ℕ) (n : ℕ) → n ≤ length d → n ≤ length s → take n (overlay d 0 (take n s)) ≡ take n s

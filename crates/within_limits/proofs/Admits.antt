@@ -6,14 +6,13 @@ use Rattle.datagram.specs.Limits.{max_fragments, max_datagram}
 use Rattle.datagram.specs.Name.{name_length_lem}
 use Rattle.datagram.specs.Read.{magic_in, small_magic, fragment_magic, size_in, number_in, count_in, place, part_of, good_form, fragment_header, formed, zero_to, read_small_lem, read_fragment_lem, read_datagram_lem}
 use Rattle.datagram.specs.Said.{Fragment, Said, refused, small, fragment, fragment_in, says, said}
-use Rattle.datagram.specs.declared.Named.{Named}
-use Rattle.datagram.specs.declared.Named.TheVariants.{Nameless, Long}
+use Rattle.std.proofs.Common.{Option as Maybe, Some, None}
 use Rattle.datagram.specs.declared.Place.{Place}
 use Rattle.datagram.specs.declared.Header.{Header}
-use Rattle.datagram.specs.declared.Read.{Read}
-use Rattle.datagram.specs.declared.Read.TheVariants.{Good, Refused}
+use Rattle.datagram.specs.Read.{Read}
+use Rattle.datagram.specs.Read.{Good, Refused}
 use Rattle.datagram.proofs.Larger.{passed}
-use Rattle.steps.specs.declared.Answer.TheVariants as answer
+use Rattle.steps.specs.Receive as answer
 use Rattle.steps.specs.Receive.{Machine, After, stay, sound, decide, act, receive, step}
 use Rattle.steps.proofs.Branches.{step-unsound}
 use Rattle.steps.proofs.Numbers.{said-number, refusal-number}
@@ -40,9 +39,9 @@ module _ (d : List ℕ) where
       (sym (ap (λ (x : Header). x.small) z), sym (ap (λ (x : Header). x.size) z), sym (ap (λ (x : Header). x.count) z)))
       (λ e h q. clash q)
 
-  zero-names : (r : Named) → OfFragment (zero_to d r)
-  zero-names Nameless h q = clash q
-  zero-names (Long c) h q = formed-names (place 20 c) (21 + c) h q
+  zero-names : (r : Maybe ℕ) → OfFragment (zero_to d r)
+  zero-names None h q = clash q
+  zero-names (Some c) h q = formed-names (place 20 c) (21 + c) h q
 
   body-names : OfFragment (pick (eqb (number_in d) 0) (zero_to d (name_length_lem (drop 20 d))) (formed d (place 20 0) 20))
   body-names = pick_all OfFragment (eqb (number_in d) 0) (λ e. zero-names (name_length_lem (drop 20 d))) (λ e. formed-names (place 20 0) 20)

@@ -3,11 +3,12 @@ use Rattle.wire.proofs.Basics.{◌∙◌, sym, ◌≡◌, ap, refl, subst, ℕ, 
 use Rattle.wire.proofs.Choices.{either}
 use Rattle.datagram.specs.Said.{said}
 use Rattle.steps.specs.declared.PayloadAt.{PayloadAt}
-use Rattle.steps.specs.declared.Answer.TheVariants.{Refused, Delivered}
+use Rattle.steps.specs.Receive.{Refused, Delivered}
 use Rattle.steps.specs.Receive.{Machine, After, stay}
 use Rattle.steps.specs.Receive as steps
 use Rattle.steps.specs.Promises.{Lies}
 use Rattle.steps.specs.Reach.{Reached}
+use Rattle.steps.specs.Answers.{answer_told}
 use Rattle.steps.proofs.Deliveries.{delivery-lies}
 use Rattle.steps.proofs.Limited.{Limited, as_ever, turned_away, limited, within-reached}
 use Rattle.receiver_state.specs.View.{view, shaped}
@@ -44,7 +45,7 @@ module _ (limits : Limits) (l : Lent) (sender : ℕ) (d : List ℕ) where
   ]
 
   -- OF A CALL OF `receive_within`
-  pub receive-within-lies : (r : Outcome) (l' : Lent) → ReceivesWithin limits l sender d r l' → (p : PayloadAt) (n : ℕ) → r.answer ≡ Delivered p n → Lies d l'.store p n
+  pub receive-within-lies : (r : Outcome) (l' : Lent) → ReceivesWithin limits l sender d r l' → (p : PayloadAt) (n : ℕ) → answer_told r.answer ≡ Delivered p n → Lies d l'.store p n
   receive-within-lies r l' k = follows-lies (received_within limits l sender d) l sender d r l' k within-lies
 
   pub receive-within_reaches : (k : ℕ) → shaped l.state l.names ≡ true → Reached k (view l.state l.names) → (r : Outcome) (l' : Lent)

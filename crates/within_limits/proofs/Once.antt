@@ -1,6 +1,6 @@
 -- No second outcome satisfies the contract: two that do are one, with every word and byte of what was lent. Assumes nothing.
 use Rattle.wire.proofs.Basics.{◌≡◌, ℕ, List, false}
-use Rattle.steps.specs.declared.Answer.TheVariants.{Refused}
+use Rattle.steps.specs.Receive.{Refused}
 use Rattle.steps.specs.Receive.{stay}
 use Rattle.receiver_state.specs.View.{shaped}
 use Rattle.receiver.specs.Lent.{Lent}

@@ -3,7 +3,7 @@ use Rattle.wire.proofs.Basics.{◌≡◌, refl, ℕ, ◌≤◌, min, List, eq-eq
 use Rattle.datagram.specs.Limits.{max_fragments}
 use Rattle.datagram.specs.Read.{magic_in, small_magic, read_datagram_lem}
 use Rattle.datagram.specs.declared.Header.{Header}
-use Rattle.datagram.specs.declared.Read.TheVariants.{Good}
+use Rattle.datagram.specs.Read.{Good}
 use Rattle.datagram.proofs.Larger.{larger}
 use Rattle.flight_log.specs.declared.reader.Limits.{Limits}
 use Rattle.within_limits.specs.Within.{read_within_lem}

@@ -6,9 +6,12 @@ use Rattle.datagram.specs.Limits.{max_fragments}
 use Rattle.datagram.specs.Read.{read_datagram_lem, magic_in, small_magic}
 use Rattle.datagram.specs.Said.{says, said}
 use Rattle.datagram.specs.declared.Header.{Header}
-use Rattle.datagram.specs.declared.Read.{Read}
-use Rattle.datagram.specs.declared.Read.TheVariants.{Good, Refused}
-use Rattle.steps.specs.declared.Answer.TheVariants as answer
+use Rattle.datagram.specs.Read.{Read}
+use Rattle.datagram.specs.Read.{Good, Refused}
+use Rattle.refusals.specs.declared.Refusal.{Refusal}
+use Rattle.refusals.specs.Numbers.{number_of}
+use Rattle.steps.specs.declared.Answer.TheVariants as given
+use Rattle.steps.specs.Receive as answer
 use Rattle.steps.specs.declared.Emptied.TheVariants.{Nobody}
 use Rattle.steps.specs.Slots.{no_name_lem}
 use Rattle.steps.specs.Receive.{Machine, After, stay, sound, decide, act, receive, step}
@@ -86,12 +89,12 @@ module _ (l : Limits) (w n store ledger : List ℕ) (sender : ℕ) (d : List ℕ
       → Receives (lent w n store ledger) sender d r l' → ReceivesWithin l (lent w n store ledger) sender d r l'
   by-receive e {r} {l'} = subst (λ (a : After). Follows a (lent w n store ledger) sender d r l') (sym e)
 
-  refusal : (k : ℕ) → Leaves (stay (view w n) store ledger (answer.Refused k)) (record { answer = answer.Refused k; emptied = Nobody; name = no_name_lem }) (lent w n store ledger)
+  refusal : (k : Refusal) → Leaves (stay (view w n) store ledger (answer.Refused (number_of k))) (record { answer = given.Refused k; emptied = Nobody; name = no_name_lem }) (lent w n store ledger)
   unfolding stay
   refusal k = record { answer = refl; emptied = refl; name = refl; machine = refl; store = refl; ledger = refl }
 
-  pub by-limits : (k : ℕ) → ready w n (length store) (length ledger) ≡ true → read_within_lem l (get_or w room_word 0) d ≡ Refused k
-      → ReceivesWithin l (lent w n store ledger) sender d (record { answer = answer.Refused k; emptied = Nobody; name = no_name_lem }) (lent w n store ledger)
-  by-limits k r e = subst (λ (a : After). Follows a (lent w n store ledger) sender d (record { answer = answer.Refused k; emptied = Nobody; name = no_name_lem }) (lent w n store ledger))
-      (sym (received-refused k r e))
+  pub by-limits : (k : Refusal) → ready w n (length store) (length ledger) ≡ true → read_within_lem l (get_or w room_word 0) d ≡ Refused (number_of k)
+      → ReceivesWithin l (lent w n store ledger) sender d (record { answer = given.Refused k; emptied = Nobody; name = no_name_lem }) (lent w n store ledger)
+  by-limits k r e = subst (λ (a : After). Follows a (lent w n store ledger) sender d (record { answer = given.Refused k; emptied = Nobody; name = no_name_lem }) (lent w n store ledger))
+      (sym (received-refused (number_of k) r e))
       (record { leaves = refusal k; tells = told_is sender d _ _ (lent w n store ledger) (refusal k); words = refl; bytes = refl; still = λ j f. refl })

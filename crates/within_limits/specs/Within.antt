@@ -5,8 +5,8 @@ use Rattle.wire.specs.Choice.{pick}
 use Rattle.datagram.specs.Limits.{max_fragments}
 use Rattle.datagram.specs.Read.{read_datagram_lem}
 use Rattle.datagram.specs.Said.{says}
-use Rattle.datagram.specs.declared.Read.{Read}
-use Rattle.steps.specs.declared.Answer.TheVariants.{Refused}
+use Rattle.datagram.specs.Read.{Read}
+use Rattle.steps.specs.Receive.{Refused}
 use Rattle.steps.specs.Receive.{Machine, After, stay, sound, receive}
 use Rattle.receiver_state.specs.View.{view, shaped}
 use Rattle.receiver.specs.Lent.{Lent}

@@ -2,6 +2,7 @@
 #![tactic(auto)]
 
 ghost use Rattle.std.specs.Prelude.{◌≡◌, min};
+ghost use Rattle.datagram.specs.Read.{told};
 ghost use Rattle.datagram.specs.Limits.{max_fragments};
 ghost use Rattle.steps.specs.Slots.{no_name_lem};
 ghost use Rattle.steps.specs.declared.Answer.TheVariants.{Refused};
@@ -9,38 +10,31 @@ ghost use Rattle.steps.specs.declared.Emptied.TheVariants.{Nobody};
 ghost use Rattle.receiver.specs.Lent.{lent_before, lent_after};
 ghost use Rattle.within_limits.specs.Within.{read_within_lem, ReceivesWithin};
 
-use datagram::Read;
+use datagram::Header;
 use flight_log::Limits;
 use receiver::Outcome;
+use refusals::Refusal;
 use steps::{Answer, Emptied};
 
 // The smaller of a log's and the receiver's number of fragments.
 fn fewest(fragments: u32) -> u32
     ensures { result ≡ min max_fragments fragments }
 {
-    if datagram::MAX_FRAGMENTS < fragments {
-        datagram::MAX_FRAGMENTS
-    } else {
-        fragments
-    }
+    datagram::MAX_FRAGMENTS.min(fragments)
 }
 
 // What a datagram says, for slots of `room` bytes and within a log's limits.
-fn read_within(limits: Limits, room: usize, d: &[u8]) -> Read
-    ensures { result ≡ read_within_lem limits room d.now }
+fn read_within(limits: Limits, room: usize, d: &[u8]) -> Result<Header, Refusal>
+    ensures { told result ≡ read_within_lem limits room d.now }
 {
-    datagram::read_datagram(
-        d,
-        wire::least(room, limits.payload),
-        fewest(limits.fragments),
-    )
+    datagram::read_datagram(d, room.min(limits.payload), fewest(limits.fragments))
 }
 
-fn refused(number: u32) -> Outcome
-    ensures { result ≡ record { answer = Refused number; emptied = Nobody; name = no_name_lem } }
+fn refused(refusal: Refusal) -> Outcome
+    ensures { result ≡ record { answer = Refused refusal; emptied = Nobody; name = no_name_lem } }
 {
     Outcome {
-        answer: Answer::Refused(number),
+        answer: Answer::Refused(refusal),
         emptied: Emptied::Nobody,
         name: [0u8; datagram::MAX_NAME],
     }
@@ -59,12 +53,10 @@ pub fn receive_within(
     ensures { ReceivesWithin limits (lent_before state names store ledger) sender d.now result (lent_after state names store ledger) }
 {
     let room = words::word(&*state, receiver_state::SLOT_SIZE);
-    let read = read_within(limits, room as usize, d);
-    let Read::Refused(number) = read else {
-        return receiver::receive(state, names, store, ledger, sender, d);
-    };
-    if receiver_state::is_ready(&*state, &*names, store.len(), ledger.len()) {
-        return refused(number);
+    if let Err(refusal) = read_within(limits, room as usize, d) {
+        if receiver_state::is_ready(&*state, &*names, store.len(), ledger.len()) {
+            return refused(refusal);
+        }
     }
     receiver::receive(state, names, store, ledger, sender, d)
 }

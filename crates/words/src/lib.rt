@@ -10,7 +10,7 @@ ghost use Rattle.wire.specs.Overlay.{overlay};
 pub fn as_word(x: u32) -> u64
     ensures { result ≡ x }
 {
-    x as u64
+    u64::from(x)
 }
 
 // As a size.
@@ -20,20 +20,26 @@ pub fn as_size(x: u32) -> usize
     x as usize
 }
 
-// ---- words and entries
+// ---- read: words, and the ledger's numbers
 
 // The word at a place.
 pub fn word(w: &[u64], i: usize) -> u64
     ensures { result ≡ get_or w.now i 0 }
 {
-    if i < w.len() {
-        return w[i];
-    }
-    0
+    w.get(i).copied().unwrap_or(0)
 }
 
-// One word written.
-pub fn put_word(w: &mut [u64], i: usize, x: u64)
+// The ledger's number at a place, below 2^32.
+pub fn entry(l: &[u32], i: usize) -> usize
+    ensures { (result ≡ get_or l.now i 0) × (result < 2 ^ 32) }
+{
+    as_size(l.get(i).copied().unwrap_or(0))
+}
+
+// ---- written: numbers of either width
+
+// One number written.
+pub fn put_word<T: Copy>(w: &mut [T], i: usize, x: T)
     ensures { w.new ≡ set w.old i x }
 {
     if i < w.len() {
@@ -41,45 +47,9 @@ pub fn put_word(w: &mut [u64], i: usize, x: u64)
     }
 }
 
-// The words of src at a place.
-pub fn put_words(w: &mut [u64], at: usize, src: &[u64])
+// The numbers of src at a place.
+pub fn put_words<T: Copy>(w: &mut [T], at: usize, src: &[T])
     ensures { w.new ≡ overlay w.old at src.now }
 {
-    let n = wire::least(src.len(), wire::room(w.len(), at));
-    let mut i: usize = 0;
-    while i < n {
-        w[at + i] = src[i];
-        i += 1;
-    }
-}
-
-// The ledger's number at a place, below 2^32.
-pub fn entry(l: &[u32], i: usize) -> usize
-    ensures { (result ≡ get_or l.now i 0) × (result < 2 ^ 32) }
-{
-    if i < l.len() {
-        return as_size(l[i]);
-    }
-    0
-}
-
-// One number of the ledger written.
-pub fn put_entry(l: &mut [u32], i: usize, x: u32)
-    ensures { l.new ≡ set l.old i x }
-{
-    if i < l.len() {
-        l[i] = x;
-    }
-}
-
-// The numbers of src at a place of the ledger.
-pub fn put_entries(l: &mut [u32], at: usize, src: &[u32])
-    ensures { l.new ≡ overlay l.old at src.now }
-{
-    let n = wire::least(src.len(), wire::room(l.len(), at));
-    let mut i: usize = 0;
-    while i < n {
-        l[at + i] = src[i];
-        i += 1;
-    }
+    wire::put_all(w, at, src);
 }

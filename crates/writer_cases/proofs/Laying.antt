@@ -3,8 +3,8 @@ use Rattle.wire.proofs.Basics.{◌∙◌, sym, ◌≡◌, ap, refl, ℕ, ◌≤�
 use Rattle.wire.specs.Choice.{◌when◌else◌}
 use Rattle.moss.specs.Limits.{max_message}
 use Rattle.moss.specs.Packet.{gives, refuses}
-use Rattle.moss_writer.specs.declared.Written.{Written}
-use Rattle.moss_writer.specs.declared.Written.TheVariants.{Bytes}
+use Rattle.std.proofs.Common.{Result, Ok}
+use Rattle.refusals.specs.declared.Refusal.{Refusal}
 use Rattle.moss_writer.specs.Write.{laid_of, writes}
 
 module _ (m : List ℕ) (at room n : ℕ) where
@@ -13,6 +13,6 @@ module _ (m : List ℕ) (at room n : ℕ) where
   by_tests false true e q = absurd (let z : ◌≡◌ {A = ℕ} 0 1 = cc in let w : ⊥ = omega arith in w)
   by_tests false false e q = let k : n ≡ 2 + length m = cc in let l = ltb-false room (at + (2 + length m)) e in omega arith
 
-  pub laid-within : (r : Written) → writes r ≡ laid_of m at room → r ≡ Bytes n → at + n ≤ room
+  pub laid-within : (r : Result ℕ Refusal) → writes r ≡ laid_of m at room → r ≡ Ok n → at + n ≤ room
   unfolding laid_of
   laid-within r e q = by_tests (ltb max_message (length m)) (ltb room (at + (2 + length m))) refl (sym (ap writes q) ∙ e)

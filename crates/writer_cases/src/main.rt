@@ -10,8 +10,10 @@ mod acknowledged;
 mod packets;
 mod surveyed;
 
-use std::io::{Stdin, Stdout};
-use stream::{Input, Kind, Next};
+use output::Output;
+use refusals::Refusal;
+use std::io::Stdin;
+use stream::{Ending, Input, Kind};
 
 // The bytes that the writers' output has at most: more than the longest block of a message takes.
 const ROOM: usize = 65600;
@@ -19,115 +21,97 @@ const ROOM: usize = 65600;
 // The bytes of what was written that a line shows.
 const SHOWN: usize = 64;
 
+// What the writers read and write: letters A, message blocks of them, and the room that a case gives them.
+#[derive(Drop)]
+struct Writing {
+    letters: [u8; ROOM],
+    blocks: [u8; ROOM],
+    room: [u8; ROOM],
+}
+
 // The number at a place of a case.
 fn number(case: &[u8], place: usize) -> usize {
     wire::number(case, place, 8) as usize
 }
 
-// How many bytes were written, and the first of them.
-fn pour_bytes(stdout: Stdout, out: &mut [u8], at: usize, bytes: &[u8]) -> usize {
-    let a = output::pour_counted(stdout, out, at, b"bytes ", bytes.len() as u64);
-    let b = output::pour(stdout, out, a, b":");
-    output::pour_hex(stdout, out, b, wire::part(bytes, 0, SHOWN))
+// How many bytes were written, and the first of them; or the refusal. They stand at a place of the room.
+fn pour_written(out: &mut Output, room: &[u8], at: usize, written: Result<usize, Refusal>) {
+    match written {
+        Ok(n) => {
+            let bytes = wire::part(room, at, n);
+            out.pour_counted(b"bytes ", bytes.len() as u64);
+            out.pour(b":");
+            out.pour_hex(wire::part(bytes, 0, SHOWN));
+        }
+        Err(refusal) => pour_refused(out, refusal),
+    }
 }
 
-fn pour_refused(stdout: Stdout, out: &mut [u8], at: usize, n: u32) -> usize {
-    output::pour_counted(stdout, out, at, b"refused ", n as u64)
+fn pour_refused(out: &mut Output, refusal: Refusal) {
+    out.pour_counted(b"refused ", u64::from(refusal.number()));
 }
 
 // The rest of a line, by the byte that names the call.
-fn answer(
-    stdout: Stdout,
-    out: &mut [u8],
-    at: usize,
-    call: u64,
-    case: &[u8],
-    letters: &[u8],
-    blocks: &mut [u8],
-    room: &mut [u8],
-) -> usize {
+fn answer(out: &mut Output, call: u64, case: &[u8], writing: &mut Writing) {
     match call {
-        1 => packets::laid(stdout, out, at, case, letters, room),
-        2 => packets::written(stdout, out, at, case, letters, blocks, room),
-        3 => acknowledged::written(stdout, out, at, case, room),
-        4 => surveyed::written(stdout, out, at, case, room),
-        _ => output::pour(stdout, out, at, b"no such call"),
+        1 => packets::laid(out, case, writing),
+        2 => packets::written(out, case, writing),
+        3 => acknowledged::written(out, case, &mut writing.room),
+        4 => surveyed::written(out, case, &mut writing.room),
+        _ => out.pour(b"no such call"),
     }
 }
 
 // Line n.
-fn one_more(
-    stdout: Stdout,
-    out: &mut [u8],
-    at: usize,
-    n: u64,
-    call: u64,
-    case: &[u8],
-    letters: &[u8],
-    blocks: &mut [u8],
-    room: &mut [u8],
-) -> usize {
-    let a = output::pour_decimal(stdout, out, at, n);
-    let b = output::pour(stdout, out, a, b" ");
-    let c = answer(stdout, out, b, call, case, letters, blocks, room);
-    output::pour(stdout, out, c, b"\n")
+fn one_more(out: &mut Output, n: u64, call: u64, case: &[u8], writing: &mut Writing) {
+    out.pour_decimal(n);
+    out.pour(b" ");
+    answer(out, call, case, writing);
+    out.pour(b"\n");
 }
 
 // One line a case, and the last line. It stops where the output is closed.
-fn run(
-    stdin: Stdin,
-    stdout: Stdout,
-    buf: &mut [u8],
-    out: &mut [u8],
-    letters: &[u8],
-    blocks: &mut [u8],
-    room: &mut [u8],
-)
-    requires { line_limit ≤ length out.old }
+// Kept: this loop is not record_lines' `tell`, since what a line says of a case has no definition in specs/; the vectors hold it.
+fn run(stdin: Stdin, buf: &mut [u8], out: &mut Output, writing: &mut Writing)
+    requires { line_limit ≤ length out.old.buf.now }
 {
     let mut input = Input { at: 0, end: 0 };
-    let mut at: usize = 0;
-    let mut n: u64 = 0;
-    while n < stream::MANY {
-        if at == output::CLOSED {
+    for n in 0..stream::MANY {
+        let record = match stream::next_record(stdin, buf, input, Kind::Numbers) {
+            Ok(record) => record,
+            Err(ending) => {
+                out.finish(n, ending);
+                return;
+            }
+        };
+        input = record.rest;
+        let call = wire::number(stream::head(buf, record.at, Kind::Numbers), 0, 1);
+        one_more(
+            out,
+            n + 1,
+            call,
+            wire::part(buf, record.at, record.len),
+            writing,
+        );
+        if out.is_closed() {
             return;
         }
-        let next = stream::next_record(stdin, buf, input, Kind::Numbers);
-        let Next::Record(from, len, left) = next else {
-            output::finish(stdout, out, at, n, next);
-            return;
-        };
-        n += 1;
-        input = left;
-        let call = wire::number(stream::head(buf, from, Kind::Numbers), 0, 1);
-        at = one_more(
-            stdout,
-            out,
-            at,
-            n,
-            call,
-            wire::part(buf, from, len),
-            letters,
-            blocks,
-            room,
-        );
     }
-    output::finish(stdout, out, at, n, Next::Cut);
+    out.finish(stream::MANY, Ending::Cut);
 }
 
 fn main(rt: HostRuntime) {
     let mut buf = [0u8; 4096];
-    let mut out = [0u8; 4096];
-    let letters = [65u8; ROOM];
-    let mut blocks = [0u8; ROOM];
-    let mut room = [0u8; ROOM];
+    let mut space = [0u8; 4096];
+    let mut writing = Writing {
+        letters: [65u8; ROOM],
+        blocks: [0u8; ROOM],
+        room: [0u8; ROOM],
+    };
     run(
         rt.stdin(),
-        rt.stdout(),
         &mut buf,
-        &mut out,
-        &letters,
-        &mut blocks,
-        &mut room,
+        &mut Output::new(rt.stdout(), &mut space),
+        &mut writing,
     );
 }

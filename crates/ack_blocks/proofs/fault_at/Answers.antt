@@ -1,34 +1,36 @@
--- What is wrong with a block, refusals 71, 70, 72, 73, 74 in that order. Assumes nothing.
-use Rattle.wire.proofs.Basics.{◌∙◌, sym, drop, length-drop, arith}
-use Rattle.ack_blocks.proofs.BlockCases.{fault-kind, fault-cut, fault-run, fault-map, fault-none}
+-- What is wrong with a block of a known kind, refusals 70, 72, 73, 74 in that order. Assumes nothing.
+use Rattle.wire.proofs.Basics.{◌∙◌, sym, ◌≡◌, ap, ◌≤◌, length, drop, length-drop, arith}
+use Rattle.ack_blocks.specs.InsideWalk.{judged}
+use Rattle.ack_blocks.specs.Read.{kind_in, size_in}
+use Rattle.ack_blocks.specs.Kinds.{byte_of}
+use Rattle.ack_blocks.proofs.BlockCases.{byte-known, fault-cut, fault-run, fault-map, fault-none}
 use Rattle.ack_blocks.proofs.fault_at.Goals as goal
-
-pub returns-then-kind-gt-BITMAP : goal.returns-then-kind-gt-BITMAP
-returns-then-kind-gt-BITMAP c =
-    let a = c.args in
-    let s = drop a.at a.b.now in
-    sym (fault-kind s (omega (arith, c.kind_at-kind.ensures)))
 
 pub returns-then-b-at : goal.returns-then-b-at
 returns-then-b-at c =
     let a = c.args in
     let s = drop a.at a.b.now in
-    sym (fault-cut s (omega (arith, c.kind_at-kind.ensures)) (omega (arith, c.size_at.ensures.0, length-drop a.at a.b.now)))
+    ap judged (sym (fault-cut s (byte-known s a.kind c.requires.1) (omega (arith, c.size_at.ensures.0, length-drop a.at a.b.now))))
 
-pub returns-then-kind-eq-RUN : goal.returns-then-kind-eq-RUN
-returns-then-kind-eq-RUN c =
+pub returns-in-Single : goal.returns-in-Single
+returns-in-Single c =
     let a = c.args in
     let s = drop a.at a.b.now in
-    c.run_fault.ensures ∙ sym (fault-run s (omega (arith, c.kind_at-kind.ensures)) (omega (arith, c.size_at.ensures.0, length-drop a.at a.b.now)) (sym c.kind_at-kind.ensures ∙ c.if-kind-eq-RUN.true))
+    let k : kind_in s ≡ 0 = sym c.requires.1 ∙ ap byte_of c.in-Single.is in
+    let whole : size_in s ≤ length s = omega (arith, c.size_at.ensures.0, length-drop a.at a.b.now) in
+    ap judged (sym (fault-none s (byte-known s a.kind c.requires.1) whole (λ h. omega (arith, k, h)) (λ h. omega (arith, k, h))))
 
-pub returns-then-kind-eq-BITMAP : goal.returns-then-kind-eq-BITMAP
-returns-then-kind-eq-BITMAP c =
+pub returns-in-Run : goal.returns-in-Run
+returns-in-Run c =
     let a = c.args in
     let s = drop a.at a.b.now in
-    c.map_fault.ensures ∙ sym (fault-map s (omega (arith, c.kind_at-kind.ensures)) (omega (arith, c.size_at.ensures.0, length-drop a.at a.b.now)) (λ h. c.if-kind-eq-RUN.false (c.kind_at-kind.ensures ∙ h)) (sym c.kind_at-kind.ensures ∙ c.if-kind-eq-BITMAP.true))
+    let whole : size_in s ≤ length s = omega (arith, c.size_at.ensures.0, length-drop a.at a.b.now) in
+    c.run_fault.ensures ∙ ap judged (sym (fault-run s (byte-known s a.kind c.requires.1) whole (sym c.requires.1 ∙ ap byte_of c.in-Run.is)))
 
-pub returns : goal.returns
-returns c =
+pub returns-in-Bitmap : goal.returns-in-Bitmap
+returns-in-Bitmap c =
     let a = c.args in
     let s = drop a.at a.b.now in
-    sym (fault-none s (omega (arith, c.kind_at-kind.ensures)) (omega (arith, c.size_at.ensures.0, length-drop a.at a.b.now)) (λ h. c.if-kind-eq-RUN.false (c.kind_at-kind.ensures ∙ h)) (λ h. c.if-kind-eq-BITMAP.false (c.kind_at-kind.ensures ∙ h)))
+    let k : kind_in s ≡ 2 = sym c.requires.1 ∙ ap byte_of c.in-Bitmap.is in
+    let whole : size_in s ≤ length s = omega (arith, c.size_at.ensures.0, length-drop a.at a.b.now) in
+    c.map_fault.ensures ∙ ap judged (sym (fault-map s (byte-known s a.kind c.requires.1) whole (λ h. omega (arith, k, h)) k))

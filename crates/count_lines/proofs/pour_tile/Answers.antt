@@ -1,6 +1,6 @@
 -- The pieces of a line, one behind the other. Assumes nothing.
-use Rattle.output.proofs.Sending.{pours-then}
+use Rattle.output.proofs.Adding.{adds_then}
 use Rattle.count_lines.proofs.pour_tile.Goals as goal
 
 pub returns : goal.returns
-returns c = pours-then (pours-then c.pour_counted-a.ensures c.pour_counted-b.ensures) c.pour_counted_line.ensures
+returns c = adds_then (adds_then c.pour_counted.ensures c.pour_counted-2.ensures) c.pour_counted_line.ensures

@@ -1,7 +1,7 @@
 -- The four lines, one behind the other. Assumes nothing.
-use Rattle.output.proofs.Sending.{pours-then}
+use Rattle.output.proofs.Adding.{adds_then}
 use Rattle.count_lines.proofs.pour_totals.Goals as goal
 
 pub returns : goal.returns
 returns c =
-    pours-then (pours-then (pours-then c.pour_counted_line-a.ensures c.pour_counted_line-b.ensures) c.pour_counted_line-c.ensures) c.pour_counted_line.ensures
+    adds_then (adds_then (adds_then c.pour_counted_line.ensures c.pour_counted_line-2.ensures) c.pour_counted_line-3.ensures) c.pour_counted_line-4.ensures

@@ -1,6 +1,7 @@
 -- `cutter::cut_datagram` meets its contract. Assumes nothing.
-use Rattle.wire.proofs.Basics.{◌∙◌, sym, ap, refl, le-ltb, lt-ltb, arith}
-use Rattle.cutter.specs.Cut.{says, cut_answer}
+use Rattle.wire.proofs.Basics.{◌∙◌, sym, refl, le-ltb, lt-ltb, arith}
+use Rattle.std.proofs.lemmas.Result.{err_from_is_err_and}
+use Rattle.cutter.specs.Cut.{cut_answer}
 use Rattle.cutter.proofs.Sizes.{sized, planned, answer-plan}
 use Rattle.cutter.proofs.cut_datagram.Goals as goal
 
@@ -20,21 +21,26 @@ returns-then-not-good_name c =
       output = refl;
     }
 
-pub plan-r-requires : goal.plan-r-requires
-plan-r-requires c = sized _ _ (sym c.good_name.ensures ∙ c.if-not-good_name.false) c.if-m-lt-LEAST_SIZE.false c.if-m-gt-MOST_SIZE.false
+pub invariant_of-message : goal.invariant_of-message
+invariant_of-message c = record { sized = sized _ _ (sym c.good_name.ensures ∙ c.if-not-good_name.false) c.if-m-lt-LEAST_SIZE.false c.if-m-gt-MOST_SIZE.false }
 
-pub returns-in_default : goal.returns-in_default
-returns-in_default c =
-    record { answer = c.plan-r.ensures ∙ sym (answer-plan _ _ _ _ _ c.if-m-lt-LEAST_SIZE.false c.if-m-gt-MOST_SIZE.false (sym c.good_name.ensures ∙ c.if-not-good_name.false)); output = rw c.in_default.is }
+pub returns-in_err-cut : goal.returns-in_err-cut
+returns-in_err-cut c =
+    let p = err_from_is_err_and c.from_residual.result c.from_residual.ensures.1 in
+    rw (p.1, p.2)
+    (record {
+      answer = c.in_err-cut.ensures ∙ sym (answer-plan _ _ _ _ _ c.if-m-lt-LEAST_SIZE.false c.if-m-gt-MOST_SIZE.false (sym c.good_name.ensures ∙ c.if-not-good_name.false));
+      output = refl;
+    })
 
 pub put_datagram-requires : goal.put_datagram-requires
 put_datagram-requires c =
-    let made = planned _ _ _ _ _ _ _ (sym c.plan-r.ensures ∙ ap says c.in-Made.is) in
-    ((sized _ _ (sym c.good_name.ensures ∙ c.if-not-good_name.false) c.if-m-lt-LEAST_SIZE.false c.if-m-gt-MOST_SIZE.false, made.limited), (omega (arith, made.few, made.asked), made.count))
+    let made = planned _ _ _ _ _ _ _ (sym c.in_ok-cut.ensures) in
+    ((made.limited, omega (arith, made.few, made.asked)), made.count)
 
 pub returns : goal.returns
 returns c =
     record {
-      answer = ap says (sym c.in-Made.is) ∙ c.plan-r.ensures ∙ sym (answer-plan _ _ _ _ _ c.if-m-lt-LEAST_SIZE.false c.if-m-gt-MOST_SIZE.false (sym c.good_name.ensures ∙ c.if-not-good_name.false));
+      answer = c.in_ok-cut.ensures ∙ sym (answer-plan _ _ _ _ _ c.if-m-lt-LEAST_SIZE.false c.if-m-gt-MOST_SIZE.false (sym c.good_name.ensures ∙ c.if-not-good_name.false));
       output = c.put_datagram.ensures;
     }

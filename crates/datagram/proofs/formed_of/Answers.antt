@@ -13,7 +13,7 @@ returns-then-good_fragment c =
     let o = c.four-3.ensures in
     let k = c.two.ensures.0 in
     let n = c.two-2.ensures.0 in
-    let l = c.room-n.ensures in
+    let l = c.saturating_sub-n.ensures in
     let g = rw (p, o, k, n, l) at (sym c.good_fragment.ensures ∙ c.if-good_fragment.true) in
     rw (q, p, o, k, n, l, g)
 
@@ -24,5 +24,5 @@ returns c =
     let o = c.four-3.ensures in
     let k = c.two.ensures.0 in
     let n = c.two-2.ensures.0 in
-    let l = c.room-n.ensures in
+    let l = c.saturating_sub-n.ensures in
     rw (rw (p, o, k, n, l) at (sym c.good_fragment.ensures ∙ c.if-good_fragment.false))

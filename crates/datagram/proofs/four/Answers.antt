@@ -1,8 +1,9 @@
 -- `datagram::four` meets its contract. Assumes nothing.
-use Rattle.wire.proofs.Numbers.{be-four}
+use Rattle.wire.proofs.Basics.{get_or-drop, arith}
+use Rattle.wire.specs.Bytes.{be}
+use native.Mathlib.Nat.{add-zero}
 use Rattle.datagram.proofs.four.Goals as goal
 
 pub returns : goal.returns
-returns c =
-    let a = c.args in
-    be-four a.d.now a.at _ _ c.two.ensures.0 c.two-2.ensures.0
+unfolding be
+returns c = simp (get_or-drop, add-zero) (omega (arith, c.from_be_bytes.ensures))

@@ -2,8 +2,7 @@
 use Rattle.wire.proofs.Basics.{◌≡◌, ℕ, List, ◌≤◌, length, eqb, ltb, eq-eqb, le-ltb, ne_eqb, lt-ltb}
 use Rattle.wire.specs.Choice.{pick}
 use Rattle.datagram.specs.Limits.{max_datagram}
-use Rattle.datagram.specs.Read.{magic_in, small_magic, fragment_magic, read_small_lem, read_fragment_lem, read_datagram_lem}
-use Rattle.datagram.specs.declared.Read.TheVariants.{Refused}
+use Rattle.datagram.specs.Read.{Refused, magic_in, small_magic, fragment_magic, read_small_lem, read_fragment_lem, read_datagram_lem}
 use Rattle.datagram.proofs.Saids.{read-says}
 use Rattle.datagram.proofs.read_datagram.Goals as goal
 

@@ -2,8 +2,7 @@
 use Rattle.wire.proofs.Basics.{◌∙◌, sym, ◌≡◌, ℕ, ◌≤◌, ◌<◌, List, drop, eqb, ltb, eq-eqb, le-ltb, ne_eqb, lt-ltb, le-leb, lt-leb, arith}
 use Rattle.wire.specs.Choice.{pick}
 use Rattle.datagram.specs.Name.{name_length_lem}
-use Rattle.datagram.specs.Read.{size_in, number_in, count_in, place, zero_to, formed, read_fragment_lem}
-use Rattle.datagram.specs.declared.Read.TheVariants.{Refused}
+use Rattle.datagram.specs.Read.{Refused, size_in, number_in, count_in, place, zero_to, formed, read_fragment_lem}
 use Rattle.datagram.proofs.Names.{named-rest, found-short}
 use Rattle.datagram.proofs.read_fragment.Goals as goal
 
@@ -56,10 +55,10 @@ returns-in_default c =
     ∙ rw (eq-eqb _ _ c.if-number-ne0.false, named-rest c.args.d.now 20 _ c.name_length.ensures ∙ c.in_default.is))
 
 pub overflow_add-c : goal.overflow_add-c
-overflow_add-c c = omega (arith, found-short _ _ (named-rest c.args.d.now 20 _ c.name_length.ensures ∙ c.in-Long.is))
+overflow_add-c c = omega (arith, found-short _ _ (named-rest c.args.d.now 20 _ c.name_length.ensures ∙ c.in-Some.is))
 
 pub returns : goal.returns
 returns c =
     c.formed_of-2.ensures ∙ sym
     (past-six _ _ _ _ _ _ c.two-count.ensures.0 c.two-number.ensures.0 c.four.ensures c.if-count-eq0.false c.if-max_count-count.false c.if-count-number.false c.if-max_size-four.false
-    ∙ rw (eq-eqb _ _ c.if-number-ne0.false, named-rest c.args.d.now 20 _ c.name_length.ensures ∙ c.in-Long.is))
+    ∙ rw (eq-eqb _ _ c.if-number-ne0.false, named-rest c.args.d.now 20 _ c.name_length.ensures ∙ c.in-Some.is))

@@ -9,8 +9,8 @@ unfolding read_small_lem
 returns-in_default c = rw (named-rest c.args.d.now 8 _ c.name_length.ensures ∙ c.in_default.is)
 
 pub overflow_add-at : goal.overflow_add-at
-overflow_add-at c = omega (arith, found-short _ _ (named-rest c.args.d.now 8 _ c.name_length.ensures ∙ c.in-Long.is))
+overflow_add-at c = omega (arith, found-short _ _ (named-rest c.args.d.now 8 _ c.name_length.ensures ∙ c.in-Some.is))
 
 pub returns : goal.returns
 unfolding read_small_lem
-returns c = rw (named-rest c.args.d.now 8 _ c.name_length.ensures ∙ c.in-Long.is, c.four.ensures, c.room-n.ensures)
+returns c = rw (named-rest c.args.d.now 8 _ c.name_length.ensures ∙ c.in-Some.is, c.four.ensures, c.saturating_sub-n.ensures)

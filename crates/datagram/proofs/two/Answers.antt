@@ -1,9 +1,9 @@
 -- `datagram::two` meets its contract. Assumes nothing.
-use Rattle.wire.proofs.Basics.{arith}
-use Rattle.wire.proofs.Numbers.{be-two}
+use Rattle.wire.proofs.Basics.{get_or-drop, arith}
+use Rattle.wire.specs.Bytes.{be}
+use native.Mathlib.Nat.{add-zero}
 use Rattle.datagram.proofs.two.Goals as goal
 
 pub returns : goal.returns
-returns c =
-    let a = c.args in
-    (be-two a.d.now a.at _ _ c.byte.ensures.0 c.byte-2.ensures.0, omega arith)
+unfolding be
+returns c = (simp (get_or-drop, add-zero) (omega (arith, c.from.ensures, c.from_be_bytes.ensures)), omega arith)

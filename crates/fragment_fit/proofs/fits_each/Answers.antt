@@ -1,24 +1,14 @@
-use Rattle.wire.proofs.Basics.{◌∙◌, sym, ◌≡◌, refl, arith}
-use Rattle.steps.proofs.Tables.{all-not}
+-- `fragment_fit::fits_each` meets its contract. Assumes nothing.
+use Rattle.std.proofs.Common.{◌∙◌, refl, arith, rules, tests}
+use Rattle.std.proofs.lemmas.Iterator.{YieldsList-from_range}
+use Rattle.std.proofs.lemmas.Iterator.Search.{all_from_yields_List}
+use Rattle.steps.proofs.Ranges.{all-range}
 use Rattle.fragment_fit.specs.Fits.{fits_in_lem}
-use Rattle.held_bits.proofs.Runs.{all_more}
 use Rattle.fragment_fit.proofs.fits_each.Goals as goal
-
-pub loop-j-init : goal.loop-j-init
-loop-j-init c = (omega arith, refl)
-
-pub returns-then-not-fits_with : goal.returns-then-not-fits_with
-returns-then-not-fits_with c =
-    let a = c.args in
-    sym (all-not a.n (fits_in_lem a.held.now a.ledger.now a.k a.offset a.len) c.loop-j.j (omega arith) (sym c.fits_with.ensures ∙ c.if-not-fits_with.true))
-
-pub loop-j-preserved : goal.loop-j-preserved
-loop-j-preserved c =
-    let a = c.args in
-    let l = c.loop-j in
-    (omega arith, all_more (fits_in_lem a.held.now a.ledger.now a.k a.offset a.len) l.j l.invariant.1 (sym c.fits_with.ensures ∙ c.if-not-fits_with.false))
 
 pub returns : goal.returns
 returns c =
-    let e : c.loop-j.j ≡ c.args.n = omega arith in
-    sym (rw e at c.loop-j.invariant.1)
+    let a = c.args in
+    let p = fits_in_lem a.held.now a.ledger.now a.k a.offset a.len in
+    all_from_yields_List p _ _ _ c.all.ensures.ran (YieldsList-from_range 0 a.n a.n refl (omega arith)) (λ x b q k. search (rules, tests))
+    ∙ all-range p a.n

@@ -6,8 +6,7 @@ use Rattle.gauge.proofs.Texts.{Passed}
 use Rattle.gauge.proofs.pour_lengths.Given as goal
 
 abbrev pub invariant-loop-block : goal.invariant-loop-block
-invariant-loop-block l =
-    (fill_fault (messages_in (drop l.block l.p)) ≡ 0) × (length l.out ≡ length l.initial.out) × Passed l.initial.out l.at l.p l.from l.block l.out l.next
+invariant-loop-block l = (fill_fault (messages_in (drop l.block l.p)) ≡ 0) × Passed l.initial.out l.p l.from l.block l.out
 
 abbrev pub decreases-loop-block : goal.decreases-loop-block
 decreases-loop-block l = length l.p - l.block

@@ -1,19 +1,15 @@
 -- By whether there is room for the number that tells, and by the answer. Assumes nothing.
-use Rattle.wire.proofs.Basics.{refl}
-use Rattle.host_acks.proofs.Telling.{ask-short, ask-told}
+use Rattle.wire.proofs.Basics.{◌∙◌, ap, refl, ℕ, set}
+use Rattle.host_acks.proofs.Telling.{ask-short, ask-told, one-or-zero}
 use Rattle.host_acks.proofs.qm_acks_ask.Goals as goal
 
 pub returns-then-told-lt1 : goal.returns-then-told-lt1
-returns-then-told-lt1 c = ask-short _ _ _ c.if-told-lt1.true
+returns-then-told-lt1 c = rw c.number.ensures (ask-short _ _ _ c.if-told-lt1.true)
 
-pub returns-in-Yes : goal.returns-in-Yes
-returns-in-Yes c =
-    ask-told _ _ _ c.if-told-lt1.false c.ask-answer.result _ c.ask-answer.ensures c.in-Yes.is _ _ refl c.put_word.ensures
+pub returns-in-Ok : goal.returns-in-Ok
+returns-in-Ok c =
+    ask-told _ _ _ c.if-told-lt1.false _ c.in-Ok.ensures _ _ refl
+    (c.put_word.ensures ∙ ap (λ (x : ℕ). set c.args.told.now 0 x) (c.from.ensures ∙ one-or-zero c.in-Ok.found))
 
-pub returns-in-No : goal.returns-in-No
-returns-in-No c =
-    ask-told _ _ _ c.if-told-lt1.false c.ask-answer.result _ c.ask-answer.ensures c.in-No.is _ _ refl c.put_word-in-No.ensures
-
-pub returns-in-Refused : goal.returns-in-Refused
-returns-in-Refused c =
-    ask-told _ _ _ c.if-told-lt1.false c.ask-answer.result _ c.ask-answer.ensures c.in-Refused.is _ _ refl refl
+pub returns-in-Err : goal.returns-in-Err
+returns-in-Err c = ask-told _ _ _ c.if-told-lt1.false _ c.in-Err.ensures _ _ c.number-in-Err.ensures refl

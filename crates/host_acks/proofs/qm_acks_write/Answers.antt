@@ -4,12 +4,10 @@ use Rattle.host_acks.proofs.Telling.{write-short, write-told}
 use Rattle.host_acks.proofs.qm_acks_write.Goals as goal
 
 pub returns-then-told-lt1 : goal.returns-then-told-lt1
-returns-then-told-lt1 c = write-short _ _ _ c.if-told-lt1.true
+returns-then-told-lt1 c = rw c.number.ensures (write-short _ _ _ c.if-told-lt1.true)
 
-pub returns-in-Bytes : goal.returns-in-Bytes
-returns-in-Bytes c =
-    write-told _ _ _ c.if-told-lt1.false c.write_blocks-written.result _ _ c.write_blocks-written.ensures c.in-Bytes.is _ _ refl c.put_word.ensures
+pub returns-in-Ok : goal.returns-in-Ok
+returns-in-Ok c = write-told _ _ _ c.if-told-lt1.false _ _ c.in-Ok.ensures _ _ refl c.put_word.ensures
 
-pub returns-in-Refused : goal.returns-in-Refused
-returns-in-Refused c =
-    write-told _ _ _ c.if-told-lt1.false c.write_blocks-written.result _ _ c.write_blocks-written.ensures c.in-Refused.is _ _ refl refl
+pub returns-in-Err : goal.returns-in-Err
+returns-in-Err c = write-told _ _ _ c.if-told-lt1.false _ _ c.in-Err.ensures _ _ c.number-in-Err.ensures refl

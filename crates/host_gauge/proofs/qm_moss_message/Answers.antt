@@ -4,12 +4,10 @@ use Rattle.host_gauge.proofs.Packing.{place_short, place-told}
 use Rattle.host_gauge.proofs.qm_moss_message.Goals as goal
 
 pub returns-then-told-lt-MESSAGE : goal.returns-then-told-lt-MESSAGE
-returns-then-told-lt-MESSAGE c = place_short _ _ _ c.if-told-lt-MESSAGE.true
+returns-then-told-lt-MESSAGE c = rw c.number.ensures (place_short _ _ _ c.if-told-lt-MESSAGE.true)
 
-pub returns-in-At : goal.returns-in-At
-returns-in-At c =
-    place-told _ _ _ c.if-told-lt-MESSAGE.false c.message_place-place.result _ c.message_place-place.ensures c.in-At.is _ _ refl c.put_words.ensures
+pub returns-in-Ok : goal.returns-in-Ok
+returns-in-Ok c = place-told _ _ _ c.if-told-lt-MESSAGE.false _ c.in-Ok.ensures _ _ refl c.put_words.ensures
 
-pub returns-in-Refused : goal.returns-in-Refused
-returns-in-Refused c =
-    place-told _ _ _ c.if-told-lt-MESSAGE.false c.message_place-place.result _ c.message_place-place.ensures c.in-Refused.is _ _ refl refl
+pub returns-in-Err : goal.returns-in-Err
+returns-in-Err c = place-told _ _ _ c.if-told-lt-MESSAGE.false _ c.in-Err.ensures _ _ c.number-in-Err.ensures refl

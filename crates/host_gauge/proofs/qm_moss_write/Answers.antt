@@ -4,15 +4,15 @@ use Rattle.host_gauge.proofs.Packing.{session-short, write-short, write-told}
 use Rattle.host_gauge.proofs.qm_moss_write.Goals as goal
 
 pub returns-then-session-lt-SESSION : goal.returns-then-session-lt-SESSION
-returns-then-session-lt-SESSION c = session-short _ _ _ _ _ _ c.if-session-lt-SESSION.true
+returns-then-session-lt-SESSION c = rw c.number.ensures (session-short _ _ _ _ _ _ c.if-session-lt-SESSION.true)
 
 pub returns-then-told-lt1 : goal.returns-then-told-lt1
-returns-then-told-lt1 c = write-short _ _ _ _ _ _ c.if-told-lt1.true
+returns-then-told-lt1 c = rw c.number-then-told-lt1.ensures (write-short _ _ _ _ _ _ c.if-told-lt1.true)
 
-pub returns-in-Bytes : goal.returns-in-Bytes
-returns-in-Bytes c =
-    write-told _ _ _ _ _ _ c.if-session-lt-SESSION.false c.if-told-lt1.false _ c.session_at-ten.ensures c.write_packet-written.result _ _ c.write_packet-written.ensures c.in-Bytes.is _ _ refl c.put_word.ensures
+pub returns-in-Ok : goal.returns-in-Ok
+returns-in-Ok c =
+    write-told _ _ _ _ _ _ c.if-session-lt-SESSION.false c.if-told-lt1.false _ c.session_at-ten.ensures _ _ c.in-Ok.ensures _ _ refl c.put_word.ensures
 
-pub returns-in-Refused : goal.returns-in-Refused
-returns-in-Refused c =
-    write-told _ _ _ _ _ _ c.if-session-lt-SESSION.false c.if-told-lt1.false _ c.session_at-ten.ensures c.write_packet-written.result _ _ c.write_packet-written.ensures c.in-Refused.is _ _ refl refl
+pub returns-in-Err : goal.returns-in-Err
+returns-in-Err c =
+    write-told _ _ _ _ _ _ c.if-session-lt-SESSION.false c.if-told-lt1.false _ c.session_at-ten.ensures _ _ c.in-Err.ensures _ _ c.number-in-Err.ensures refl

@@ -3,7 +3,7 @@ use Rattle.host_index.proofs.Telling.{find-short, find-told}
 use Rattle.host_index.proofs.qm_find.Goals as goal
 
 pub returns-then-place-lt-PLACE : goal.returns-then-place-lt-PLACE
-returns-then-place-lt-PLACE c = find-short _ _ _ _ _ c.if-place-lt-PLACE.true
+returns-then-place-lt-PLACE c = rw c.number.ensures (find-short _ _ _ _ _ c.if-place-lt-PLACE.true)
 
 pub returns : goal.returns
 returns c =

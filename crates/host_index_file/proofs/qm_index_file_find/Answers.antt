@@ -5,10 +5,10 @@ use Rattle.host_index_file.proofs.qm_index_file_find.Goals as goal
 pub returns-then-place-lt-PLACE : goal.returns-then-place-lt-PLACE
 returns-then-place-lt-PLACE c =
     let a = c.args in
-    look-short a.log.now a.file.now a.sender a.sequence a.place.now c.if-place-lt-PLACE.true
+    rw c.number.ensures (look-short a.log.now a.file.now a.sender a.sequence a.place.now c.if-place-lt-PLACE.true)
 
 pub returns : goal.returns
 returns c =
     let a = c.args in
     let t = c.tell_looked.ensures in
-    look-told a.log.now a.file.now a.sender a.sequence a.place.now _ _ _ c.look_up-looked.result c.if-place-lt-PLACE.false c.as_word.ensures c.look_up-looked.ensures t.0 t.1
+    look-told a.log.now a.file.now a.sender a.sequence a.place.now _ _ _ _ c.if-place-lt-PLACE.false c.as_word.ensures c.look_up-looked.ensures t.0 t.1

@@ -5,10 +5,10 @@ use Rattle.host_index_file.proofs.qm_index_file_head.Goals as goal
 pub returns-then-head-lt-PLACE : goal.returns-then-head-lt-PLACE
 returns-then-head-lt-PLACE c =
     let a = c.args in
-    head-short a.file.now a.head.now c.if-head-lt-PLACE.true
+    rw c.number.ensures (head-short a.file.now a.head.now c.if-head-lt-PLACE.true)
 
 pub returns : goal.returns
 returns c =
     let a = c.args in
     let t = c.tell_head.ensures in
-    head-told a.file.now a.head.now _ _ c.read_head-read.result c.if-head-lt-PLACE.false c.read_head-read.ensures t.0 t.1
+    head-told a.file.now a.head.now _ _ _ c.if-head-lt-PLACE.false c.read_head-read.ensures t.0 t.1

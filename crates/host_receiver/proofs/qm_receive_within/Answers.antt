@@ -6,7 +6,7 @@ use Rattle.host_receiver.proofs.Telling.{short-told, heard-told}
 use Rattle.host_receiver.proofs.qm_receive_within.Goals as goal
 
 pub returns-then-no_room : goal.returns-then-no_room
-returns-then-no_room c = short-told _ _ _ _ _ (sym c.no_room.ensures ∙ c.if-no_room.true)
+returns-then-no_room c = short-told _ _ _ _ _ _ c.number.ensures (sym c.no_room.ensures ∙ c.if-no_room.true)
 
 pub returns : goal.returns
 returns c =

@@ -1,26 +1,22 @@
 -- The rows counted, then judged, then added. Assumes nothing.
-use Rattle.wire.proofs.Basics.{◌∙◌, sym, refl, ◌/◌, length, arith}
-use Rattle.index_builder.proofs.Answers.{adds-refused, adds-full, adds-all, room-before}
+use Rattle.wire.proofs.Basics.{◌∙◌, sym, refl, ◌/◌, length}
+use Rattle.std.proofs.lemmas.Result.{err_from_is_err_and}
+use Rattle.index_builder.proofs.Answers.{adds-refused, adds-full, adds-all}
 use Rattle.index_builder.proofs.add_within.Goals as goal
 
-pub returns-in_default : goal.returns-in_default
-returns-in_default c =
+pub returns-in_err-k : goal.returns-in_err-k
+returns-in_err-k c =
     let a = c.args in
-    adds-refused a.most (length a.batch.now / 3) _ _ _ _ _ a.index.now a.n _ c.walk-counted.ensures c.in_default.is
+    let p = err_from_is_err_and c.from_residual.result c.from_residual.ensures.1 in
+    rw (p.1, p.2) (adds-refused a.most (length a.batch.now / 3) _ _ _ _ _ a.index.now a.n _ c.walk.ensures c.in_err-k.was)
 
 pub returns-then-no_room : goal.returns-then-no_room
 returns-then-no_room c =
     let a = c.args in
-    adds-full a.most (length a.batch.now / 3) _ _ _ _ _ a.index.now a.n _ c.walk-counted.ensures c.in-Entries.is (sym c.no_room.ensures ∙ c.if-no_room.true)
-
-pub walk-requires : goal.walk-requires
-walk-requires c =
-    let a = c.args in
-    let m = room-before a.most (length a.index.now) a.n _ (sym c.no_room.ensures ∙ c.if-no_room.false) in
-    omega (arith, m, c.requires.0)
+    adds-full a.most (length a.batch.now / 3) _ _ _ _ _ a.index.now a.n _ c.walk.ensures c.in_ok-k.was (sym c.no_room.ensures ∙ c.if-no_room.true)
 
 pub returns : goal.returns
 returns c =
     let a = c.args in
     let room = sym c.no_room.ensures ∙ c.if-no_room.false in
-    adds-all a.most (length a.batch.now / 3) _ _ _ _ _ a.index.now a.n _ c.walk-counted.ensures c.in-Entries.is room _ _ (length a.batch.now) refl c.requires.1 c.walk.ensures
+    adds-all a.most (length a.batch.now / 3) _ _ _ _ _ a.index.now a.n _ c.walk.ensures c.in_ok-k.was room _ _ (length a.batch.now) refl c.requires.1 c.walk-2.ensures

@@ -4,23 +4,18 @@ use Rattle.index_file.proofs.Steps.{copy-none, copy-turn, copy-all}
 use Rattle.index_file.proofs.copy_rows.Goals as goal
 
 pub loop-i-init : goal.loop-i-init
-loop-i-init c =
-    let a = c.args in
-    (omega arith, copy-none (file_row a.file.now) a.index.now)
+loop-i-init c = copy-none (file_row c.args.file.now) c.args.index.now
 
 pub put_words-requires : goal.put_words-requires
-put_words-requires c =
-    omega (arith, c.loop-i.invariant.1.size, c.loop-i-test.true, c.requires)
+put_words-requires c = omega (arith, c.loop-i.invariant.size, c.loop-i-test.true, c.requires)
 
 pub loop-i-preserved : goal.loop-i-preserved
 loop-i-preserved c =
-    let a = c.args in
-    (omega arith, copy-turn (file_row a.file.now) a.index.now c.loop-i.i _ _ _ c.loop-i.invariant.1 c.row_at.ensures c.put_words.ensures)
+    copy-turn (file_row c.args.file.now) c.args.index.now c.loop-i.i _ _ _ c.loop-i.invariant c.row_at.ensures c.put_words.ensures
 
 pub shape_of-index : goal.shape_of-index
-shape_of-index c = c.loop-i.invariant.1.size
+shape_of-index c = c.loop-i.invariant.size
 
 pub returns : goal.returns
 returns c =
-    let a = c.args in
-    copy-all (file_row a.file.now) a.index.now c.loop-i.i a.n _ c.loop-i.invariant.1 (omega arith)
+    copy-all (file_row c.args.file.now) c.args.index.now c.loop-i.i c.args.n _ c.loop-i.invariant (omega arith)

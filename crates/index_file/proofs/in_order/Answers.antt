@@ -5,7 +5,7 @@ use Rattle.index_file.proofs.Sorted.{order-none, order-next, order-broken, order
 use Rattle.index_file.proofs.in_order.Goals as goal
 
 pub loop-i-init : goal.loop-i-init
-loop-i-init c = (omega arith, (omega arith, order-none (file_row c.args.file.now)))
+loop-i-init c = order-none (file_row c.args.file.now)
 
 pub returns-then-is_before : goal.returns-then-is_before
 returns-then-is_before c =
@@ -19,9 +19,9 @@ loop-i-preserved c =
     let a = c.args in
     let i = c.loop-i.i in
     let e = (λ j. earlier (sym c.row_at-row.ensures j) (sym c.row_at-before.ensures j)) ∙ sym c.is_before.ensures ∙ c.if-is_before.false in
-    (omega arith, (omega arith, order-next (file_row a.file.now) i (i - 1) (omega arith) c.loop-i.invariant.1.1 e))
+    order-next (file_row a.file.now) i (i - 1) (omega arith) c.loop-i.invariant e
 
 pub returns : goal.returns
 returns c =
     let a = c.args in
-    sym (order-fewer (file_row a.file.now) c.loop-i.i a.n c.loop-i-test.false c.loop-i.invariant.1.1)
+    sym (order-fewer (file_row a.file.now) c.loop-i.i a.n (omega arith) c.loop-i.invariant)

@@ -1,5 +1,5 @@
 -- Three words at once. Assumes nothing.
-use Rattle.index_file.specs.Files.{row_said}
+use Rattle.log_index.specs.Words.{row_said}
 use Rattle.index_file.proofs.Steps.{words-laid}
 use Rattle.index_file.proofs.put_words.Goals as goal
 

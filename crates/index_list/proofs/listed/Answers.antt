@@ -1,5 +1,6 @@
-use Rattle.wire.proofs.Basics.{◌∙◌, sym, ◌≡◌, ap, refl, ℕ, ◌≤◌, suc, ◌++◌, add-one, arith}
-use Rattle.output.proofs.Sending.{pours-none, pours-then, pours-is, pours-stop, pours-shut, finishes-then, finishes-is, finishes-shut}
+use Rattle.wire.proofs.Basics.{sym, ◌≡◌, ap, refl, ℕ, ◌≤◌, suc, ◌++◌, add-one, rules, arith}
+use Rattle.output.specs.Output.{IsClosed}
+use Rattle.output.proofs.Adding.{adds_none, adds_then, adds_is, adds_stop, adds_shut, ends_then, ends_is, ends_shut}
 use Rattle.log_index.specs.Words.{row_at}
 use Rattle.log_lines.specs.Lines.{end_line}
 use Rattle.index_lines.specs.Lines.{row_line}
@@ -7,25 +8,26 @@ use Rattle.index_list.specs.InsideLines.{lines_below}
 use Rattle.index_list.proofs.listed.Goals as goal
 
 pub loop-i-init : goal.loop-i-init
-loop-i-init c = let a = c.args in (refl, (omega arith, pours-none a.out.now 0))
+loop-i-init c = adds_none c.args.out.now
 
-pub returns-then-at : goal.returns-then-at
-returns-then-at c =
+pub returns-then-is_closed : goal.returns-then-is_closed
+returns-then-is_closed c =
     let a = c.args in
     let w = a.index.now in
     let k : suc c.loop-i.i ≤ a.n = omega (arith, c.loop-i-test.true) in
-    let v = pours-then c.loop-i.invariant.1.1 c.pour_one-at.ensures in
-    finishes-shut c.if-at.true (pours-stop (end_line a.n) c.if-at.true (pours-shut (λ j. lines_below j w) (λ j. row_line (row_at w j)) (λ j. refl) {i = suc c.loop-i.i} c.if-at.true k v))
+    let e : IsClosed c.pour_row.new.out = search rules in
+    let v = adds_then c.loop-i.invariant (adds_is c.pour_row.ensures (ap row_line c.row_at.ensures)) in
+    ends_shut e (adds_stop (end_line a.n) e (adds_shut (λ j. lines_below j w) (λ j. row_line (row_at w j)) (λ j. refl) {i = suc c.loop-i.i} e k v))
 
 pub loop-i-preserved : goal.loop-i-preserved
 loop-i-preserved c =
     let w = c.args.index.now in
-    let v = c.loop-i.invariant in
-    (c.pour_one-at.auto.out ∙ v.0, (omega (arith, c.loop-i-test.true), pours-is (pours-then v.1.1 c.pour_one-at.ensures) (ap (λ (k : ℕ). lines_below k w) (sym (add-one c.loop-i.i)))))
+    let v = adds_then c.loop-i.invariant (adds_is c.pour_row.ensures (ap row_line c.row_at.ensures)) in
+    adds_is v (ap (λ (k : ℕ). lines_below k w) (sym (add-one c.loop-i.i)))
 
 pub returns : goal.returns
 returns c =
     let a = c.args in
     let w = a.index.now in
-    let e : c.loop-i.i ≡ a.n = omega (arith, c.loop-i-test.false, c.loop-i.invariant.1.0) in
-    finishes-is (finishes-then c.loop-i.invariant.1.1 c.finish.ensures) (ap (λ (k : ℕ). lines_below k w ++ end_line a.n) e)
+    let e : c.loop-i.i ≡ a.n = omega (arith, c.loop-i-test.false) in
+    ends_is (ends_then c.loop-i.invariant c.finish.ensures) (ap (λ (k : ℕ). lines_below k w ++ end_line a.n) e)

@@ -1,5 +1,5 @@
 -- Three numbers one after another. Assumes nothing.
-use Rattle.index_file.specs.Files.{row_said}
+use Rattle.log_index.specs.Words.{row_said}
 use Rattle.index_writer.proofs.Laying.{row_laid}
 use Rattle.index_writer.proofs.put_row.Goals as goal
 

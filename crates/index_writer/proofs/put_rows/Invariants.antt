@@ -1,11 +1,7 @@
 -- The loop: the rows passed stand behind the head. Assumes nothing.
-use Rattle.wire.proofs.Basics.{◌≤◌, ◌-◌}
 use Rattle.log_index.specs.Words.{row_at}
 use Rattle.index_writer.proofs.Laying.{Laid}
 use Rattle.index_writer.proofs.put_rows.Given as goal
 
 abbrev pub invariant-loop-i : goal.invariant-loop-i
-invariant-loop-i l = (l.i ≤ l.n) × Laid (row_at l.index) l.initial.file l.i l.file
-
-abbrev pub decreases-loop-i : goal.decreases-loop-i
-decreases-loop-i l = l.n - l.i
+invariant-loop-i l = Laid (row_at l.index) l.initial.file l.i l.file

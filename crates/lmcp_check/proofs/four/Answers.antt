@@ -1,9 +1,7 @@
 -- `lmcp_check::four` meets its contract.
-use Rattle.wire.proofs.Basics.{arith}
-use Rattle.wire.proofs.Numbers.{be-four}
+use Rattle.wire.proofs.Basics.{◌∙◌, arith}
+use Rattle.lmcp.proofs.Widths.{be_four_bytes}
 use Rattle.lmcp_check.proofs.four.Goals as goal
 
 pub returns : goal.returns
-returns c =
-    let a = c.args in
-    (be-four a.s.now a.at _ _ c.two.ensures.0 c.two-2.ensures.0, omega (arith, c.two.ensures.1, c.two-2.ensures.1))
+returns c = let e = c.from.ensures ∙ c.from_be_bytes.ensures ∙ be_four_bytes c.args.s.now c.args.at in (e, omega (arith, c.from.ensures, c.from_be_bytes.type_inv))

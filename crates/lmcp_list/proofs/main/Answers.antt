@@ -1,5 +1,5 @@
 -- Arrays are lent as slices, each as long as it says: by a law, since they are too long to count. Assumes nothing.
-use Rattle.wire.proofs.Basics.{sym, ◌≡◌, ℕ, length, replicate, length-replicate, ℤ, pos}
+use Rattle.wire.proofs.Basics.{sym, ◌≡◌, ℕ, length, replicate, length-replicate, ℤ, pos, rules}
 use Rattle.output.proofs.Zeros.{zeros}
 use Rattle.lmcp_list.proofs.main.Goals as goal
 
@@ -14,6 +14,9 @@ slice_bounds-run-end-2 c = numbers _
 
 pub slice_bounds-run-end-3 : goal.slice_bounds-run-end-3
 slice_bounds-run-end-3 c = zeros _
+
+pub run-requires : goal.run-requires
+run-requires c = (sym (numbers _), search rules)
 
 pub returns : goal.returns
 returns c = tt

@@ -1,7 +1,6 @@
 -- A line: its number, what was found, its end. Assumes nothing.
-use Rattle.output.proofs.Sending.{pours-then}
+use Rattle.output.proofs.Adding.{adds_then}
 use Rattle.lmcp_list.proofs.pour_line.Goals as goal
 
 pub returns : goal.returns
-returns c =
-    pours-then (pours-then c.pour_decimal-a.ensures c.pour_found-b.ensures) c.pour.ensures
+returns c = adds_then (adds_then c.pour_decimal.ensures c.pour_found.ensures) c.pour.ensures

@@ -1,11 +1,8 @@
--- Numbers, each after a space. The loop's invariant: the i numbers passed went out. Assumes nothing.
-use Rattle.wire.proofs.Basics.{◌≡◌, ◌≤◌, ◌-◌, length, take}
-use Rattle.output.specs.Output.{Pours}
+-- Numbers, each after a space. The loop's invariant: the numbers passed went out. Assumes nothing.
+use Rattle.wire.proofs.Basics.{take}
+use Rattle.output.specs.Output.{Adds}
 use Rattle.lmcp_list.specs.Lines.{spaced}
 use Rattle.lmcp_list.proofs.pour_numbers.Given as goal
 
-abbrev pub invariant-loop-i : goal.invariant-loop-i
-invariant-loop-i l = (l.i ≤ l.most) × (length l.out ≡ length l.initial.out) × Pours l.initial.out l.at (spaced (take l.i l.list)) l.out l.next
-
-abbrev pub decreases-loop-i : goal.decreases-loop-i
-decreases-loop-i l = l.most - l.i
+abbrev pub invariant-loop-z : goal.invariant-loop-z
+invariant-loop-z l = Adds l.initial.out (spaced (take l.z-index l.list)) l.out

@@ -1,9 +1,7 @@
 -- `lmcp_reader::eight` meets its contract.
-use Rattle.wire.proofs.Basics.{arith}
-use Rattle.lmcp.proofs.Widths.{be-eight}
+use Rattle.wire.proofs.Basics.{◌∙◌}
+use Rattle.lmcp.proofs.Widths.{be_eight_bytes}
 use Rattle.lmcp_reader.proofs.eight.Goals as goal
 
 pub returns : goal.returns
-returns c =
-    let a = c.args in
-    (be-eight a.s.now a.at _ _ c.four.ensures.0 c.four-2.ensures.0, omega (arith, c.four.ensures.1, c.four-2.ensures.1))
+returns c = c.from_be_bytes.ensures ∙ be_eight_bytes c.args.s.now c.args.at

@@ -1,34 +1,36 @@
-use Rattle.wire.proofs.Basics.{◌-◌, [], drop, rules}
+use Rattle.wire.proofs.Basics.{◌-◌, [], drop}
+use Rattle.std.proofs.lemmas.Result.{err_from_is_err_and}
 use Rattle.lmcp.specs.Run.{repeat}
 use Rattle.lmcp.specs.Write.{write_value}
 use Rattle.lmcp.specs.InsideEnds.{Few15}
 use Rattle.lmcp.proofs.WalkPlaces.{begins, repeat-all, items-turn, items-stop, items-end}
 use Rattle.lmcp_size.proofs.check_values.Goals as goal
 
-pub loop-k-init : goal.loop-k-init
-loop-k-init c =
+pub loop-init : goal.loop-init
+loop-init c =
     let a = c.args in
-    (search rules, begins (repeat (a.n - 0) (write_value a.kind a.w)) a.at a.to [] (repeat-all (write_value a.kind a.w) (drop a.at a.list.now) a.n) c.requires.0.0 c.requires.0.1)
+    begins (repeat (a.n - 0) (write_value a.kind a.w)) a.from.p a.from.q [] (repeat-all (write_value a.kind a.w) (drop a.from.p a.list.now) a.n) c.requires.0.place c.requires.0.inside
 
-pub check_value-r-requires : goal.check_value-r-requires
-check_value-r-requires c =
-    let x = c.loop-k in
-    ((x.invariant.1.fewer, x.invariant.1.within), c.requires.1)
+pub check_value-requires : goal.check_value-requires
+check_value-requires c =
+    let x = c.loop in
+    (record { place = x.invariant.fewer; inside = x.invariant.within }, c.requires.1)
 
-pub returns-in-Stopped : goal.returns-in-Stopped
-returns-in-Stopped c =
+pub returns-in_err-spot : goal.returns-in_err-spot
+returns-in_err-spot c =
     let a = c.args in
-    let x = c.loop-k in
-    items-stop Few15 (write_value a.kind a.w) a.n x.k x.invariant.1 c.loop-k-test.true c.check_value-r.result [] c.check_value-r.ensures _ c.in-Stopped.is
+    let x = c.loop in
+    let p = err_from_is_err_and c.from_residual.result c.from_residual.ensures.1 in
+    rw (p.1, p.2) (items-stop Few15 (write_value a.kind a.w) a.n x.counter x.invariant c.loop-test.true c.check_value.result [] c.check_value.ensures _ c.in_err-spot.was)
 
-pub loop-k-preserved : goal.loop-k-preserved
-loop-k-preserved c =
+pub loop-preserved : goal.loop-preserved
+loop-preserved c =
     let a = c.args in
-    let x = c.loop-k in
-    (search rules, items-turn Few15 (write_value a.kind a.w) a.n x.k x.invariant.1 c.loop-k-test.true c.check_value-r.result [] c.check_value-r.ensures _ _ c.in-To.is)
+    let x = c.loop in
+    items-turn Few15 (write_value a.kind a.w) a.n x.counter x.invariant c.loop-test.true c.check_value.result [] c.check_value.ensures _ c.in_ok-spot.was
 
 pub returns : goal.returns
 returns c =
     let a = c.args in
-    let x = c.loop-k in
-    items-end Few15 (write_value a.kind a.w) a.n x.k x.invariant.1 c.loop-k-test.false
+    let x = c.loop in
+    items-end Few15 (write_value a.kind a.w) a.n x.counter x.invariant c.loop-test.false

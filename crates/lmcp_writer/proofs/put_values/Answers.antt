@@ -22,60 +22,46 @@ pub loop-k-init : goal.loop-k-init
 loop-k-init c =
     let a = c.args in
     let z : a.n - 0 ≡ a.n = omega arith in
-    let y : a.p + 0 ≡ a.p = omega arith in (
-      search rules,
+    let y : a.from.p + 0 ≡ a.from.p = omega arith in (
+      refl,
       (
-        refl,
-        (
-          subst (λ (m : ℕ). a.q + m * a.w ≤ length a.out.now) (sym z) c.requires.0.1,
-          ap (λ (m : ℕ). sets a.out.now a.q (spelled m a.w (drop (a.p + 0) a.list.now))) z ∙ ap (λ (m : ℕ). sets a.out.now a.q (spelled a.n a.w (drop m a.list.now))) y,
-        ),
+        subst (λ (m : ℕ). a.from.q + m * a.w ≤ length a.out.now) (sym z) c.requires.0.1,
+        ap (λ (m : ℕ). sets a.out.now a.from.q (spelled m a.w (drop (a.from.p + 0) a.list.now))) z ∙ ap (λ (m : ℕ). sets a.out.now a.from.q (spelled a.n a.w (drop m a.list.now))) y,
       ),
     )
-
-pub overflow_add-z : goal.overflow_add-z
-overflow_add-z c =
-    record { fits = omega (arith, c.loop-k-test.true, c.requires.0.0, c.well_formed.0.1) }
-
-pub bounds-list-p : goal.bounds-list-p
-bounds-list-p c =
-    omega (arith, c.loop-k-test.true, c.requires.0.0)
 
 pub put_number-requires : goal.put_number-requires
 put_number-requires c =
     let x = c.loop-k in
     let a = c.args in
     let e = peel a.n x.k a.w c.loop-k-test.true in
-    (omega (arith, x.invariant.1.0, x.invariant.1.1.0, e), c.requires.1)
+    (omega (arith, x.invariant.0, x.invariant.1.0, e), c.requires.1)
 
 pub overflow_add-to : goal.overflow_add-to
 overflow_add-to c =
     let x = c.loop-k in
     let a = c.args in
     let e = peel a.n x.k a.w c.loop-k-test.true in
-    record { fits = omega (arith, x.invariant.1.1.0, e, c.well_formed.1.1) }
+    record { fits = omega (arith, x.invariant.1.0, e, c.well_formed.1.1) }
 
 pub loop-k-preserved : goal.loop-k-preserved
 loop-k-preserved c =
     let x = c.loop-k in
     let a = c.args in
     let e = peel a.n x.k a.w c.loop-k-test.true in
-    let i : a.p + x.k < length a.list.now = omega (arith, c.loop-k-test.true, c.requires.0.0) in
-    let z : ℤ = get_or a.list.now (a.p + x.k) (pos 0) in
+    let i : a.from.p + x.k < length a.list.now = omega (arith, c.loop-k-test.true, c.requires.0.0) in
+    let z : ℤ = get_or a.list.now (a.from.p + x.k) (pos 0) in
     let same = through z (record { sfits = search rules }) in
     let m : a.n - x.k ≡ suc (a.n - (x.k + 1)) = omega (arith, c.loop-k-test.true) in
-    let j : a.p + (x.k + 1) ≡ a.p + x.k + 1 = omega arith in
+    let j : a.from.p + (x.k + 1) ≡ a.from.p + x.k + 1 = omega arith in
     let u = c.bits_of.result in
     let o = laid-number x.out c.put_number.new.out x.to a.w u u c.put_number.ensures refl in (
-      omega (arith, c.loop-k-test.true),
+      c.put_number.auto.out ∙ x.invariant.0,
       (
-        c.put_number.auto.out ∙ x.invariant.1.0,
-        (
-          omega (arith, x.invariant.1.1.0, e),
-          ap (λ (y : ℕ). sets c.put_number.new.out (x.to + a.w) (spelled (a.n - (x.k + 1)) a.w (drop y a.list.now))) j
-              ∙ next x.out c.put_number.new.out x.to a.w (a.n - x.k) (a.n - (x.k + 1)) (drop (a.p + x.k) a.list.now) z (drop (a.p + x.k + 1) a.list.now) u (here a.list.now (a.p + x.k) i) m o (c.bits_of.ensures ∙ ap (unsigned 64) same)
-              ∙ x.invariant.1.1.1,
-        ),
+        omega (arith, x.invariant.1.0, e),
+        ap (λ (y : ℕ). sets c.put_number.new.out (x.to + a.w) (spelled (a.n - (x.k + 1)) a.w (drop y a.list.now))) j
+            ∙ next x.out c.put_number.new.out x.to a.w (a.n - x.k) (a.n - (x.k + 1)) (drop (a.from.p + x.k) a.list.now) z (drop (a.from.p + x.k + 1) a.list.now) u (here a.list.now (a.from.p + x.k) i) m o (c.bits_of.ensures ∙ ap (unsigned 64) same)
+            ∙ x.invariant.1.1,
       ),
     )
 
@@ -84,4 +70,4 @@ returns c =
     let x = c.loop-k in
     let a = c.args in
     let m : a.n - x.k ≡ 0 = omega (arith, c.loop-k-test.false) in
-    sym (ap (λ (y : ℕ). sets x.out x.to (spelled y a.w (drop (a.p + x.k) a.list.now))) m) ∙ x.invariant.1.1.1
+    sym (ap (λ (y : ℕ). sets x.out x.to (spelled y a.w (drop (a.from.p + x.k) a.list.now))) m) ∙ x.invariant.1.1

@@ -5,7 +5,4 @@ use Rattle.lmcp_writer.proofs.put_values.Given as goal
 
 abbrev pub invariant-loop-k : goal.invariant-loop-k
 invariant-loop-k l =
-    (l.k ≤ l.n) × ((length l.out ≡ length l.initial.out) × ((l.to + (l.n - l.k) * l.w ≤ length l.initial.out) × (sets l.out l.to (spelled (l.n - l.k) l.w (drop (l.p + l.k) l.list)) ≡ sets l.initial.out l.q (spelled l.n l.w (drop l.p l.list)))))
-
-abbrev pub decreases-loop-k : goal.decreases-loop-k
-decreases-loop-k l = l.n - l.k
+    (length l.out ≡ length l.initial.out) × ((l.to + (l.n - l.k) * l.w ≤ length l.initial.out) × (sets l.out l.to (spelled (l.n - l.k) l.w (drop (l.from.p + l.k) l.list)) ≡ sets l.initial.out l.fn.from.q (spelled l.n l.w (drop l.fn.from.p l.list))))

@@ -1,16 +1,24 @@
--- The three numbers, one after another. Assumes nothing.
-use Rattle.wire.proofs.Basics.{refl, eq-eqb, ne_eqb}
+-- The order of a row is that of its fields. Assumes nothing.
+use Rattle.std.proofs.Common.{◌≡◌, rules}
+use Rattle.wire.proofs.Basics.{◌∙◌, inl, inr, eqb}
+use Rattle.std.specs.Ordering.{partial_lt}
+use Rattle.wire.proofs.Choices.{either}
+use Rattle.log_index.specs.contracts.RowPartialOrd.TheImpl.{partial_cmp-value}
+use Rattle.log_index.specs.Words.{row_said}
 use Rattle.log_index.specs.Rows.{earlier}
+use Rattle.log_index.specs.declared.Row as coded
 use Rattle.log_index.proofs.is_before.Goals as goal
 
-pub returns-then-s-sender : goal.returns-then-s-sender
+-- the derived order, by the fields
+by-fields : (a b : coded.Row) → partial_lt partial_cmp-value.it a b ≡ earlier (row_said a) (row_said b)
 unfolding earlier
-returns-then-s-sender c = rw (ne_eqb _ _ c.if-s-sender.true) refl
-
-pub returns-then-q-sequence : goal.returns-then-q-sequence
-unfolding earlier
-returns-then-q-sequence c = rw (eq-eqb _ _ c.if-s-sender.false, ne_eqb _ _ c.if-q-sequence.true) refl
+by-fields a b = elim (either (eqb a.sender b.sender)) [
+  | inl e ↦ elim (either (eqb a.sequence b.sequence)) [
+    | inl d ↦ search rules
+    | inr d ↦ search rules
+  ]
+  | inr e ↦ search rules
+]
 
 pub returns : goal.returns
-unfolding earlier
-returns c = rw (eq-eqb _ _ c.if-s-sender.false, eq-eqb _ _ c.if-q-sequence.false) refl
+returns c = c.lt.ensures ∙ by-fields c.args.a c.args.b

@@ -4,7 +4,4 @@ use Rattle.log_index.specs.Words.{merged_by}
 use Rattle.log_index.proofs.merge_all.Given as goal
 
 abbrev pub invariant-loop-j : goal.invariant-loop-j
-invariant-loop-j l = (l.j ≤ l.m) × ((l.high ≤ l.n) × ((length l.index ≡ length l.initial.index) × (merged_by l.j l.batch l.index l.high ≡ merged_by l.m l.batch l.initial.index l.n)))
-
-abbrev pub decreases-loop-j : goal.decreases-loop-j
-decreases-loop-j l = l.j
+invariant-loop-j l = (l.high ≤ l.n) × ((length l.index ≡ length l.initial.index) × (merged_by l.j l.batch l.index l.high ≡ merged_by l.m l.batch l.initial.index l.n))

@@ -1,7 +1,7 @@
--- The text went into the buffer, and all of it is written out. Assumes nothing.
-
+-- The text went into the output, and all of it is written out. Assumes nothing.
+use Rattle.wire.proofs.Basics.{append-nil}
+use Rattle.output.proofs.Adding.{ends_then, ends_is}
 use Rattle.log_lines.proofs.finish.Goals as goal
 
 pub returns : goal.returns
-returns c =
-    record { end = c.pour_last-end.result; poured = c.pour_last-end.ensures; told = c.write_out.ensures }
+returns c = ends_is (ends_then c.pour_last.ensures c.write_out.ensures) (append-nil _)

@@ -1,7 +1,7 @@
 -- `log_lines::pour_entry` meets its contract: its pieces, one behind the other. Assumes nothing.
-use Rattle.output.proofs.Sending.{pours-then}
+use Rattle.output.proofs.Adding.{adds_then}
 use Rattle.log_lines.proofs.pour_entry.Goals as goal
 
 pub returns : goal.returns
 returns c =
-    pours-then (pours-then (pours-then c.pour_decimal-a.ensures c.pour_counted-b.ensures) c.pour_counted-c.ensures) c.pour_counted_line.ensures
+    adds_then (adds_then (adds_then c.pour_decimal.ensures c.pour_counted.ensures) c.pour_counted-2.ensures) c.pour_counted_line.ensures

@@ -1,49 +1,51 @@
-use Rattle.wire.proofs.Basics.{◌∙◌, sym, refl, arith}
+use Rattle.wire.proofs.Basics.{◌∙◌, ◌≡◌, sym, ap, rules, arith}
+use Rattle.refusals.specs.Numbers.{number_of}
 use Rattle.wire.specs.Bytes.{Bytes}
+use Rattle.flight_log.specs.Step.{step_told, Found, End, Refused}
 use Rattle.flight_log.proofs.EntriesPassed.{ahead}
-use Rattle.output.proofs.Sending.{finishes-shut}
+use Rattle.output.specs.Output.{IsClosed}
+use Rattle.output.proofs.Adding.{ends_shut}
 use Rattle.log_list.proofs.Listing.{going-none, going_more, going_end, going-shut}
 use Rattle.log_list.proofs.listed.Goals as goal
 
-pub loop-at-init : goal.loop-at-init
-loop-at-init c = let a = c.args in (refl, going-none a.log.now a.out.now (λ i. (c.type_inv.log i).fits))
+pub loop-step-init : goal.loop-step-init
+loop-step-init c = going-none c.args.log.now c.args.out.now (λ i. (c.type_inv.log i).fits)
 
-pub returns-in_default : goal.returns-in_default
-returns-in_default c =
-    let a = c.args in
-    let b : Bytes a.log.now = λ i. (c.type_inv.log i).fits in
-    let e = c.finish.ensures in
-    let o = c.in_default.not-Found in
-    record { end = e.end; poured = going_end b c.loop-at.invariant.1 c.read_on-step.result (sym c.read_on-step.ensures) o e.poured; told = e.told }
+pub returns-in-Ok-None : goal.returns-in-Ok-None
+returns-in-Ok-None c =
+    let b : Bytes c.args.log.now = λ i. (c.type_inv.log i).fits in
+    let x : step_told c.read_on-step.result ≡ End = search rules in
+    going_end b c.loop-step.invariant (step_told c.read_on-step.result) (sym c.read_on-step.ensures) (λ e q. let z : End ≡ Found e = sym x ∙ q in cc) c.finish.ensures
+
+pub returns-in-Err : goal.returns-in-Err
+returns-in-Err c =
+    let b : Bytes c.args.log.now = λ i. (c.type_inv.log i).fits in
+    let x = ap step_told c.in-Err.is in
+    going_end b c.loop-step.invariant (step_told c.read_on-step.result) (sym c.read_on-step.ensures) (λ e q. let z : Refused (number_of c.in-Err.field-0) ≡ Found e = sym x ∙ q in cc) c.finish-in-Err.ensures
 
 pub overflow_add-n : goal.overflow_add-n
 overflow_add-n c =
-    let a = c.args in
-    let b : Bytes a.log.now = λ i. (c.type_inv.log i).fits in
-    let q = sym c.read_on-step.ensures ∙ c.in-Found.is in
-    let v = c.loop-at.invariant.1 in
-    let h = ahead a.log.now b _ c.loop-at.place q in
+    let b : Bytes c.args.log.now = λ i. (c.type_inv.log i).fits in
+    let x : step_told c.read_on-step.result ≡ Found c.in-Ok-Some.entry = search rules in
+    let v = c.loop-step.invariant in
+    let h = ahead c.args.log.now b _ c.loop-step.place (sym c.read_on-step.ensures ∙ x) in
     record { fits = omega (arith, v.count, v.passed.fewer, v.passed.within, h.on, h.within) }
 
-pub loop-at-smaller : goal.loop-at-smaller
-loop-at-smaller c =
-    let a = c.args in
-    let b : Bytes a.log.now = λ i. (c.type_inv.log i).fits in
-    let q = sym c.read_on-step.ensures ∙ c.in-Found.is in
-    let v = c.loop-at.invariant.1 in
-    let h = ahead a.log.now b _ c.loop-at.place q in
+pub loop-step-smaller : goal.loop-step-smaller
+loop-step-smaller c =
+    let b : Bytes c.args.log.now = λ i. (c.type_inv.log i).fits in
+    let x : step_told c.read_on-step.result ≡ Found c.in-Ok-Some.entry = search rules in
+    let h = ahead c.args.log.now b _ c.loop-step.place (sym c.read_on-step.ensures ∙ x) in
     omega (arith, h.on, h.within)
 
-pub loop-at-preserved : goal.loop-at-preserved
-loop-at-preserved c =
-    let a = c.args in
-    let b : Bytes a.log.now = λ i. (c.type_inv.log i).fits in
-    let q = sym c.read_on-step.ensures ∙ c.in-Found.is in
-    let v = c.loop-at.invariant.1 in
-    (c.pour_entry-at.auto.out ∙ c.loop-at.invariant.0, going_more b v _ q c.pour_entry-at.ensures)
+pub loop-step-preserved : goal.loop-step-preserved
+loop-step-preserved c =
+    let b : Bytes c.args.log.now = λ i. (c.type_inv.log i).fits in
+    let x : step_told c.read_on-step.result ≡ Found c.in-Ok-Some.entry = search rules in
+    going_more b c.loop-step.invariant _ (sym c.read_on-step.ensures ∙ x) c.pour_entry.ensures
 
 pub returns : goal.returns
 returns c =
-    let a = c.args in
-    let b : Bytes a.log.now = λ i. (c.type_inv.log i).fits in
-    finishes-shut c.loop-at-test.false (going-shut b c.loop-at.invariant.1 c.loop-at-test.false)
+    let b : Bytes c.args.log.now = λ i. (c.type_inv.log i).fits in
+    let e : IsClosed c.loop-step.out = search rules in
+    ends_shut e (going-shut b c.loop-step.invariant e)

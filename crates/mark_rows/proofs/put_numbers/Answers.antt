@@ -6,16 +6,7 @@ pub loop-i-init : goal.loop-i-init
 loop-i-init c =
     let a = c.args in
     let z : a.q + 0 ≡ a.q = omega arith in
-    (refl, (omega arith, ap (λ (k : ℕ). sets a.rows.now k a.src.now) z))
-
-pub overflow_add-q : goal.overflow_add-q
-overflow_add-q c = omega (arith, c.requires, c.loop-i-test.true, c.ranges)
-
-pub offset_bounds-rows-q : goal.offset_bounds-rows-q
-offset_bounds-rows-q c = omega (arith, c.requires, c.loop-i-test.true, c.ranges)
-
-pub bounds-rows-q : goal.bounds-rows-q
-bounds-rows-q c = omega (arith, c.requires, c.loop-i-test.true, c.loop-i.invariant.0)
+    (refl, ap (λ (k : ℕ). sets a.rows.now k a.src.now) z)
 
 pub loop-i-preserved : goal.loop-i-preserved
 loop-i-preserved c =
@@ -27,14 +18,11 @@ loop-i-preserved c =
     let p : a.q + (i + 1) ≡ suc (a.q + i) = omega arith in
     let n : i + 1 ≡ suc i = omega arith in (
       length-set c.loop-i.rows (a.q + i) _ ∙ c.loop-i.invariant.0,
-      (
-        omega arith,
-        (λ j. sets (set c.loop-i.rows (a.q + i) (same j)) (p j) (drop (n j) a.src.now)) ∙ (sym (ap (sets c.loop-i.rows (a.q + i)) (drop-cons a.src.now i (pos 0) h)) ∙ c.loop-i.invariant.1.1),
-      ),
+      (λ j. sets (set c.loop-i.rows (a.q + i) (same j)) (p j) (drop (n j) a.src.now)) ∙ (sym (ap (sets c.loop-i.rows (a.q + i)) (drop-cons a.src.now i (pos 0) h)) ∙ c.loop-i.invariant.1),
     )
 
 pub returns : goal.returns
 returns c =
     let l = c.loop-i in
     let a = c.args in
-    sym (ap (sets l.rows (a.q + l.i)) (drop_of_length-le a.src.now c.loop-i-test.false)) ∙ l.invariant.1.1
+    sym (ap (sets l.rows (a.q + l.i)) (drop_of_length-le a.src.now c.loop-i-test.false)) ∙ l.invariant.1

@@ -1,27 +1,18 @@
-use Rattle.wire.proofs.Basics.{◌∙◌, sym, ◌≡◌, ap, refl, ℕ, min, arith}
+-- `memory::has_key` meets its contract. Assumes nothing.
+use Rattle.std.proofs.Common.{◌≡◌, ◌+◌, ℕ, refl, get_or, eqb, min, arith, rules, tests}
+use Rattle.std.proofs.lemmas.Iterator.{YieldsList-from_range}
+use Rattle.std.proofs.lemmas.Iterator.Search.{any_from_yields_List}
 use Rattle.steps.specs.Limits.{keys_each}
-use Rattle.memory.proofs.Loops.{key_hit, key_more, key_missed}
+use Rattle.steps.proofs.Ranges.{any-range}
+use Rattle.memory.specs.Words.{used_at, sequences_at}
+use Rattle.memory.proofs.Loops.{key-asked}
 use Rattle.memory.proofs.has_key.Goals as goal
-
-pub loop-j-init : goal.loop-j-init
-loop-j-init c = (omega arith, omega (arith, c.least-n.ensures), refl)
-
-pub returns-then-word-sequence : goal.returns-then-word-sequence
-returns-then-word-sequence c =
-    let a = c.args in
-    let n = c.least-n.ensures ∙ ap (λ (k : ℕ). min k keys_each) c.word.ensures in
-    sym (key_hit a.memory.now a.i a.sequence _ n c.loop-j.j (omega arith) (sym c.word-in-loop-j.ensures ∙ c.if-word-sequence.true))
-
-pub loop-j-preserved : goal.loop-j-preserved
-loop-j-preserved c =
-    let a = c.args in
-    let l = c.loop-j in
-    let n = c.least-n.ensures ∙ ap (λ (k : ℕ). min k keys_each) c.word.ensures in
-    (omega arith, l.invariant.1, key_more a.memory.now a.i a.sequence _ n l.j (omega arith) l.invariant.2 (λ q. c.if-word-sequence.false (c.word-in-loop-j.ensures ∙ q)))
 
 pub returns : goal.returns
 returns c =
     let a = c.args in
-    let n = c.least-n.ensures ∙ ap (λ (k : ℕ). min k keys_each) c.word.ensures in
-    let e : c.loop-j.j ≡ c.least-n.result = omega arith in
-    sym (key_missed a.memory.now a.i a.sequence _ n (rw e at c.loop-j.invariant.2))
+    let n : ℕ = c.min-n.result in
+    let e : n ≡ min (get_or a.memory.now (used_at a.i) 0) keys_each = search rules in
+    let p = λ (k : ℕ). eqb (get_or a.memory.now (sequences_at a.i + k) 0) a.sequence in
+    key-asked a.memory.now a.i a.sequence n e _
+    (any-range p n _ (any_from_yields_List p _ _ _ c.any.ensures.ran (YieldsList-from_range 0 n n refl (omega arith)) (λ x b q k. search (rules, tests))))

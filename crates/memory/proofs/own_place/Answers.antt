@@ -1,27 +1,14 @@
-use Rattle.wire.proofs.Basics.{◌∙◌, sym, ◌≡◌, ℕ, false, arith}
-use borrow.Author.Count.{below_more}
+-- `memory::own_place` meets its contract. Assumes nothing.
+use Rattle.std.proofs.Common.{◌≡◌, true, false, rules, tests}
+use Rattle.std.proofs.lemmas.Iterator.{first_from_Range}
 use Rattle.steps.specs.Memory.{is_of}
 use Rattle.memory.specs.Words.{place_in}
-use Rattle.memory.proofs.Loops.{found_at, found_none}
+use Rattle.memory.proofs.Loops.{found}
 use Rattle.memory.proofs.own_place.Goals as goal
 
-pub loop-i-init : goal.loop-i-init
-loop-i-init c = (omega arith, λ j h. absurd (let z : ⊥ = omega arith in z))
-
-pub returns-then-is_of : goal.returns-then-is_of
-returns-then-is_of c =
+pub returns-clause-first : goal.returns-clause-first
+returns-clause-first c =
     let a = c.args in
-    let l = c.loop-i in
-    found_at (is_of a.sender) a.memory.now l.i (omega arith) l.invariant.1 (sym c.is_of.ensures ∙ c.if-is_of.true)
-
-pub loop-i-preserved : goal.loop-i-preserved
-loop-i-preserved c =
-    let a = c.args in
-    let l = c.loop-i in
-    (omega arith, below_more (λ (j : ℕ). is_of a.sender (place_in a.memory.now j) ≡ false) l.i l.invariant.1 (sym c.is_of.ensures ∙ c.if-is_of.false))
-
-pub returns : goal.returns
-returns c =
-    let a = c.args in
-    let l = c.loop-i in
-    found_none (is_of a.sender) a.memory.now (λ j h. l.invariant.1 j (omega arith))
+    found (is_of a.sender) a.memory.now _
+    (first_from_Range _ _ _ _ (λ i. is_of a.sender (place_in a.memory.now i) ≡ true) (λ i. is_of a.sender (place_in a.memory.now i) ≡ false) c.find.ensures.ran
+    (λ x q k. search (rules, tests)) (λ x q k. search (rules, tests)))

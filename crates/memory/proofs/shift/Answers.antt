@@ -1,23 +1,11 @@
-use Rattle.wire.proofs.Basics.{◌≡◌, refl, ◌-◌, length-set, arith}
-use Rattle.steps.specs.Limits.{keys_each}
-use Rattle.memory.proofs.Loops.{shifted_none, shifted-more}
+-- `memory::shift` meets its contract. Assumes nothing.
+use Rattle.wire.proofs.Basics.{arith}
+use Rattle.memory.proofs.Views.{copied-shifted}
 use Rattle.memory.proofs.shift.Goals as goal
-
-pub loop-i-init : goal.loop-i-init
-loop-i-init c =
-    let a = c.args in
-    (omega arith, refl, shifted_none a.memory.now a.a)
-
-pub loop-i-preserved : goal.loop-i-preserved
-loop-i-preserved c =
-    let l = c.loop-i in
-    let a = c.args in
-    (omega arith, simp length-set l.invariant.1, shifted-more a.memory.now l.memory _ a.a l.i _ l.invariant.2 refl refl)
-
-pub shape_of-memory : goal.shape_of-memory
-shape_of-memory c = c.loop-i.invariant.1
 
 pub returns : goal.returns
 returns c =
-    let e : c.loop-i.i ≡ keys_each - 1 = omega arith in
-    rw e at c.loop-i.invariant.2
+    let a = c.args in
+    let m = c.copy_within.ensures.by_index in
+    copied-shifted a.memory.now c.copy_within.new.self a.a c.requires c.copy_within.ensures.len
+    (λ k d g l. m.0 k d g (omega arith)) (λ k d l. m.1 k d l) (λ k d g. m.2 k d (omega arith))

@@ -1,25 +1,14 @@
-use Rattle.wire.proofs.Basics.{◌∙◌, sym, ◌≡◌, refl, le-leb, lt-leb, arith}
+-- `memory_places::each_in_order` meets its contract. Assumes nothing.
+use Rattle.std.proofs.Common.{◌∙◌, sym, refl, rules, tests}
+use Rattle.std.proofs.lemmas.Iterator.{YieldsList-from_range}
+use Rattle.std.proofs.lemmas.Iterator.Search.{all_from_yields_List}
 use Rattle.steps.specs.Limits.{senders_most}
-use Rattle.steps.proofs.Tables.{all-not}
-use Rattle.memory_places.proofs.Places.{few_at, ok-is, all_more}
+use Rattle.steps.proofs.Ranges.{all-range}
+use Rattle.memory_places.proofs.Places.{few_at, ok-is}
 use Rattle.memory_places.proofs.each_in_order.Goals as goal
-
-pub loop-i-init : goal.loop-i-init
-loop-i-init c = (omega arith, refl)
-
-pub returns-then-word : goal.returns-then-word
-returns-then-word c =
-    let w = c.args.memory.now in
-    let l = c.loop-i in
-    sym (ok-is w ∙ all-not senders_most (few_at w) l.i (omega arith) (lt-leb _ _ (rw c.word.ensures at c.if-word.true)))
-
-pub loop-i-preserved : goal.loop-i-preserved
-loop-i-preserved c =
-    let w = c.args.memory.now in
-    let l = c.loop-i in
-    (omega arith, all_more (few_at w) l.i l.invariant.1 (le-leb _ _ (rw c.word.ensures at c.if-word.false)))
 
 pub returns : goal.returns
 returns c =
-    let e : c.loop-i.i ≡ senders_most = omega arith in
-    sym (ok-is c.args.memory.now ∙ (rw e at c.loop-i.invariant.1))
+    let w = c.args.memory.now in
+    all_from_yields_List (few_at w) _ _ _ c.all.ensures.ran (YieldsList-from_range 0 senders_most senders_most refl refl) (λ x b q k. search (rules, tests))
+    ∙ all-range (few_at w) senders_most ∙ sym (ok-is w)

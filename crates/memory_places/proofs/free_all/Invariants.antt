@@ -1,11 +1,7 @@
--- `memory::free_all` meets its contract. The loop's invariant: the i places passed are freed where they are the sender's. Assumes nothing.
-use Rattle.wire.proofs.Basics.{◌≡◌, ◌≤◌, ◌-◌}
-use Rattle.steps.specs.Limits.{senders_most}
+-- `memory_places::free_all` meets its contract. The loop's invariant: the i places passed are freed where they are the sender's. Assumes nothing.
+use Rattle.wire.proofs.Basics.{◌≡◌}
 use Rattle.memory_places.specs.Inside.{freed_in}
 use Rattle.memory_places.proofs.free_all.Given as goal
 
 abbrev pub invariant-loop-i : goal.invariant-loop-i
-invariant-loop-i l = (l.i ≤ senders_most) × (l.memory ≡ freed_in l.initial.memory l.sender l.i)
-
-abbrev pub decreases-loop-i : goal.decreases-loop-i
-decreases-loop-i l = senders_most - l.i
+invariant-loop-i l = l.memory ≡ freed_in l.initial.memory l.sender l.i

@@ -1,21 +1,23 @@
 -- What is wrong with message blocks: the type, then the walk. Assumes nothing.
-use Rattle.wire.proofs.Basics.{◌∙◌, sym}
+use Rattle.wire.proofs.Basics.{sym}
+use Rattle.std.proofs.lemmas.Result.{err_from_is_err_and}
 use Rattle.moss.proofs.Faults.{fault-type, fault-broken, fault-filled}
 use Rattle.moss.proofs.block_fault.Goals as goal
 
-pub returns-then-not-is_known : goal.returns-then-not-is_known
-returns-then-not-is_known c =
+pub returns-in_err-kind : goal.returns-in_err-kind
+returns-in_err-kind c =
     let a = c.args in
-    sym (fault-type a.kind a.blocks.now (sym c.is_known.ensures ∙ c.if-not-is_known.true))
+    let p = err_from_is_err_and c.from_residual.result c.from_residual.ensures.1 in
+    let e = c.in_err-kind.ensures in
+    rw (p.1, p.2, e.0) (sym (fault-type a.kind a.blocks.now e.1))
 
-pub returns-in-Filled : goal.returns-in-Filled
-returns-in-Filled c =
+pub returns-in_err-walk_kind : goal.returns-in_err-walk_kind
+returns-in_err-walk_kind c =
     let a = c.args in
-    let known = sym c.is_known.ensures ∙ c.if-not-is_known.false in
-    sym (fault-filled a.kind a.blocks.now known _ (sym c.walk_kind-w.ensures ∙ c.in-Filled.is))
+    let p = err_from_is_err_and c.from_residual-in_err-walk_kind.result c.from_residual-in_err-walk_kind.ensures.1 in
+    rw (p.1, p.2) (sym (fault-broken a.kind a.blocks.now c.in_ok-kind.kind c.in_ok-kind.ensures _ (sym c.in_err-walk_kind.ensures)))
 
-pub returns-in-Broken : goal.returns-in-Broken
-returns-in-Broken c =
+pub returns : goal.returns
+returns c =
     let a = c.args in
-    let known = sym c.is_known.ensures ∙ c.if-not-is_known.false in
-    sym (fault-broken a.kind a.blocks.now known (sym c.walk_kind-w.ensures ∙ c.in-Broken.is))
+    sym (fault-filled a.kind a.blocks.now c.in_ok-kind.kind c.in_ok-kind.ensures _ (sym c.in_ok-walk_kind.ensures))

@@ -5,12 +5,12 @@ use Rattle.moss.specs.Answers.{locates}
 use Rattle.moss.proofs.Parts.{message-part, message-none}
 use Rattle.moss.proofs.message.Goals as goal
 
-pub returns-in-At : goal.returns-in-At
-returns-in-At c =
+pub returns-in-Ok : goal.returns-in-Ok
+returns-in-Ok c =
     let a = c.args in
-    c.part.ensures ∙ message-part a.p.now a.n _ (sym c.message_place-l.ensures ∙ ap locates c.in-At.is)
+    c.part.ensures ∙ message-part a.p.now a.n _ (sym c.message_place.ensures ∙ ap locates c.in-Ok.is)
 
-pub returns-in-Refused : goal.returns-in-Refused
-returns-in-Refused c =
+pub returns-in-Err : goal.returns-in-Err
+returns-in-Err c =
     let a = c.args in
-    c.part-in-Refused.ensures ∙ sym (message-none (packet_of a.p.now) a.n _ (sym c.message_place-l.ensures ∙ ap locates c.in-Refused.is))
+    c.part-in-Err.ensures ∙ sym (message-none (packet_of a.p.now) a.n _ (sym c.message_place.ensures ∙ ap locates c.in-Err.is))

@@ -1,15 +1,9 @@
-use Rattle.wire.proofs.Basics.{◌∙◌, sym, ap, refl, ◌+◌, drop, arith}
+use Rattle.wire.proofs.Basics.{◌∙◌, sym, ap, ◌+◌, drop, arith}
 use Rattle.moss.specs.Blocks.{messages_in}
 use Rattle.moss.specs.InsideWalk.{walked}
 use Rattle.moss.specs.declared.Trail.{Trail}
-use Rattle.moss.proofs.MessageTurn.{past-count, walk-next, walk-broken, walk_end}
+use Rattle.moss.proofs.MessageTurn.{walk-next, walk-broken, walk_end}
 use Rattle.moss.proofs.walk.Goals as goal
-
-pub loop-at-init : goal.loop-at-init
-loop-at-init c = (omega arith, refl)
-
-pub overflow_add-m : goal.overflow_add-m
-overflow_add-m c = omega (arith, c.size_at-m.ensures.1)
 
 pub returns-then-b-at : goal.returns-then-b-at
 returns-then-b-at c =
@@ -17,25 +11,13 @@ returns-then-b-at c =
     let a = c.args in
     sym (l.invariant.1 ∙ walk-broken a.b.now l.t a.n l.at c.loop-at-test.true _ c.size_at-m.ensures.0 c.if-b-at.true)
 
-pub pass-t-requires : goal.pass-t-requires
-pass-t-requires c = (c.loop-at.invariant.0, omega arith)
-
-pub overflow_add-at : goal.overflow_add-at
-overflow_add-at c = omega (arith, c.size_at-m.ensures.1)
-
-pub overflow_add-at-in-loop-at : goal.overflow_add-at-in-loop-at
-overflow_add-at-in-loop-at c = omega arith
-
-pub loop-at-smaller : goal.loop-at-smaller
-loop-at-smaller c = omega arith
-
 pub loop-at-preserved : goal.loop-at-preserved
 loop-at-preserved c =
     let l = c.loop-at in
     let a = c.args in
     let k = c.size_at-m in
     let next = walk-next a.b.now l.t a.n l.at c.loop-at-test.true k.result k.ensures.0 c.if-b-at.false in (
-      omega (arith, ap (λ (t : Trail). t.count) c.pass-t.ensures ∙ past-count l.t a.n l.at k.result),
+      omega (arith, ap (λ (t : Trail). t.count) c.pass-t.ensures),
       l.invariant.1
           ∙ next
           ∙ ap (λ (t : Trail). walked t a.n (l.at + (2 + k.result)) (messages_in (drop (l.at + (2 + k.result)) a.b.now))) (sym c.pass-t.ensures),

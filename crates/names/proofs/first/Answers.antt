@@ -3,7 +3,7 @@ use Rattle.wire.proofs.Basics.{◌∙◌, sym}
 use Rattle.names.proofs.first.Goals as goal
 
 pub returns-then-within : goal.returns-then-within
-returns-then-within c = rw (sym c.within.ensures ∙ c.if-within.true)
+returns-then-within c = rw (sym c.within.ensures ∙ c.if-within.true) c.tails.ensures
 
 pub returns-then-within-2 : goal.returns-then-within-2
 returns-then-within-2 c =

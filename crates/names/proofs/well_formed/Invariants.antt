@@ -1,10 +1,7 @@
 -- `names::well_formed` meets its contract. The loop's invariant: what is left decides. Assumes nothing.
-use Rattle.wire.proofs.Basics.{◌≡◌, ◌≤◌, ◌-◌, length, drop}
+use Rattle.wire.proofs.Basics.{◌≡◌, drop}
 use Rattle.names.specs.Scan.{start, scan}
 use Rattle.names.proofs.well_formed.Given as goal
 
-abbrev pub invariant-loop-i : goal.invariant-loop-i
-invariant-loop-i l = (l.i ≤ length l.name) × (scan start l.name ≡ scan l.s (drop l.i l.name))
-
-abbrev pub decreases-loop-i : goal.decreases-loop-i
-decreases-loop-i l = length l.name - l.i
+abbrev pub invariant-loop-x : goal.invariant-loop-x
+invariant-loop-x l = scan start l.name ≡ scan l.s (drop l.x-index l.name)

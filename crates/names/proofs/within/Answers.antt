@@ -2,8 +2,8 @@
 use Rattle.wire.proofs.Basics.{le-leb, lt-leb}
 use Rattle.names.proofs.within.Goals as goal
 
-pub returns-then-x-low : goal.returns-then-x-low
-returns-then-x-low c = rw (lt-leb _ _ c.if-x-low.true)
+pub returns-then-low-x : goal.returns-then-low-x
+returns-then-low-x c = rw (le-leb _ _ c.if-low-x.true)
 
-pub returns : goal.returns
-returns c = rw (le-leb _ _ c.if-x-low.false)
+pub returns-else-low-x : goal.returns-else-low-x
+returns-else-low-x c = rw (lt-leb _ _ c.if-low-x.false)

@@ -1,4 +1,5 @@
 -- `open_and_payload::open` meets its contract. Assumes nothing.
+use Rattle.wire.proofs.Basics.{rules}
 use Rattle.open_and_payload.proofs.Opening.{words-opens, names-opens, opens}
 use Rattle.open_and_payload.proofs.open.Goals as goal
 
@@ -18,4 +19,4 @@ pub returns : goal.returns
 returns c =
     let args = c.args in
     opens args.state.now args.names.now c.if-state-ne-STATE_WORDS.false c.if-names-ne-NAME_BYTES.false _ c.slot_size.result _ _ _ _ c.slot_size.ensures
-    c.put_words.ensures c.put_word.ensures c.put_word-2.ensures c.put_bytes.ensures
+    (c.fill.ensures.after (λ y e. search rules)) c.put_word.ensures c.put_word-2.ensures (c.fill-2.ensures.after (λ y e. search rules))

@@ -1,42 +1,44 @@
-use Rattle.wire.proofs.Basics.{◌∙◌, sym, ap, refl, ℕ, List, ◌++◌, length, drop, arith}
+-- Assumes nothing.
+use Rattle.wire.proofs.Basics.{◌∙◌, sym, ◌≡◌, ap, refl, ◌<◌, ◌≤◌, List, length, eqb-true, eqb-false, arith, rules}
+use Rattle.std.proofs.lemmas.Result.{err_from_is_err_and}
 use Rattle.count_rules.specs.Marks.{Mark, mark_length, mark_at}
 use Rattle.pit_marks.specs.Enters.{enter_marks}
 use Rattle.pit_marks.proofs.EnteringCases.{as_said, then-on, then-refused, all-entered}
-use Rattle.pit_marks.proofs.ElementTurn.{takes_one, goes_on_lem, marks_from, marks-turn_any, marks-end}
+use Rattle.pit_marks.proofs.ElementTurn.{takes_one, less-left, left-fits, turned, marks-end}
 use Rattle.pit_marks.proofs.enter_elements.Goals as goal
 
-pub loop-place-init : goal.loop-place-init
-loop-place-init c = (refl, refl, refl)
-
-pub returns-in_default : goal.returns-in_default
-returns-in_default c =
+pub returns-in_err-enter_element-clause-left : goal.returns-in_err-enter_element-clause-left
+returns-in_err-enter_element-clause-left c =
     let a = c.args in
-    let d = drop c.past_nulls-at.result a.list.now in
-    let q = sym (c.past_nulls-at.ensures.same a.two) ∙ marks-turn_any a.two a.list.now c.past_nulls-at.result (mark_length a.two d) refl in
-    as_said (sym c.loop-place.invariant.2 ∙ ap (λ (ms : List Mark). enter_marks a.tile ms c.loop-place.pits c.loop-place.sure c.loop-place.now) q)
-    (then-refused a.tile (mark_at d) _ c.loop-place.pits c.loop-place.sure c.loop-place.now _ _ _ c.enter_element-taken.ensures _ _ c.in_default.is)
+    let l = c.loop-rest in
+    let s = l.sets in
+    let m = turned a.two l.rest.now _ _ c.nulls_in.result (mark_length a.two _) _ c.nulls_in.ensures.many refl refl refl refl in
+    let p = err_from_is_err_and c.from_residual.result c.from_residual.ensures.1 in
+    rw (p.1, p.2) (as_said (sym l.invariant.3 ∙ ap (λ (ms : List Mark). enter_marks a.tile ms s.pits.now s.sure.now s.sizes) m)
+    (then-refused a.tile (mark_at _) _ s.pits.now s.sure.now s.sizes _ _ _ (rw c.in_err-enter_element.was at c.enter_element.ensures.left) _ _ refl))
 
-pub loop-place-smaller : goal.loop-place-smaller
-loop-place-smaller c =
-    let a = c.args in
-    let at = c.past_nulls-at.result in
-    let o = takes_one a.two (drop at a.list.now) in
-    goes_on_lem c.loop-place.place at c.element_length.result (length a.list.now) c.next_place-place.result c.loop-place-test.true c.past_nulls-at.ensures.on (omega (arith, o, c.element_length.ensures)) c.next_place-place.ensures
+pub loop-rest-smaller : goal.loop-rest-smaller
+loop-rest-smaller c =
+    let l = c.loop-rest in
+    let z : length l.rest.now ≡ 0 → ⊥ = eqb-false (length l.rest.now) 0 (sym c.is_empty.ensures ∙ c.loop-rest-test.true) in
+    let o : 0 < length l.rest.now = omega arith in
+    let t : 1 ≤ c.element_length.result = rw c.element_length.ensures (takes_one c.args.two _) in
+    less-left l.rest.now _ _ c.nulls_in.result c.element_length.result c.min.result o refl t c.min.ensures refl
 
-pub loop-place-preserved : goal.loop-place-preserved
-loop-place-preserved c =
+pub loop-rest-preserved : goal.loop-rest-preserved
+loop-rest-preserved c =
     let a = c.args in
-    let at = c.past_nulls-at.result in
-    let d = drop at a.list.now in
-    let q = sym (c.past_nulls-at.ensures.same a.two) ∙ marks-turn_any a.two a.list.now at c.element_length.result c.element_length.ensures in
-    let m = marks_from a.two a.list.now c.next_place-place.result in
-    let o = then-on a.tile (mark_at d) m c.loop-place.pits c.loop-place.sure c.loop-place.now _ _ _ c.enter_element-taken.ensures _ c.in-Now.is in
-    let p = ap (λ (k : ℕ). mark_at d ++ marks_from a.two a.list.now k) c.next_place-place.ensures ∙ sym q in
-    (c.enter_element-taken.auto.pits ∙ c.loop-place.invariant.0, c.enter_element-taken.auto.sure ∙ c.loop-place.invariant.1, sym o ∙ (ap (λ (ms : List Mark). enter_marks a.tile ms c.loop-place.pits c.loop-place.sure c.loop-place.now) p ∙ c.loop-place.invariant.2))
+    let l = c.loop-rest in
+    let s = l.sets in
+    let m = turned a.two l.rest.now _ _ c.nulls_in.result c.element_length.result c.min.result c.nulls_in.ensures.many refl c.element_length.ensures c.min.ensures refl in
+    let rest-fits = left-fits l.rest.now _ _ c.nulls_in.result c.min.result (length a.elements.now) l.invariant.2 refl refl in
+    let o = then-on a.tile (mark_at _) _ s.pits.now s.sure.now s.sizes _ _ _ (rw c.in_ok-enter_element.was at c.enter_element.ensures.left) _ refl in
+    (search rules, search rules, rest-fits, sym o ∙ (ap (λ (ms : List Mark). enter_marks a.tile ms s.pits.now s.sure.now s.sizes) (sym m) ∙ l.invariant.3))
 
-pub returns : goal.returns
-returns c =
-    let l = c.loop-place in
+pub returns-clause-left : goal.returns-clause-left
+returns-clause-left c =
     let a = c.args in
-    let e = marks-end a.two a.list.now l.place (omega arith) in
-    as_said (sym l.invariant.2 ∙ ap (λ (ms : List Mark). enter_marks a.tile ms l.pits l.sure l.now) e) (all-entered a.tile l.pits l.sure l.now)
+    let l = c.loop-rest in
+    let s = l.sets in
+    let o : length l.rest.now ≡ 0 = eqb-true (length l.rest.now) 0 (sym c.is_empty.ensures ∙ c.loop-rest-test.false) in
+    as_said (sym l.invariant.3 ∙ ap (λ (ms : List Mark). enter_marks a.tile ms s.pits.now s.sure.now s.sizes) (marks-end a.two l.rest.now o)) (all-entered a.tile s.pits.now s.sure.now s.sizes)

@@ -1,9 +1,8 @@
--- By the number. Assumes nothing.
-use Rattle.wire.proofs.Basics.{eq-eqb, ne_eqb}
+-- By the refusal. Assumes nothing.
+use Rattle.wire.proofs.Basics.{ne_eqb}
+use Rattle.refusals.specs.declared.Refusal.TheVariants.{NoRoom}
+use Rattle.refusals.proofs.Names.{same_number}
 use Rattle.pit_payloads.proofs.unread.Goals as goal
 
-pub returns-then-e-eq13 : goal.returns-then-e-eq13
-returns-then-e-eq13 c = rw (eq-eqb _ _ c.if-e-eq13.true)
-
-pub returns : goal.returns
-returns c = rw (ne_eqb _ _ c.if-e-eq13.false)
+pub returns-in_default : goal.returns-in_default
+returns-in_default c = λ had. rw (ne_eqb _ 13 (λ z. c.in_default.not-NoRoom (same_number c.args.e NoRoom z)))

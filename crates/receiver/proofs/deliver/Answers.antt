@@ -16,5 +16,5 @@ pub returns : goal.returns
 returns c =
     let args = c.args in
     let named = c.zero_filled-name.ensures ∙ ap (λ x. overlay (replicate max_name 0) 0 x) c.part.ensures in
-    delivered args.state.now args.names.now c.requires.1.shape args.s c.requires.0 c.word-sender.result c.word-sequence.result c.word-size.result c.word-room.result _ c.zero_filled-name.result _ _ _ args.gone
-    c.word-sender.ensures c.word-sequence.ensures c.word-size.ensures c.word-room.ensures refl named c.remember_key.ensures c.release.ensures
+    delivered args.state.now args.names.now c.requires.1.shape args.s c.requires.0 c.word_of-sender.result c.word_of-sequence.result c.word_of-size.result c.word-room.result _ c.zero_filled-name.result _ _ _ args.gone
+    c.word_of-sender.ensures c.word_of-sequence.ensures c.word_of-size.ensures c.word-room.ensures refl named c.remember_key.ensures c.release.ensures

@@ -1,6 +1,7 @@
 -- `receiver::plan_for` meets its contract. Assumes nothing.
 use Rattle.wire.proofs.Basics.{subst}
 use Rattle.verdict.specs.declared.Verdict.{Verdict}
+use Rattle.verdict.specs.Decided.{verdict_told}
 use Rattle.verdict.specs.Inside.{Possible}
 use Rattle.receiver.proofs.Settling.{planned-refuse, planned-again, planned-deliver, planned-join, planned-begin}
 use Rattle.receiver.proofs.plan_for.Goals as goal
@@ -8,7 +9,7 @@ use Rattle.receiver.proofs.plan_for.Goals as goal
 pub begin-requires : goal.begin-requires
 begin-requires c =
     let args = c.args in
-    (subst (λ (v : Verdict). Possible args.state.now args.names.now c.requires.0 v) c.in-Begin.is c.requires.1).0.shape
+    (subst (λ (v : Verdict). Possible args.state.now args.names.now c.requires.0 (verdict_told v)) c.in-Begin.is c.requires.1).0.shape
 
 pub returns-in-Refuse : goal.returns-in-Refuse
 returns-in-Refuse c =

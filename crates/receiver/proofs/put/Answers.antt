@@ -15,8 +15,8 @@ pub returns-then-all_held : goal.returns-then-all_held
 returns-then-all_held c =
     let args = c.args in
     let kept = c.keep.new in
-    let all = held_all_lem args.state.now args.names.now kept.state kept.names args.s _ (block_at args.s + held_word) _ c.word-n.result _ c.requires.0 refl refl
-    c.keep.ensures c.word-n.ensures c.all_held.ensures in
+    let all = held_all_lem args.state.now args.names.now kept.state kept.names args.s _ (block_at args.s + held_word) _ c.word_of-n.result _ c.requires.0 refl refl
+    c.keep.ensures c.word_of-n.ensures c.all_held.ensures in
     λ store ledger. put-delivered args.state.now args.names.now args.s c.requires.0 args.gone (fragment_in args.d.now args.h) kept.state kept.names c.keep.ensures store ledger _ _ _ (all ∙ c.if-all_held.true) c.deliver.ensures
 
 pub returns : goal.returns
@@ -24,6 +24,6 @@ returns c =
     let no_name = c.no_name in
     let args = c.args in
     let kept = c.keep.new in
-    let all = held_all_lem args.state.now args.names.now kept.state kept.names args.s _ (block_at args.s + held_word) _ c.word-n.result _ c.requires.0 refl refl
-    c.keep.ensures c.word-n.ensures c.all_held.ensures in
+    let all = held_all_lem args.state.now args.names.now kept.state kept.names args.s _ (block_at args.s + held_word) _ c.word_of-n.result _ c.requires.0 refl refl
+    c.keep.ensures c.word_of-n.ensures c.all_held.ensures in
     λ store ledger. put-kept args.state.now args.names.now args.s c.requires.0 args.gone (fragment_in args.d.now args.h) kept.state kept.names c.keep.ensures store ledger _ (all ∙ c.if-all_held.false) no_name.ensures

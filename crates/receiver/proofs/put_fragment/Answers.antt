@@ -21,5 +21,5 @@ returns c =
     let args = c.args in
     let bytes = c.put_bytes.ensures ∙ (λ i. overlay args.store.now (args.s * args.room + c.as_size.ensures.0 i) (c.part_at.ensures i)) in
     let numbers = ledger-written args.ledger.now _ _ args.s c.as_size-k.result args.h.number args.h.offset args.h.payload.len _ c.as_size-k.ensures.0 (sym c.requires.2.long)
-    c.put_entry.ensures c.put_entry-2.ensures in
+    c.put_word.ensures c.put_word-2.ensures in
     (bytes, numbers)

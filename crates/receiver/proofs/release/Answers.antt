@@ -14,4 +14,4 @@ clear_name-requires c =
 pub returns : goal.returns
 returns c =
     let args = c.args in
-    released args.state.now args.names.now c.requires.1 args.s c.requires.0 c.word-t.result _ _ _ c.word-t.ensures c.clear_block.ensures c.lower.ensures c.clear_name.ensures
+    released args.state.now args.names.now c.requires.1 args.s c.requires.0 c.word_of-t.result _ _ _ c.word_of-t.ensures c.clear_block.ensures c.lower.ensures c.clear_name.ensures

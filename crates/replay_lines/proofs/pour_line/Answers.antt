@@ -1,7 +1,6 @@
 -- A line: its number, the answer, the emptied key. Assumes nothing.
-use Rattle.output.proofs.Sending.{pours-then}
+use Rattle.output.proofs.Adding.{adds_then}
 use Rattle.replay_lines.proofs.pour_line.Goals as goal
 
 pub returns : goal.returns
-returns c =
-    pours-then (pours-then c.pour_decimal-a.ensures c.pour_answer-b.ensures) c.pour_emptied.ensures
+returns c = adds_then (adds_then c.pour_decimal.ensures c.pour_answer.ensures) c.pour_emptied.ensures

@@ -2,6 +2,8 @@
 use Rattle.output.proofs.Zeros.{zeros}
 use Rattle.replay_log.proofs.main.Goals as goal
 
+-- over any length, so that no list of that many zeros is written out
+
 pub slice_bounds-run-end : goal.slice_bounds-run-end
 slice_bounds-run-end c = zeros _
 

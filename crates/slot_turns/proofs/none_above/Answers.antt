@@ -1,21 +1,17 @@
-use Rattle.wire.proofs.Basics.{◌≡◌, ℕ, arith}
+-- `slot_turns::none_above` meets its contract. Assumes nothing.
+use Rattle.std.proofs.Common.{◌∙◌, sym, refl, ℕ, leb, rules, tests}
+use Rattle.std.proofs.lemmas.Iterator.{YieldsList-from_range}
+use Rattle.std.proofs.lemmas.Iterator.Search.{all_from_yields_List}
+use Rattle.wire.proofs.Basics.{leb-true}
+use Rattle.steps.specs.Limits.{slot_count}
+use Rattle.steps.proofs.Ranges.{all-range}
+use Rattle.steps.proofs.Tables.{all-at}
 use Rattle.slots.specs.Words.{turn_word, at}
-use Rattle.slot_turns.proofs.TurnsStay.{above_more}
 use Rattle.slot_turns.proofs.none_above.Goals as goal
-
-pub loop-i-init : goal.loop-i-init
-loop-i-init c = (omega arith, λ j h. absurd (omega arith))
-
-pub returns-then-t-turn_of : goal.returns-then-t-turn_of
-returns-then-t-turn_of c = λ e. absurd (let z : ◌≡◌ {A = ℕ} 0 1 = cc in omega arith)
-
-pub loop-i-preserved : goal.loop-i-preserved
-loop-i-preserved c =
-    let a = c.args in
-    let l = c.loop-i in
-    (omega arith, above_more (λ j. at a.state.now j turn_word) l.i a.t _ c.turn_of.ensures c.if-t-turn_of.false l.invariant.1)
 
 pub returns : goal.returns
 returns c =
-    let l = c.loop-i in
-    λ e i h. l.invariant.1 i (omega (arith, l.invariant.0))
+    let a = c.args in
+    let p = λ (i : ℕ). leb (at a.state.now i turn_word) a.t in
+    let e = all_from_yields_List p _ _ _ c.all.ensures.ran (YieldsList-from_range 0 slot_count slot_count refl refl) (λ x b q k. search (rules, tests)) ∙ all-range p slot_count in
+    λ t i h. leb-true _ _ (all-at slot_count p (sym e ∙ t) i h)

@@ -1,21 +1,15 @@
-use Rattle.wire.proofs.Basics.{◌∙◌, sym, ◌≡◌, ap, refl, not, eq-eqb, ne_eqb, arith, rules}
+-- `slots::open_count` meets its contract. Assumes nothing.
+use Rattle.std.proofs.Common.{◌∙◌, refl, rules, tests}
+use Rattle.std.proofs.lemmas.Iterator.{YieldsList-from_range}
+use Rattle.std.proofs.lemmas.Iterator.Consumers.{count_from_yields_List, YieldsList-at, YieldsList-from_filter}
 use Rattle.steps.specs.Limits.{slot_count}
+use Rattle.steps.proofs.Ranges.{count-range}
 use Rattle.slots.specs.Words.{busy_in}
-use Rattle.slots.proofs.Loops.{count_turn}
 use Rattle.slots.proofs.open_count.Goals as goal
-
-pub loop-i-init : goal.loop-i-init
-loop-i-init c = (omega arith, omega arith, refl)
-
-pub loop-i-preserved : goal.loop-i-preserved
-loop-i-preserved c = (
-  omega arith,
-  search rules,
-  count_turn (busy_in c.args.state.now) c.loop-i.i c.at.result c.loop-i.n _ (λ q. ap not (eq-eqb _ _ (sym c.at.ensures ∙ q)))
-      (λ q. ap not (ne_eqb _ _ (λ z. q (c.at.ensures ∙ z)))) c.loop-i.invariant.2 (λ q. search rules) (λ q. search rules),
-)
 
 pub returns : goal.returns
 returns c =
-    let e : c.loop-i.i ≡ slot_count = omega arith in
-    rw e at c.loop-i.invariant.2
+    let p = busy_in c.args.state.now in
+    count_from_yields_List c.filter.result _ c.count.ensures.ran
+    (YieldsList-from_filter _ p (YieldsList-at c.filter.ensures.source (YieldsList-from_range 0 slot_count slot_count refl refl)) c.filter.ensures.closure (λ x b q k. search (rules, tests)))
+    ∙ count-range p slot_count

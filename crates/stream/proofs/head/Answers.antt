@@ -13,4 +13,4 @@ returns c =
     let a = c.args in
     let e = c.head_of-n.ensures in
     c.part.ensures
-    ∙ before a.buf.now a.at (head_of a.kind) c.room.result c.least.result (omega (arith, c.room.ensures, e)) (omega (arith, c.least.ensures, e))
+    ∙ before a.buf.now a.at (head_of a.kind) c.saturating_sub.result c.min.result (omega (arith, c.saturating_sub.ensures, e)) (omega (arith, c.min.ensures, e))

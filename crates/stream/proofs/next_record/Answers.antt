@@ -1,6 +1,6 @@
 -- The next record of the input. Assumes nothing.
 use Rattle.wire.proofs.Basics.{◌∙◌, ◌≡◌, ap, ℕ, ◌≤◌, ◌+◌, ◌-◌, List, drop, take, slice, arith}
-use Rattle.stream.specs.Records.{body_length_lem}
+use Rattle.stream.specs.Records.{body_length_lem, told}
 use Rattle.stream.proofs.Slices.{take-drop}
 use Rattle.stream.proofs.Taking.{some-head, lacks-room, lacks-a-head, ends, gives-before}
 use Rattle.stream.proofs.next_record.Goals as goal
@@ -42,4 +42,4 @@ take_body-requires c =
 pub returns : goal.returns
 returns c =
     let a = c.args in
-    gives-before a.kind c.within-inside.ensures c.ready-one.ensures c.take_body.new.buf c.take_body.result c.take_body.ensures
+    gives-before a.kind c.within-inside.ensures c.ready-one.ensures c.take_body.new.buf (told c.take_body.result) c.take_body.ensures

@@ -3,12 +3,12 @@ use Rattle.wire.proofs.Basics.{sym, ap}
 use Rattle.verdict.specs.Inside.{small_verdict}
 use Rattle.verdict.proofs.at_small.Goals as goal
 
-pub returns-in-At : goal.returns-in-At
-returns-in-At c =
+pub returns-in-Some : goal.returns-in-Some
+returns-in-Some c =
     let args = c.args in
-    sym (ap (small_verdict args.h) c.in-At.is)
+    sym (ap (small_verdict args.h) c.in-Some.is)
 
-pub returns-in-Nothing : goal.returns-in-Nothing
-returns-in-Nothing c =
+pub returns-in-None : goal.returns-in-None
+returns-in-None c =
     let args = c.args in
-    sym (ap (small_verdict args.h) c.in-Nothing.is)
+    sym (ap (small_verdict args.h) c.in-None.is)

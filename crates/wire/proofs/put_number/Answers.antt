@@ -7,4 +7,4 @@ use Rattle.wire.proofs.put_number.Goals as goal
 pub returns : goal.returns
 returns c =
     let a = c.args in
-    c.put_low.ensures ∙ ap (λ (k : ℕ). overlay a.out.now a.at (bytes k a.v)) c.least.ensures
+    c.put_low.ensures ∙ ap (λ (k : ℕ). overlay a.out.now a.at (bytes k a.v)) c.min.ensures

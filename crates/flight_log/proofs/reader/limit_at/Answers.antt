@@ -1,5 +1,6 @@
 -- `flight_log::reader::limit_at` meets its contract. Assumes nothing.
-use Rattle.wire.proofs.Basics.{◌∙◌, sym, ap}
+use Rattle.wire.proofs.Basics.{◌∙◌, sym, ap, refl}
+use Rattle.std.proofs.lemmas.Result.{err_from_is_err_and}
 use Rattle.varint.proofs.Sevens.{number-taken, number-refused}
 use Rattle.flight_log.specs.Said.{first_of}
 use Rattle.flight_log.proofs.Reading.{limit-follows, limit-refused}
@@ -7,16 +8,16 @@ use Rattle.flight_log.proofs.reader.limit_at.Goals as goal
 
 pub within-requires : goal.within-requires
 within-requires c =
-    let a = c.args in
-    (number-taken a.log.now a.at _ _ (λ i. (c.type_inv.log i).fits) _ c.read_seven-read.ensures c.in-Number.is).within
+    (number-taken c.args.log.now c.args.at _ _ (λ i. (c.type_inv.log i).fits) _ c.in_ok-limit.ensures refl).within
 
-pub returns-in-Number : goal.returns-in-Number
-returns-in-Number c =
+pub returns : goal.returns
+returns c =
     let a = c.args in
-    let f = number-taken a.log.now a.at _ _ (λ i. (c.type_inv.log i).fits) _ c.read_seven-read.ensures c.in-Number.is in
+    let f = number-taken a.log.now a.at _ _ (λ i. (c.type_inv.log i).fits) _ c.in_ok-limit.ensures refl in
     c.within.ensures ∙ ap (first_of a.log.now) (sym (limit-follows _ _ _ f.is))
 
-pub returns-in-Refused : goal.returns-in-Refused
-returns-in-Refused c =
+pub returns-in_err-limit : goal.returns-in_err-limit
+returns-in_err-limit c =
     let a = c.args in
-    sym (ap (first_of a.log.now) (limit-refused _ _ (number-refused a.log.now a.at _ _ c.read_seven-read.ensures c.in-Refused.is)))
+    let p = err_from_is_err_and c.from_residual.result c.from_residual.ensures.1 in
+    rw (p.1, p.2) (sym (ap (first_of a.log.now) (limit-refused _ _ (number-refused a.log.now a.at _ _ c.in_err-limit.ensures refl))))
