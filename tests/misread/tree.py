@@ -23,15 +23,17 @@ FOLLOWS = re.compile(r"was not admitted|cannot be checked|did not elaborate")
 
 
 def without_functions(text):
-    """A source file without its functions, and without the imports that only these used."""
-    kept, lines, k = [], text.split("\n"), 0
+    """A source file without its functions, methods and traits, and without the imports that only these used."""
+    kept, lines, k, ghosts = [], text.split("\n"), 0, []
     while k < len(lines):
         line, wide = lines[k], lines[k]
         # a `use` that goes over lines, as one
         while re.match(r"(pub |ghost )*use ", wide) and ";" not in wide:
             k += 1
             wide += " " + lines[k].strip()
-        if re.match(r'(pub )?(extern "C" )?fn ', line):
+        if wide.startswith("ghost use "):
+            ghosts.append(wide)
+        if re.match(r'(pub )?(extern "C" )?fn |(pub )?(impl|trait)\b', line):
             while not (lines[k].startswith("}") or re.match(r"\S.*\{.*\}$", lines[k])):
                 k += 1
         elif not re.match(r"(//|#\[(?!derive)|ghost use )", line):
@@ -39,6 +41,14 @@ def without_functions(text):
         k += 1
     body = "\n".join(x for x in kept if not re.match(r"(pub )?use ", x))
     out = []
+    # what a ghost field of a type names
+    facts = "\n".join(x for x in kept if re.match(r"\s+(pub )?ghost ", x))
+    for line in ghosts:
+        found = re.match(r"(ghost use [^{]+)\{([^}]*)\};", line)
+        names = [x.strip() for x in found[2].split(",")] if found else []
+        names = [x for x in names if any(part in facts for part in [x.replace("◌", "").strip()])]
+        if facts and names:
+            out.append(f"{found[1]}{{{', '.join(names)}}};")
     for line in kept:
         use = re.match(r"(pub )?use ([\w:]+?)(?:::\{([^{}]*)\}|(?: as (\w+))?);", line)
         if use:
