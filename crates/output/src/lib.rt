@@ -210,6 +210,22 @@ impl<'a> Output<'a> {
         Output { stdout, buf, at: 0 }
     }
 
+    // What stands in the buffer before a place is not written out yet.
+    pub fn behind(stdout: Stdout, buf: &'a mut [u8], at: usize) -> Output<'a>
+        ensures same { result.buf.ghost_name ≡ buf.entry.ghost_name }
+        ensures held { (result.buf.now ≡ buf.old) × (result.at ≡ at) }
+    {
+        Output { stdout, buf, at }
+    }
+
+    // The place in the buffer behind all that is not written out yet.
+    pub fn place(&self) -> usize
+        ensures { result ≡ self.now.at }
+    {
+        let place = self.at;
+        place
+    }
+
     // Whether the system did not take what was written out.
     pub fn is_closed(&self) -> bool
         ensures { IsTrue result ↔ IsClosed self.now }
