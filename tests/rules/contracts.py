@@ -8,9 +8,9 @@ import antt
 import items
 from faults import bare, read
 
-# Of code that is handed in, by a closure or a type of the caller's own, a public function may ask what the language asks of such a call: {crate function}. And a program's own memory
-# that only passes through: the window onto its input, and what it works in, {crate function: what}. docs/CONTRACTS.md says each.
-HANDED_IN = {"halving partition_point", "record_lines records", "record_lines tell"}
+# Of a closure that is handed in a public function may ask what the language asks of its call: {crate function}. And a program's own memory that only passes through:
+# the window onto its input, and what it works in, {crate function: what}. docs/CONTRACTS.md says each.
+HANDED_IN = {"halving partition_point"}
 PASSES = {"record_lines records": {"buf", "teller"}, "record_lines tell": {"buf", "teller"}, "log_lines tell": {"buf", "teller"}}
 # what of the toolchain's library reaches the system, whose contracts are assumed; and the two streams, which any crate may hand on, and not read or write
 SYSTEM = re.compile(r"\bHostRuntime\b|\bstd\s*::\s*(?:\{[^;]*\b)?(?:io|fs|env|time|process|thread|net|os|rt)\b")
