@@ -8,9 +8,7 @@ import antt
 import items
 from faults import bare, read
 
-# Of a closure that is handed in a public function may ask what the language asks of its call: {crate function}. And a program's own memory that only passes through:
-# the window onto its input, and what it works in, {crate function: what}. docs/CONTRACTS.md says each.
-HANDED_IN = {"halving partition_point"}
+# A program's own memory that only passes through: the window onto its input, and what it works in, {crate function: what}. docs/CONTRACTS.md says each.
 PASSES = {"record_lines records": {"buf", "teller"}, "record_lines tell": {"buf", "teller"}, "log_lines tell": {"buf", "teller"}}
 # what of the toolchain's library reaches the system, whose contracts are assumed; and the two streams, which any crate may hand on, and not read or write
 SYSTEM = re.compile(r"\bHostRuntime\b|\bstd\s*::\s*(?:\{[^;]*\b)?(?:io|fs|env|time|process|thread|net|os|rt)\b")
@@ -132,7 +130,7 @@ def public_functions(faults, project):
         text = bare(item.file.path, "\n".join(item.text))
         said, signature = ensures_of(item), re.split(r"^\s*(?:requires|ensures)", text, flags=re.M)[0]
         called = f"{item.file.crate} {item.name}"
-        faults.rule(called in HANDED_IN or not re.search(r"^\s*requires", text, re.M), f"{where} has a requires")
+        faults.rule(not re.search(r"^\s*requires", text, re.M), f"{where} has a requires")
         if "->" in signature:
             faults.rule(re.search(r"\bresult\b", said), f"{where} says nothing of what it gives")
         shown = {x.split()[k] for name, after in shows.items() for x in re.findall(rf"\b{name}((?: \w+)+)", said) for k in after if k < len(x.split())}
