@@ -81,9 +81,11 @@ impl Lent {
     fn prepare(&mut self, case: &[u8], place: usize)
         requires { place ≤ 32 }
     {
+        let state = &mut self.state[..];
+        let names = &mut self.names[..];
         let _ = open_and_payload::open(
-            &mut self.state[..state_words(1)],
-            &mut self.names[..name_bytes(1)],
+            &mut state[..state_words(1)],
+            &mut names[..name_bytes(1)],
             STORE,
         );
         self.alter(case, place);
