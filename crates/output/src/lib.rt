@@ -210,12 +210,11 @@ impl<'a> Output<'a> {
         Output { stdout, buf, at: 0 }
     }
 
-    // What stands in the buffer before a place is not written out yet.
-    pub fn behind(stdout: Stdout, buf: &'a mut [u8], at: usize) -> Output<'a>
-        ensures same { result.buf.ghost_name ≡ buf.entry.ghost_name }
-        ensures held { (result.buf.now ≡ buf.old) × (result.at ≡ at) }
+    // What is poured next goes behind another place of the buffer: what stands before it counts as not written out yet.
+    pub fn go_on(&mut self, at: usize)
+        ensures { self.new ≡ record self.old { at = at } }
     {
-        Output { stdout, buf, at }
+        self.at = at;
     }
 
     // The place in the buffer behind all that is not written out yet.
