@@ -9,6 +9,8 @@ import items
 from faults import bare, read
 
 # A program's own memory that only passes through: the window onto its input, and what it works in, {crate function: what}. docs/CONTRACTS.md says each.
+# The method of a trait that one public function calls, and that asks what this one gives it: {crate trait method}. docs/CONTRACTS.md says which.
+ASKED = {"halving Halved test"}
 PASSES = {"record_lines records": {"buf", "teller"}, "record_lines tell": {"buf", "teller"}, "log_lines tell": {"buf", "teller"}}
 # what of the toolchain's library reaches the system, whose contracts are assumed; and the two streams, which any crate may hand on, and not read or write
 SYSTEM = re.compile(r"\bHostRuntime\b|\bstd\s*::\s*(?:\{[^;]*\b)?(?:io|fs|env|time|process|thread|net|os|rt)\b")
@@ -142,6 +144,16 @@ def public_functions(faults, project):
         says_something(faults, where, item, said, {"result", *lent})
 
 
+def public_traits(faults):
+    """A method of a public trait asks nothing of who calls it either."""
+    for path in sorted(glob.glob("crates/*/src/**/*.rt", recursive=True)):
+        for trait, body in re.findall(r"^pub trait (\w+)[^{]*\{\n(.*?)^\}", bare(path, read(path)), re.M | re.S):
+            for method, text in re.findall(r"^    (?:final )?fn (\w+)(.*?)(?=^    \S|\Z)", body, re.M | re.S):
+                asks = re.search(r"^\s*requires", text, re.M)
+                faults.rule(not asks or f"{path.split('/')[1]} {trait} {method}" in ASKED, f"{path}: {method} of public {trait} has a requires")
+
+
 def check(faults, project):
     crates(faults, project)
     public_functions(faults, project)
+    public_traits(faults)

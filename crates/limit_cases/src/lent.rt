@@ -18,7 +18,7 @@ const STORE_BYTES: usize = 2 * STORE;
 
 const LEDGER: usize = receiver::LEDGER + 1;
 
-// The state and its names. The store and the ledger, which are large, are made only where a datagram comes.
+// The state and its names. The ledger, which is large, and the store are made only where a datagram comes.
 #[derive(Drop)]
 struct Lent {
     state: [u64; STATE_WORDS],
