@@ -8,9 +8,9 @@ import antt
 import items
 from faults import bare, read
 
-# Of code that is handed in, by a closure or a type of the caller's own, a public function may ask what the language asks of such a call: {crate function}. And a program's own memory
-# that only passes through: the window onto its input, and what it works in, {crate function: what}. docs/CONTRACTS.md says each.
-HANDED_IN = {"halving partition_point", "record_lines records", "record_lines tell"}
+# A program's own memory that only passes through: the window onto its input, and what it works in, {crate function: what}. docs/CONTRACTS.md says each.
+# The method of a trait that one public function calls, and that asks what this one gives it: {crate trait method}. docs/CONTRACTS.md says which.
+ASKED = {"halving Halved test"}
 PASSES = {"record_lines records": {"buf", "teller"}, "record_lines tell": {"buf", "teller"}, "log_lines tell": {"buf", "teller"}}
 # what of the toolchain's library reaches the system, whose contracts are assumed; and the two streams, which any crate may hand on, and not read or write
 SYSTEM = re.compile(r"\bHostRuntime\b|\bstd\s*::\s*(?:\{[^;]*\b)?(?:io|fs|env|time|process|thread|net|os|rt)\b")
@@ -132,7 +132,7 @@ def public_functions(faults, project):
         text = bare(item.file.path, "\n".join(item.text))
         said, signature = ensures_of(item), re.split(r"^\s*(?:requires|ensures)", text, flags=re.M)[0]
         called = f"{item.file.crate} {item.name}"
-        faults.rule(called in HANDED_IN or not re.search(r"^\s*requires", text, re.M), f"{where} has a requires")
+        faults.rule(not re.search(r"^\s*requires", text, re.M), f"{where} has a requires")
         if "->" in signature:
             faults.rule(re.search(r"\bresult\b", said), f"{where} says nothing of what it gives")
         shown = {x.split()[k] for name, after in shows.items() for x in re.findall(rf"\b{name}((?: \w+)+)", said) for k in after if k < len(x.split())}
@@ -144,6 +144,16 @@ def public_functions(faults, project):
         says_something(faults, where, item, said, {"result", *lent})
 
 
+def public_traits(faults):
+    """A method of a public trait asks nothing of who calls it either."""
+    for path in sorted(glob.glob("crates/*/src/**/*.rt", recursive=True)):
+        for trait, body in re.findall(r"^pub trait (\w+)[^{]*\{\n(.*?)^\}", bare(path, read(path)), re.M | re.S):
+            for method, text in re.findall(r"^    (?:final )?fn (\w+)(.*?)(?=^    \S|\Z)", body, re.M | re.S):
+                asks = re.search(r"^\s*requires", text, re.M)
+                faults.rule(not asks or f"{path.split('/')[1]} {trait} {method}" in ASKED, f"{path}: {method} of public {trait} has a requires")
+
+
 def check(faults, project):
     crates(faults, project)
     public_functions(faults, project)
+    public_traits(faults)

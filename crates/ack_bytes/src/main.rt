@@ -2,7 +2,7 @@
 // gives the bytes of the blocks of each list, or its refusal, or says that the list is longer than the program holds.
 #![tactic(auto, using(output::proofs::Adding::adds_then))]
 
-ghost use Rattle.std.specs.Prelude.{◌≡◌, ◌/◌, ◌≤◌, ◌++◌, length};
+ghost use Rattle.std.specs.Prelude.{◌≡◌, ◌/◌, ◌≤◌, ◌++◌, refl, length};
 ghost use Rattle.std.proofs.lemmas.List.Edits.{sets};
 ghost use Rattle.wire.specs.Slices.{buffer};
 ghost use Rattle.wire.specs.Text.{ascii};
@@ -15,7 +15,7 @@ ghost use Rattle.record_lines.specs.Lines.{Tells, each};
 ghost use Rattle.ack_bytes.specs.Lines.{numbers_of, list_limit, bytes_text, longer_text, line, lines};
 
 use output::Output;
-use record_lines::Teller;
+use record_lines::{LastLine, Teller};
 use refusals::Refusal;
 use std::io::{Stdin, Stdout};
 use stream::{Input, Kind};
@@ -93,6 +93,7 @@ fn one_more(out: &mut Output, n: u64, list: &mut [u64], blocks: &mut [u8], body:
 struct Writes<'a> {
     list: &'a mut [u64],
     blocks: &'a mut [u8],
+    ghost sized: { (length list.now ≡ list_limit) × (length blocks.now ≡ max_blocks) },
 }
 
 impl<'a> Teller for Writes<'a> {
@@ -102,11 +103,13 @@ impl<'a> Teller for Writes<'a> {
 
     ghost known = { λ _. tt };
 
-    ghost sound = { λ w. (length w.list.now ≡ list_limit) × (length w.blocks.now ≡ max_blocks) };
-
     fn line(&mut self, out: &mut Output, n: u64, _head: &[u8], body: &[u8]) {
         one_more(out, n, self.list, self.blocks, body);
     }
+}
+
+impl<'a> LastLine for Writes<'a> {
+    ghost ends = { refl };
 }
 
 // One line a record of the input, and the last line. Answers whether the system took all of them; it stops where it did not.

@@ -2,7 +2,7 @@
 // a line says whether the blocks acknowledge the number, or why they are refused.
 #![tactic(auto, using(output::proofs::Adding::adds_then))]
 
-ghost use Rattle.std.specs.Prelude.{◌≡◌, ◌≤◌, length};
+ghost use Rattle.std.specs.Prelude.{◌≡◌, ◌≤◌, refl, length};
 ghost use Rattle.wire.specs.Slices.{buffer};
 ghost use Rattle.ack_blocks.specs.Read.{answers};
 ghost use Rattle.stream.specs.declared.Kind.TheVariants.{Bytes4};
@@ -11,7 +11,7 @@ ghost use Rattle.record_lines.specs.Lines.{Tells, each};
 ghost use Rattle.acks.specs.Lines.{record_answer, answer_text, line, lines};
 
 use output::Output;
-use record_lines::Teller;
+use record_lines::{LastLine, Teller};
 use refusals::Refusal;
 use std::io::{Stdin, Stdout};
 use stream::{Input, Kind};
@@ -55,6 +55,10 @@ impl Teller for Acks {
         out.pour_decimal(n);
         pour_answer(out, answer(body));
     }
+}
+
+impl LastLine for Acks {
+    ghost ends = { refl };
 }
 
 // One line a record of the input, and the last line. Answers whether the system took all of them; it stops where it did not. The buffer holds

@@ -28,12 +28,15 @@ fn pour_refused(out: &mut Output, number: u64, n: u64)
     out.pour_counted_line(b" ", n);
 }
 
-// By each number, rising.
+// By each number, rising. It stops where the output is closed.
 pub fn pour_refusals(out: &mut Output, refused: &[u64])
     ensures { Adds out.old (refused_lines (length refused.now) refused.now) out.new }
 {
     for (number, n) in refused.iter().enumerate() {
         pour_refused(&mut *out, number as u64, *n);
+        if out.is_closed() {
+            return;
+        }
     }
 }
 
@@ -52,7 +55,7 @@ fn pour_tile(out: &mut Output, tile: u64, pits: u64, sure: u64)
     out.pour_counted_line(b" sure ", sure);
 }
 
-// The first n tiles.
+// The first n tiles. It stops where the output is closed.
 pub fn pour_tiles(out: &mut Output, n: usize, tile: &[u64], pits: &[u64], sure: &[u64])
     ensures { Adds out.old (tile_lines n tile.now pits.now sure.now) out.new }
 {
@@ -63,6 +66,9 @@ pub fn pour_tiles(out: &mut Output, n: usize, tile: &[u64], pits: &[u64], sure: 
             words::word(pits, i),
             words::word(sure, i),
         );
+        if out.is_closed() {
+            return;
+        }
     }
 }
 

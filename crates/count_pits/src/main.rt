@@ -4,7 +4,7 @@
 
 ghost use Rattle.std.specs.Prelude.{◌≤◌, length};
 ghost use Rattle.output.specs.Output.{Adds, line_limit};
-ghost use Rattle.log_lines.specs.InsideTells.{Tells};
+ghost use Rattle.log_lines.specs.Lines.{Tells};
 ghost use Rattle.count.specs.Counts.{told};
 ghost use Rattle.count_pits.specs.Lines.{report_lines, count_lines_lem, log_lines_lem};
 

@@ -4,7 +4,7 @@
 
 ghost use Rattle.std.specs.Prelude.{◌≡◌, ◌≤◌, length};
 ghost use Rattle.output.specs.Output.{Adds, line_limit};
-ghost use Rattle.log_lines.specs.InsideTells.{Tells};
+ghost use Rattle.log_lines.specs.Lines.{Tells};
 ghost use Rattle.find.specs.Numbers.{with_digit_lem, number_in, says};
 ghost use Rattle.find.specs.Said.{key_line};
 

@@ -2,7 +2,7 @@
 // has good form the sequence watch is asked, and a line says what it notes.
 #![tactic(auto, using(output::proofs::Adding::adds_then))]
 
-ghost use Rattle.std.specs.Prelude.{◌≤◌, length};
+ghost use Rattle.std.specs.Prelude.{◌≤◌, refl, length};
 ghost use Rattle.wire.specs.Slices.{buffer};
 ghost use Rattle.stream.specs.declared.Kind.TheVariants.{Bytes2};
 ghost use Rattle.output.specs.Output.{Adds, line_limit};
@@ -13,7 +13,7 @@ ghost use Rattle.gaps.specs.Lines.{answer_text, line, lines, says, Judged};
 
 use differences::Answer;
 use output::Output;
-use record_lines::Teller;
+use record_lines::{LastLine, Teller};
 use std::io::{Stdin, Stdout};
 use stream::{Input, Kind};
 use watch::{Seen, Watch};
@@ -74,6 +74,10 @@ impl Teller for Gaps {
         self.watch = seen.watch;
         pour_line(out, n, seen.answer);
     }
+}
+
+impl LastLine for Gaps {
+    ghost ends = { refl };
 }
 
 // One line a datagram of the input, and the last line. Answers whether the system took all of them; it stops where it did not.

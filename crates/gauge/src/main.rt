@@ -2,7 +2,7 @@
 // length; one gauge hears them all, and a line says what it notes of each.
 #![tactic(auto, using(output::proofs::Adding::adds_then))]
 
-ghost use Rattle.std.specs.Prelude.{◌≤◌, length, drop, ◌≡◌};
+ghost use Rattle.std.specs.Prelude.{◌≤◌, refl, length, drop, ◌≡◌};
 ghost use Rattle.differences.specs.Noted.{notes};
 ghost use Rattle.moss.specs.Blocks.{messages_in};
 ghost use Rattle.moss.specs.Packet.{gives, packet_of, fill_fault};
@@ -20,7 +20,7 @@ use differences::Answer;
 use gauge_watch::Gauge;
 use moss::Header;
 use output::Output;
-use record_lines::Teller;
+use record_lines::{LastLine, Teller};
 use std::io::{Stdin, Stdout};
 use stream::{Input, Kind};
 
@@ -98,6 +98,10 @@ impl Teller for Hears {
         self.gauge = heard.gauge;
         pour_line(out, n, body, heard.answer);
     }
+}
+
+impl LastLine for Hears {
+    ghost ends = { refl };
 }
 
 // One line a packet of the input, and the last line. Answers whether the system took all of them; it stops where it did not.

@@ -2,7 +2,7 @@
 // sequence, a type byte, and the message blocks as they will lie; a line gives the bytes of each packet, or its refusal.
 #![tactic(auto, using(output::proofs::Adding::adds_then))]
 
-ghost use Rattle.std.specs.Prelude.{◌≤◌, ◌≡◌, ◌++◌, length, take, drop};
+ghost use Rattle.std.specs.Prelude.{◌≤◌, ◌≡◌, ◌++◌, refl, length, take, drop};
 ghost use Rattle.wire.specs.Slices.{buffer};
 ghost use Rattle.wire.specs.Text.{ascii};
 ghost use Rattle.wire.specs.Bytes.{be};
@@ -15,7 +15,7 @@ ghost use Rattle.record_lines.specs.Lines.{Tells, each};
 ghost use Rattle.gauge_bytes.specs.Lines.{line, lines};
 
 use output::Output;
-use record_lines::Teller;
+use record_lines::{LastLine, Teller};
 use refusals::Refusal;
 use std::io::{Stdin, Stdout};
 use stream::{Input, Kind};
@@ -72,6 +72,7 @@ fn one_more(out: &mut Output, n: u64, packet: &mut [u8], b: &[u8])
 #[derive(Drop)]
 struct Writes<'a> {
     packet: &'a mut [u8],
+    ghost sized: { length packet.now ≡ max_packet },
 }
 
 impl<'a> Teller for Writes<'a> {
@@ -81,11 +82,13 @@ impl<'a> Teller for Writes<'a> {
 
     ghost known = { λ _. tt };
 
-    ghost sound = { λ w. length w.packet.now ≡ max_packet };
-
     fn line(&mut self, out: &mut Output, n: u64, _head: &[u8], body: &[u8]) {
         one_more(out, n, self.packet, body);
     }
+}
+
+impl<'a> LastLine for Writes<'a> {
+    ghost ends = { refl };
 }
 
 // One line a record of the input, and the last line. Answers whether the system took all of them; it stops where it did not. The buffer holds

@@ -1,5 +1,6 @@
 // The sequence watch in lent lists: how many senders it has and the senders, and the last number of each.
-ghost use Rattle.std.specs.Prelude.{◌≡◌, length};
+ghost use Rattle.std.specs.Prelude.{◌≡◌, ◌≤◌, length};
+ghost use Rattle.wire.specs.Overlay.{overlay};
 ghost use Rattle.watch.specs.Limits.{max_senders};
 ghost use Rattle.host_flight.specs.Watches.{SeeTold};
 
@@ -9,6 +10,17 @@ use watch::Watch;
 // How many numbers hold the senders: how many there are, and each.
 pub const WATCH: usize = 1 + watch::SENDERS;
 
+// The numbers of src, one by one, at the start of a list.
+// Kept: a loop, since behind `copy_from_slice` the compiler moves whole watches from call to call by memcpy, which C would have to bring, in twice the instructions.
+fn put_each<T: Copy>(out: &mut [T], src: &[T])
+    requires { length src.now ≤ length out.old }
+    ensures { out.new ≡ overlay out.old 0 src.now }
+{
+    for i in 0..src.len() {
+        out[i] = src[i];
+    }
+}
+
 // The watch of these senders and last numbers, of which so many are in use.
 fn shown(count: u64, senders: &[u64], lasts: &[u32]) -> Watch
     requires { (length senders.now ≡ max_senders) × (length lasts.now ≡ max_senders) }
@@ -16,8 +28,8 @@ fn shown(count: u64, senders: &[u64], lasts: &[u32]) -> Watch
 {
     let mut s = [0u64; watch::SENDERS];
     let mut l = [0u32; watch::SENDERS];
-    words::put_words(&mut s, 0, senders);
-    words::put_words(&mut l, 0, lasts);
+    put_each(&mut s, senders);
+    put_each(&mut l, lasts);
     Watch {
         senders: s,
         lasts: l,

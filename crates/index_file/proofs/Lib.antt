@@ -4,3 +4,4 @@ pub mod Determines
 pub mod Sorted
 pub mod Answers
 pub mod Steps
+pub mod Once

@@ -4,8 +4,7 @@
 ghost use Rattle.std.specs.Prelude.{◌≡◌, ◌+◌, ◌*◌, ◌≤◌, ◌++◌, length};
 ghost use Rattle.output.specs.Output.{Ends, line_limit};
 ghost use Rattle.log_index.specs.Words.{row_said, row_at};
-ghost use Rattle.log_lines.specs.InsideTells.{Tells};
-ghost use Rattle.log_lines.specs.Lines.{end_line};
+ghost use Rattle.log_lines.specs.Lines.{end_line, Tells};
 ghost use Rattle.index_lines.specs.Lines.{refused_line};
 ghost use Rattle.index_list.specs.Lines.{log_lines_lem};
 ghost use Rattle.index_list.specs.InsideLines.{lines_below};

@@ -3,7 +3,7 @@
 
 ghost use Rattle.std.specs.Prelude.{◌≡◌, ◌&&◌, ◌≤◌, ltb};
 ghost use Rattle.datagram.specs.Read.{read_datagram_lem};
-ghost use Rattle.log_index.specs.Rows.{is_of};
+ghost use Rattle.log_index.specs.Rows.{earlier, is_of};
 ghost use Rattle.log_index.specs.Words.{row_said, says};
 ghost use Rattle.index_file.specs.File.{file_row};
 ghost use Rattle.index_look.specs.Keys.{sequence_is_lem, has_key, leads, ends_lead_lem};
@@ -11,6 +11,7 @@ ghost use Rattle.index_look.specs.Look.{file_rank, found_in_file, believed, look
 ghost use Rattle.index_look.specs.Looked.{looked_told};
 
 use flight_log::Limits;
+use halving::Halved;
 use log_index::Row;
 use refusals::Refusal;
 
@@ -62,14 +63,33 @@ fn ends_lead(log: &[u8], file: &[u8], n: usize) -> bool
 
 // ---- the file
 
+// The first n rows, each asked whether it comes before a row.
+#[derive(Drop)]
+struct Before<'a> {
+    file: &'a [u8],
+    n: usize,
+    row: Row,
+}
+
+impl Halved for Before<'_> {
+    ghost many = { λ s. s.n };
+
+    ghost holds = { λ s i. earlier (file_row s.file.now i) (row_said s.row) };
+
+    fn count(&self) -> usize {
+        self.n
+    }
+
+    fn test(&self, i: usize) -> bool {
+        log_index::is_before(index_file::row_at(self.file, i), self.row)
+    }
+}
+
 // The place of a row among the first n.
 fn rank(file: &[u8], n: usize, row: Row) -> usize
     ensures { (result ≡ file_rank file.now n (row_said row)) × (result ≤ n) }
 {
-    halving::partition_point(
-        n,
-        |i| log_index::is_before(index_file::row_at(file, i), row),
-    )
+    halving::partition_point(&Before { file, n, row })
 }
 
 // A row, of those before n, has a key.

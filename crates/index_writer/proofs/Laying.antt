@@ -12,6 +12,10 @@ use Rattle.index_file.proofs.Places.{first-length, first_next}
 use Rattle.index_file.proofs.RowBytes.{rows-length, rows_append, rows-one}
 use Rattle.index_file.proofs.Determines.{head-size}
 use Rattle.index_writer.specs.Writes.{file_answer, WritesFile}
+use Rattle.std.proofs.Common.{Result}
+use Rattle.refusals.specs.declared.Refusal.{Refusal}
+use Rattle.index_file.specs.Files.{answer_told}
+use Rattle.index_file.proofs.Once.{answer-once}
 
 byte_one : bytes 1 1 ≡ 1 ∷ []
 unfolding bytes
@@ -99,3 +103,8 @@ module _ (w : List ℕ) (n covered : ℕ) (f : List ℕ) where
 
 pub writes-once : (w : List ℕ) (n covered : ℕ) (f : List ℕ) (x y : ℕ) (a b : List ℕ) → WritesFile w n covered f x a → WritesFile w n covered f y b → (x ≡ y) × (a ≡ b)
 writes-once w n covered f x y a b p q = (one_answer x y p.gave q.gave, one_answer a b p.left q.left)
+
+-- nor of the code
+pub writes-told-once : (w : List ℕ) (n covered : ℕ) (f : List ℕ) (r s : Result (Unit {0}) Refusal) (a b : List ℕ)
+    → WritesFile w n covered f (answer_told r) a → WritesFile w n covered f (answer_told s) b → (r ≡ s) × (a ≡ b)
+writes-told-once w n covered f r s a b p q = let o = writes-once w n covered f (answer_told r) (answer_told s) a b p q in (answer-once r s o.0, o.1)

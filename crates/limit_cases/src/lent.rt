@@ -18,12 +18,11 @@ const STORE_BYTES: usize = 2 * STORE;
 
 const LEDGER: usize = receiver::LEDGER + 1;
 
+// The state and its names. The ledger, which is large, and the store are made only where a datagram comes.
 #[derive(Drop)]
 struct Lent {
     state: [u64; STATE_WORDS],
     names: [u8; NAME_BYTES],
-    store: [u8; STORE_BYTES],
-    ledger: [u32; LEDGER],
 }
 
 // How many words and bytes are lent: of 0 one too few, of 1 as many as must be, of more one more.
@@ -64,8 +63,6 @@ impl Lent {
         Lent {
             state: [0u64; STATE_WORDS],
             names: [0u8; NAME_BYTES],
-            store: [0u8; STORE_BYTES],
-            ledger: [0u32; LEDGER],
         }
     }
 
@@ -80,19 +77,19 @@ impl Lent {
         );
     }
 
-    // A fresh state, and two words of it as the case has them from a place on.
-    fn prepared(case: &[u8], place: usize) -> Lent
+    // Opened, and two words of the state as the case has them from a place on.
+    fn prepare(&mut self, case: &[u8], place: usize)
         requires { place ≤ 32 }
     {
-        let mut lent = Lent::new();
+        let state = &mut self.state[..];
+        let names = &mut self.names[..];
         let _ = open_and_payload::open(
-            &mut lent.state[..state_words(1)],
-            &mut lent.names[..name_bytes(1)],
+            &mut state[..state_words(1)],
+            &mut names[..name_bytes(1)],
             STORE,
         );
-        lent.alter(case, place);
-        lent.alter(case, place + 16);
-        lent
+        self.alter(case, place);
+        self.alter(case, place + 16);
     }
 }
 
@@ -121,14 +118,17 @@ pub(crate) fn opened(out: &mut Output, case: &[u8]) {
 
 // What is answered to a small message over what is lent.
 pub(crate) fn received(out: &mut Output, case: &[u8]) {
-    let mut lent = Lent::prepared(case, 32);
-    let store = crate::number(case, 16).min(STORE_BYTES);
-    let ledger = crate::number(case, 24).min(LEDGER);
+    let mut lent = Lent::new();
+    lent.prepare(case, 32);
+    let mut store = [0u8; STORE_BYTES];
+    let mut ledger = [0u32; LEDGER];
+    let store_bytes = crate::number(case, 16).min(STORE_BYTES);
+    let numbers = crate::number(case, 24).min(LEDGER);
     let outcome = receiver::receive(
         &mut lent.state[..state_words(crate::number(case, 0))],
         &mut lent.names[..name_bytes(crate::number(case, 8))],
-        &mut lent.store[..store],
-        &mut lent.ledger[..ledger],
+        &mut store[..store_bytes],
+        &mut ledger[..numbers],
         0,
         b"LC02\x00\x00\x00\x07P\x00A",
     );
@@ -137,7 +137,8 @@ pub(crate) fn received(out: &mut Output, case: &[u8]) {
 
 // What is answered to forgetting sender 0.
 pub(crate) fn forgotten(out: &mut Output, case: &[u8]) {
-    let mut lent = Lent::prepared(case, 16);
+    let mut lent = Lent::new();
+    lent.prepare(case, 16);
     let forgot = receiver::forget(
         &mut lent.state[..state_words(crate::number(case, 0))],
         &mut lent.names[..name_bytes(crate::number(case, 8))],

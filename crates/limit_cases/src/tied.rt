@@ -8,12 +8,14 @@ use output::Output;
 use receiver::Outcome;
 use steps::{Answer, Emptied, PayloadAt};
 
+const STORE: usize = 64;
+
 // What is lent to the receiver, and the datagram that comes.
 #[derive(Drop)]
 struct Tied {
     state: [u64; receiver::STATE_WORDS],
     names: [u8; receiver::NAME_BYTES],
-    store: [u8; 64],
+    store: [u8; STORE],
     ledger: [u32; receiver::LEDGER],
     d: [u8; 23],
 }
@@ -66,19 +68,6 @@ fn coming(d: &mut [u8], case: &[u8]) -> usize {
 }
 
 impl Tied {
-    // A fresh receiver.
-    fn new() -> Tied {
-        let mut tied = Tied {
-            state: [0u64; receiver::STATE_WORDS],
-            names: [0u8; receiver::NAME_BYTES],
-            store: [0u8; 64],
-            ledger: [0u32; receiver::LEDGER],
-            d: [0u8; 23],
-        };
-        let _ = open_and_payload::open(&mut tied.state, &mut tied.names, 64);
-        tied
-    }
-
     // The first n bytes of the datagram are received.
     fn receive(&mut self, n: usize) -> Outcome {
         receiver::receive(
@@ -91,8 +80,9 @@ impl Tied {
         )
     }
 
-    // The eight messages are opened, one in each slot.
+    // A fresh receiver, in which the eight messages are opened, one in each slot.
     fn open_all(&mut self) {
+        let _ = open_and_payload::open(&mut self.state, &mut self.names, STORE);
         for i in 0..8 {
             let n = fragment(&mut self.d, i, 0, 2);
             let _ = self.receive(n);
@@ -132,7 +122,13 @@ fn pour_outcome(out: &mut Output, answer: Answer, emptied: Emptied) {
 
 // What is answered to the case's datagram over such a state.
 pub(crate) fn answered(out: &mut Output, case: &[u8]) {
-    let mut tied = Tied::new();
+    let mut tied = Tied {
+        state: [0u64; receiver::STATE_WORDS],
+        names: [0u8; receiver::NAME_BYTES],
+        store: [0u8; STORE],
+        ledger: [0u32; receiver::LEDGER],
+        d: [0u8; 23],
+    };
     tied.open_all();
     tied.alter(case);
     let n = coming(&mut tied.d, case);

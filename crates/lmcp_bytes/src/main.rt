@@ -3,7 +3,7 @@
 // that the list is longer than the program holds.
 #![tactic(auto, using(output::proofs::Adding::adds_then))]
 
-ghost use Rattle.std.specs.Prelude.{◌≡◌, ◌/◌, ◌≤◌, length};
+ghost use Rattle.std.specs.Prelude.{◌≡◌, ◌/◌, ◌≤◌, refl, length};
 ghost use Rattle.std.proofs.lemmas.List.Edits.{sets};
 ghost use Rattle.wire.specs.Slices.{buffer};
 ghost use Rattle.wire.specs.Signed.{signed};
@@ -16,7 +16,7 @@ ghost use Rattle.lmcp_bytes.specs.Lines.{numbers_of, calculated, list_limit, lis
 ghost use Rattle.lmcp_bytes.specs.Inside.{holds, made_text};
 
 use output::Output;
-use record_lines::Teller;
+use record_lines::{LastLine, Teller};
 use refusals::Refusal;
 use std::io::{Stdin, Stdout};
 use stream::{Input, Kind};
@@ -102,6 +102,7 @@ fn one_more(
 struct Writes<'a> {
     list: &'a mut [i64],
     bytes: &'a mut [u8],
+    ghost sized: { (length list.now ≡ list_limit) × (length bytes.now ≡ max_message) },
 }
 
 impl<'a> Teller for Writes<'a> {
@@ -111,12 +112,14 @@ impl<'a> Teller for Writes<'a> {
 
     ghost known = { λ _. tt };
 
-    ghost sound = { λ w. (length w.list.now ≡ list_limit) × (length w.bytes.now ≡ max_message) };
-
     fn line(&mut self, out: &mut Output, n: u64, head: &[u8], body: &[u8]) {
         let calculate = calculates(head);
         one_more(out, n, calculate, self.list, self.bytes, body);
     }
+}
+
+impl<'a> LastLine for Writes<'a> {
+    ghost ends = { refl };
 }
 
 // One line a list of the input, and the last line. Answers whether the system took all of them; it stops where it did not.

@@ -199,9 +199,10 @@ impl Walk<'_> {
         requires { at ≤ length self.now.s.now }
         ensures { Checks self.now.s.now (repeat n (read_object self.now.packed.version deep declared) (drop at self.now.s.now)) result }
     {
+        let s = self.s;
         let mut p = at;
         for _ in 0..n {
-            if null_at(self.s, p) {
+            if null_at(s, p) {
                 p += 1;
                 continue;
             }

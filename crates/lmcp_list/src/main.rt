@@ -2,7 +2,7 @@
 // or its refusal.
 #![tactic(auto, using(output::proofs::Adding::adds_then))]
 
-ghost use Rattle.std.specs.Prelude.{◌≡◌, ◌≤◌, length};
+ghost use Rattle.std.specs.Prelude.{◌≡◌, ◌≤◌, refl, length};
 ghost use Rattle.wire.specs.Slices.{buffer};
 ghost use Rattle.stream.specs.declared.Kind.TheVariants.{Bytes4};
 ghost use Rattle.output.specs.Output.{Adds, line_limit};
@@ -12,7 +12,7 @@ ghost use Rattle.lmcp_list.specs.Lines.{spaced, list_limit, line, lines, Listed}
 ghost use Rattle.lmcp_list.specs.Inside.{found_text, found_line};
 
 use output::Output;
-use record_lines::Teller;
+use record_lines::{LastLine, Teller};
 use refusals::Refusal;
 use std::io::{Stdin, Stdout};
 use stream::{Input, Kind};
@@ -65,6 +65,7 @@ fn one_more(out: &mut Output, n: u64, list: &mut [i64], message: &[u8])
 #[derive(Drop)]
 struct Reads<'a> {
     list: &'a mut [i64],
+    ghost sized: { length list.now ≡ list_limit },
 }
 
 impl<'a> Teller for Reads<'a> {
@@ -74,11 +75,13 @@ impl<'a> Teller for Reads<'a> {
 
     ghost known = { λ _. tt };
 
-    ghost sound = { λ r. length r.list.now ≡ list_limit };
-
     fn line(&mut self, out: &mut Output, n: u64, _head: &[u8], body: &[u8]) {
         one_more(out, n, self.list, body);
     }
+}
+
+impl<'a> LastLine for Reads<'a> {
+    ghost ends = { refl };
 }
 
 // One line a message of the input, and the last line. Answers whether the system took all of them; it stops where it did not.

@@ -110,6 +110,7 @@ struct Walk<'a> {
 impl Walk<'_> {
     // One field: row i of the table.
     #[cycle(walk)]
+    #[inline(always)]
     fn put_row(&self, from: Spot, deep: usize, i: usize, list: &mut [i64]) -> Spot
         requires { let s = self.now.s.now in (from.p ≤ length s)
             × (((i < 20) × (i < length (rows_of (pitsurv self.now.packed.version)))) × Ahead (read_row self.now.packed.version deep i (drop from.p s)) from.q) }
@@ -182,9 +183,10 @@ impl Walk<'_> {
         requires { let s = self.now.s.now in (from.p ≤ length s) × Ahead (repeat n (read_object self.now.packed.version deep declared) (drop from.p s)) from.q }
         ensures { let s = self.now.s.now in Lays s list.old from.q (repeat n (read_object self.now.packed.version deep declared) (drop from.p s)) result.p result.q list.new }
     {
+        let s = self.s;
         let mut spot = from;
         for _ in 0..n {
-            if self.s[spot.p] == 0 {
+            if s[spot.p] == 0 {
                 put(list, spot.q, 0);
                 spot = Spot {
                     p: spot.p + 1,

@@ -202,16 +202,15 @@ impl Walk<'_> {
         requires { Stands self.now.list.now from × ((i < 20) × (i < length (rows_of (pitsurv self.now.packed.version)))) }
         ensures { Weighs self.now.list.now from.q (write_row self.now.packed.version deep i (drop from.p self.now.list.now)) result }
     {
-        let row = self.packed.rows[i];
-        let w = row[lmcp::COUNT] as usize;
-        let arg = row[lmcp::ARG] as usize;
-        let code = row[lmcp::CODE];
-        let kind = row[lmcp::KIND];
+        let w = self.packed.rows[i][lmcp::COUNT] as usize;
+        let arg = self.packed.rows[i][lmcp::ARG] as usize;
+        let code = self.packed.rows[i][lmcp::CODE];
+        let kind = self.packed.rows[i][lmcp::KIND];
         if w == 0 {
             if code == lmcp::OBJECT_CODE {
                 return self.check_object(from, deep, arg);
             }
-            let n = row[lmcp::FIXED] as usize;
+            let n = self.packed.rows[i][lmcp::FIXED] as usize;
             if n == 1 {
                 return check_value(self.list, from, kind, arg);
             }
@@ -226,6 +225,7 @@ impl Walk<'_> {
 
     // All fields of type t.
     #[cycle(walk)]
+    #[inline(never)]
     fn check_fields(&self, from: Spot, deep: usize, t: usize) -> Result<Spot, Refusal>
         requires { Stands self.now.list.now from × (t < 8) }
         ensures { let v = self.now.packed.version in Weighs self.now.list.now from.q (write_fields v deep (fields_of (pitsurv v) t) (drop from.p self.now.list.now)) result }

@@ -102,20 +102,20 @@ struct Walk<'a> {
 impl Walk<'_> {
     // One field: row i of the table.
     #[cycle(walk)]
+    #[inline(always)]
     fn put_row(&self, from: Spot, deep: usize, i: usize, out: &mut [u8]) -> Spot
         requires { let l = self.now.list.now in (from.p ≤ length l)
             × (((i < 20) × (i < length (rows_of (pitsurv self.now.packed.version)))) × Ahead (write_row self.now.packed.version deep i (drop from.p l)) from.q (length out.old)) }
         ensures { let l = self.now.list.now in Lays l out.old from.q (write_row self.now.packed.version deep i (drop from.p l)) result.p result.q out.new }
     {
-        let row = self.packed.rows[i];
-        let code = row[lmcp::CODE];
-        let w = row[lmcp::COUNT] as usize;
-        let arg = row[lmcp::ARG] as usize;
+        let code = self.packed.rows[i][lmcp::CODE];
+        let w = self.packed.rows[i][lmcp::COUNT] as usize;
+        let arg = self.packed.rows[i][lmcp::ARG] as usize;
         if w == 0 {
             if code == lmcp::OBJECT_CODE {
                 return self.put_object(from, deep, arg, out);
             }
-            let n = row[lmcp::FIXED] as usize;
+            let n = self.packed.rows[i][lmcp::FIXED] as usize;
             if n == 1 {
                 let z = self.list[from.p];
                 put_number(out, from.q, arg, bits_of(z));
@@ -177,9 +177,10 @@ impl Walk<'_> {
         requires { let l = self.now.list.now in (from.p ≤ length l) × Ahead (repeat n (write_object self.now.packed.version deep declared) (drop from.p l)) from.q (length out.old) }
         ensures { let l = self.now.list.now in Lays l out.old from.q (repeat n (write_object self.now.packed.version deep declared) (drop from.p l)) result.p result.q out.new }
     {
+        let list = self.list;
         let mut spot = from;
         for _ in 0..n {
-            let z = self.list[spot.p];
+            let z = list[spot.p];
             if lmcp::size_of(z) == 0 {
                 put_number(out, spot.q, 1, 0);
                 spot = Spot {

@@ -7,6 +7,8 @@ ghost use Rattle.log_index.specs.Rows.{earlier, is_of};
 ghost use Rattle.log_index.specs.Words.{row_said, row_at, rank_in, inserted, entered, merged_by, merged, found_in, says};
 ghost use Rattle.log_index.specs.Inside.{MergesOne};
 
+use halving::Halved;
+
 // The most rows of an index.
 pub const MAX_INDEX: usize = 4096;
 
@@ -44,12 +46,35 @@ pub fn is_before(a: Row, b: Row) -> bool
     a < b
 }
 
+// The first n rows, each asked whether it comes before a row.
+#[derive(Drop)]
+struct Before<'a> {
+    index: &'a [u64],
+    n: usize,
+    row: Row,
+    ghost held: { 3 * n ≤ length index.now },
+}
+
+impl Halved for Before<'_> {
+    ghost many = { λ s. s.n };
+
+    ghost holds = { λ s i. earlier (row_at s.index.now i) (row_said s.row) };
+
+    fn count(&self) -> usize {
+        self.n
+    }
+
+    fn test(&self, i: usize) -> bool {
+        is_before(row_at(self.index, i), self.row)
+    }
+}
+
 // The place of a row among the first n: how many come before it, where they are sorted.
 fn rank(index: &[u64], n: usize, row: Row) -> usize
     requires { 3 * n ≤ length index.now }
     ensures { (result ≡ rank_in index.now n (row_said row)) × (result ≤ n) }
 {
-    halving::partition_point(n, |i| is_before(row_at(index, i), row))
+    halving::partition_point(&Before { index, n, row })
 }
 
 // A row goes k rows above a place, and those from the place up to the n-th behind it.

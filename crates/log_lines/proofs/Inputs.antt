@@ -3,9 +3,9 @@ use Rattle.wire.proofs.Basics.{◌∙◌, sym, ◌≡◌, ap, subst, ℕ, List, 
 use Rattle.wire.specs.Choice.{pick}
 use Rattle.stream.specs.Whole.{All, Whole, Longer, Held, Exceeds, HoldsAll}
 use Rattle.output.specs.declared.Output.{Output}
-use Rattle.output.specs.Output.{Ends}
+use Rattle.output.specs.Output.{Finishes, Ends}
 use Rattle.output.proofs.Adding.{ends_is}
-use Rattle.log_lines.specs.Lines.{longer_line, TellsTo}
+use Rattle.log_lines.specs.Lines.{longer_line, input_lines, Tells, TellsTo}
 
 module _ {most : ℕ} {lines : List ℕ → List ℕ} {o p : Output} {r : Bool} {x : All} (buf : List ℕ) (all : HoldsAll most buf x) where
   -- its part of the buffer, by another name, was told
@@ -26,3 +26,8 @@ module _ {most : ℕ} {lines : List ℕ → List ℕ} {o p : Output} {r : Bool} 
         came = h.came;
         said = ends_is f (ap longer_line e ∙ sym (ap (λ (b : Bool). pick b (longer_line most) (lines h.came)) n));
       }
+
+-- where nothing stands before it, that is what a program over a log promises of its buffer
+pub tells-begun : {most : ℕ} {lines : List ℕ → List ℕ} {o p : Output} {r : Bool} → o.at ≡ 0 → TellsTo most lines o p r → Tells most lines o.buf.now p.buf.now r
+tells-begun {most} {lines} {o} {p} {r} e t =
+    record { came = t.came; said = subst (λ (k : ℕ). Finishes o.buf.now k (input_lines most lines t.came) p.buf.now r) e t.said.finished }

@@ -4,7 +4,7 @@ use Rattle.wire.specs.Choice.{◌when◌else◌}
 use Rattle.wire.specs.Text.{ascii}
 use Rattle.text.specs.Text.{decimal}
 use Rattle.output.specs.declared.Output.{Output}
-use Rattle.output.specs.Output.{Ends}
+use Rattle.output.specs.Output.{Finishes, Ends}
 use Rattle.flight_log.specs.Step.{Step}
 use Rattle.flight_log.specs.Step.{Found, End, Refused}
 
@@ -40,7 +40,12 @@ input_lines most lines input =
     longer_line most when ltb most (length input) else
     lines input
 
--- so of what came, by a program's output
+-- so of what came
+pub record Tells (most : ℕ) (lines : List ℕ → List ℕ) (before after : List ℕ) (r : Bool) : Type 0 where
+  pub came : List ℕ
+  pub said : Finishes before 0 (input_lines most lines came) after r
+
+-- the same of a program's output, behind what it holds
 pub record TellsTo (most : ℕ) (lines : List ℕ → List ℕ) (o o' : Output) (r : Bool) : Type 0 where
   pub came : List ℕ
   pub said : Ends o (input_lines most lines came) o' r

@@ -3,7 +3,7 @@
 
 ghost use Rattle.std.specs.Prelude.{◌≤◌, length};
 ghost use Rattle.output.specs.Output.{Ends, line_limit};
-ghost use Rattle.log_lines.specs.InsideTells.{Tells};
+ghost use Rattle.log_lines.specs.Lines.{Tells};
 ghost use Rattle.log_list.specs.Lines.{list_lines};
 
 use log_lines::Teller;

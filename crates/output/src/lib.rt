@@ -210,6 +210,21 @@ impl<'a> Output<'a> {
         Output { stdout, buf, at: 0 }
     }
 
+    // What is poured next goes behind another place of the buffer: what stands before it counts as not written out yet.
+    pub fn go_on(&mut self, at: usize)
+        ensures { self.new ≡ record self.old { at = at } }
+    {
+        self.at = at;
+    }
+
+    // The place in the buffer behind all that is not written out yet.
+    pub fn place(&self) -> usize
+        ensures { result ≡ self.now.at }
+    {
+        let place = self.at;
+        place
+    }
+
     // Whether the system did not take what was written out.
     pub fn is_closed(&self) -> bool
         ensures { IsTrue result ↔ IsClosed self.now }

@@ -19,6 +19,9 @@ use Rattle.std.proofs.Common.{Ok, Err}
 use Rattle.refusals.specs.Numbers.{number_of}
 use Rattle.refusals.proofs.Names.{same_number}
 use Rattle.receiver_state.proofs.Unique.{words_same, names_same}
+use Rattle.verdict.specs.Decided.{verdict_told}
+use Rattle.verdict.specs.declared.Verdict as code
+use Rattle.verdict.specs.declared.Verdict.TheVariants as code_verdict
 
 -- words and names of the lengths that were lent
 pub shape_of : (w n v m : List ℕ) → shaped w n ≡ true → length v ≡ length w → length m ≡ length n → Shaped v m
@@ -63,6 +66,37 @@ answer-once (given.Delivered p n) (given.Delivered q m) e =
     let x : p ≡ q = cc in
     let y : n ≡ m = cc in
     λ i. given.Delivered (x i) (y i)
+
+-- and so of two verdicts
+pub verdict-once : (a b : code.Verdict) → verdict_told a ≡ verdict_told b → a ≡ b
+verdict-once (code_verdict.Refuse j) (code_verdict.Refuse k) e = let z : number_of j ≡ number_of k = cc in ap code_verdict.Refuse (same_number j k z)
+verdict-once (code_verdict.Refuse j) code_verdict.Again e = cc
+verdict-once (code_verdict.Refuse j) (code_verdict.Deliver h) e = cc
+verdict-once (code_verdict.Refuse j) (code_verdict.Join t h) e = cc
+verdict-once (code_verdict.Refuse j) (code_verdict.Begin h) e = cc
+verdict-once code_verdict.Again (code_verdict.Refuse k) e = cc
+verdict-once code_verdict.Again code_verdict.Again e = refl
+verdict-once code_verdict.Again (code_verdict.Deliver h) e = cc
+verdict-once code_verdict.Again (code_verdict.Join t h) e = cc
+verdict-once code_verdict.Again (code_verdict.Begin h) e = cc
+verdict-once (code_verdict.Deliver g) (code_verdict.Refuse k) e = cc
+verdict-once (code_verdict.Deliver g) code_verdict.Again e = cc
+verdict-once (code_verdict.Deliver g) (code_verdict.Deliver h) e = let x : g ≡ h = cc in ap code_verdict.Deliver x
+verdict-once (code_verdict.Deliver g) (code_verdict.Join t h) e = cc
+verdict-once (code_verdict.Deliver g) (code_verdict.Begin h) e = cc
+verdict-once (code_verdict.Join s g) (code_verdict.Refuse k) e = cc
+verdict-once (code_verdict.Join s g) code_verdict.Again e = cc
+verdict-once (code_verdict.Join s g) (code_verdict.Deliver h) e = cc
+verdict-once (code_verdict.Join s g) (code_verdict.Join t h) e =
+    let x : s ≡ t = cc in
+    let y : g ≡ h = cc in
+    λ i. code_verdict.Join (x i) (y i)
+verdict-once (code_verdict.Join s g) (code_verdict.Begin h) e = cc
+verdict-once (code_verdict.Begin g) (code_verdict.Refuse k) e = cc
+verdict-once (code_verdict.Begin g) code_verdict.Again e = cc
+verdict-once (code_verdict.Begin g) (code_verdict.Deliver h) e = cc
+verdict-once (code_verdict.Begin g) (code_verdict.Join t h) e = cc
+verdict-once (code_verdict.Begin g) (code_verdict.Begin h) e = let x : g ≡ h = cc in ap code_verdict.Begin x
 
 -- two outcomes of one step, that refuses a state or names of another length by 9
 module _ (a : After) (l : Lent) (nine : shaped l.state l.names ≡ false → a.answer ≡ Refused 9) (sender : ℕ) (d : List ℕ) (r s : Outcome) (l1 l2 : Lent)

@@ -5,7 +5,8 @@
 // (`Unit` where nothing is), `says` its `Says` of specs/, `known` what the value knows, and the method `line` puts line n of a record out. Its
 // `run` is `record_lines::tell(stdin, buf, input, Kind::Bytes2, &mut Output::new(stdout, out), &mut gaps)`, as in crate gaps, which needs no
 // proof file but for `judge`: with `#![tactic(auto, using(output::proofs::Adding::adds_then))]` the lines of texts one after another are found.
-// What must stay true of the value from line to line, as a buffer's length, is `sound`. A program with no last line takes `records`.
+// What must stay true of the value from line to line, as a buffer's length, is a ghost field of its struct. `tell` takes a program with the last
+// line of all of them (`impl LastLine for`); one with no last line takes `records`.
 #![tactic(auto)]
 
 ghost use Rattle.std.specs.Prelude.{◌≡◌};
@@ -24,15 +25,15 @@ pub trait Teller {
 
     ghost known: { Self → Known };
 
-    // What stays true of the value from line to line.
-    ghost sound: { Self → Type 0 } = { λ _. Unit {0} };
-
     // Line n, of one record, by what is known before it.
     fn line(&mut self, out: &mut Output, n: u64, head: &[u8], body: &[u8])
-        requires { sound self.old }
         ensures text { Adds out.old (says.line n (known self.old) (rec_of head.now body.now)) out.new }
-        ensures next { known self.new ≡ says.after (known self.old) (rec_of head.now body.now) }
-        ensures sound { sound self.new };
+        ensures next { known self.new ≡ says.after (known self.old) (rec_of head.now body.now) };
+}
+
+// A program whose last line says how the input ended and how many records there were.
+pub trait LastLine: Teller {
+    ghost ends: { Self.says.last ≡ last_line };
 }
 
 // How far a program came: how many records there were, and how the input ended.
@@ -51,7 +52,6 @@ pub fn records<T: Teller>(
     out: &mut Output,
     teller: &mut T,
 ) -> Option<Told>
-    requires { T.sound teller.old }
     ensures { Reaches T.says (T.known teller.old) kind buf.old input out.old result out.new }
 {
     let mut rest = input;
@@ -74,7 +74,7 @@ pub fn records<T: Teller>(
 }
 
 // One line a record of the input, and the last line. Answers whether the system took all of them; it stops where it did not.
-pub fn tell<T: Teller>(
+pub fn tell<T: LastLine>(
     stdin: Stdin,
     buf: &mut [u8],
     input: Input,
@@ -82,8 +82,6 @@ pub fn tell<T: Teller>(
     out: &mut Output,
     teller: &mut T,
 ) -> bool
-    requires sound { T.sound teller.old }
-    requires last { T.says.last ≡ last_line }
     ensures { TellsTo kind (lines_after T.says 0 (T.known teller.old)) buf.old input out.old out.new result }
 {
     let Some(told) = records(stdin, buf, input, kind, out, teller) else {

@@ -9,7 +9,7 @@ ghost use Rattle.receiver_state.specs.View.{shaped};
 ghost use Rattle.flight_log.specs.Editions.{limits_in_lem};
 ghost use Rattle.flight_log.specs.Said.{entry_said};
 ghost use Rattle.receiver.specs.Lent.{world_in};
-ghost use Rattle.log_lines.specs.InsideTells.{Tells};
+ghost use Rattle.log_lines.specs.Lines.{Tells};
 ghost use Rattle.replay_log.specs.Lines.{Replayed, replay_lines_lem, lines_from};
 ghost use Rattle.replay_log.specs.Inside.{lent_in, Stays};
 

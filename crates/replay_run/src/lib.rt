@@ -2,7 +2,7 @@
 // to a fresh receiver, and a line says what it answers.
 #![tactic(auto)]
 
-ghost use Rattle.std.specs.Prelude.{◌≤◌, ◌≡◌, length};
+ghost use Rattle.std.specs.Prelude.{◌≤◌, ◌≡◌, refl, length};
 ghost use Rattle.wire.specs.Slices.{buffer};
 ghost use Rattle.steps.specs.Runs.{World};
 ghost use Rattle.receiver.specs.Lent.{world_in};
@@ -13,7 +13,7 @@ ghost use Rattle.replay_run.specs.Lines.{lines, says, Replayed};
 ghost use Rattle.replay_run.specs.Inside.{lent_in};
 
 use output::Output;
-use record_lines::Teller;
+use record_lines::{LastLine, Teller};
 use std::io::{Stdin, Stdout};
 use stream::{Input, Kind};
 
@@ -59,6 +59,10 @@ impl Teller for Replay {
     fn line(&mut self, out: &mut Output, n: u64, _head: &[u8], body: &[u8]) {
         self.hear(out, n, body);
     }
+}
+
+impl LastLine for Replay {
+    ghost ends = { refl };
 }
 
 // One line a datagram of the input, and the last line, over a fresh receiver. Answers whether the system took all of them; it stops where it

@@ -3,14 +3,39 @@
 
 ghost use Rattle.std.specs.Prelude.{◌≡◌, ◌+◌, ◌-◌, ◌≤◌, ◌<◌, length, take, drop};
 ghost use Rattle.wire.specs.Overlay.{overlay};
-ghost use Rattle.sorted_set.specs.Halving.{rank_in, found_in, inserted, Enters};
+ghost use Rattle.sorted_set.specs.Halving.{smaller, rank_in, found_in, inserted, Enters};
+
+use halving::Halved;
+
+// The first n words, each asked whether it is below x.
+#[derive(Drop)]
+struct Below<'a> {
+    w: &'a [u64],
+    n: usize,
+    x: u64,
+    ghost short: { n ≤ length w.now },
+}
+
+impl Halved for Below<'_> {
+    ghost many = { λ s. s.n };
+
+    ghost holds = { λ s. smaller s.w.now s.x };
+
+    fn count(&self) -> usize {
+        self.n
+    }
+
+    fn test(&self, i: usize) -> bool {
+        self.w[i] < self.x
+    }
+}
 
 // The place of x among the first n words: how many of them are below x, where they rise.
 pub fn rank(w: &[u64], n: usize, x: u64) -> usize
     ensures { result ≡ rank_in w.now n x }
 {
     let m = n.min(w.len());
-    halving::partition_point(m, |i| w[i] < x)
+    halving::partition_point(&Below { w, n: m, x })
 }
 
 // Where x stands among the first n words; or else where it belongs among them, where they rise.

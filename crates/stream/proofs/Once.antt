@@ -1,10 +1,14 @@
 -- For the bytes that came, no second answer satisfies a contract of the input. Assumes nothing.
-use Rattle.wire.proofs.Basics.{◌∙◌, sym, ◌≡◌, ap, subst, ℕ, ◌+◌, ◌<◌, ◌-◌, min, List, [], ◌++◌, true, length, drop, take, slice, arith}
+use Rattle.wire.proofs.Basics.{◌∙◌, sym, ◌≡◌, ap, refl, subst, ℕ, ◌+◌, ◌<◌, ◌-◌, min, List, [], ◌++◌, true, length, drop, take, slice, arith}
 use Rattle.wire.proofs.Choices.{never}
 use Rattle.stream.specs.declared.Kind.{Kind}
 use Rattle.stream.specs.declared.Input.{Input}
-use Rattle.stream.specs.Records.{Next, Record, End, Cut, head_of, body_length_lem, is_whole, unread, holds, Took, Ends, Lacks, Gives}
-use Rattle.stream.specs.Whole.{All, Whole, Longer, HoldsAll}
+use Rattle.std.proofs.Common.{Result, Ok, Err, Option, Some, None}
+use Rattle.stream.specs.declared.Record.{Record as RecordAt}
+use Rattle.stream.specs.declared.Ending.{Ending}
+use Rattle.stream.specs.declared.Ending.TheVariants as ending
+use Rattle.stream.specs.Records.{Next, Record, End, Cut, told, head_of, body_length_lem, is_whole, unread, holds, Took, Ends, Lacks, Gives}
+use Rattle.stream.specs.Whole.{All, Whole, Longer, told_all, HoldsAll}
 use Rattle.stream.proofs.Taking.{whole-none}
 
 -- ---- records
@@ -63,6 +67,22 @@ module _ (kind : Kind) (b : List ℕ) (i : Input) where
   gives-once a a' Cut End g h e = end-no-cut h g (sym e)
   gives-once a a' Cut Cut g h e = tt
 
+-- two answers of the code that say the same are one
+pub told-once : (r s : Result RecordAt Ending) → told r ≡ told s → r ≡ s
+told-once (Ok r) (Ok s) e =
+    let at : r.at ≡ s.at = cc in
+    let len : r.len ≡ s.len = cc in
+    let rest : r.rest ≡ s.rest = cc in
+    λ j. Ok (record { at = at j; len = len j; rest = rest j })
+told-once (Ok r) (Err ending.End) e = cc
+told-once (Ok r) (Err ending.Cut) e = cc
+told-once (Err ending.End) (Ok s) e = cc
+told-once (Err ending.End) (Err ending.End) e = refl
+told-once (Err ending.End) (Err ending.Cut) e = cc
+told-once (Err ending.Cut) (Ok s) e = cc
+told-once (Err ending.Cut) (Err ending.End) e = cc
+told-once (Err ending.Cut) (Err ending.Cut) e = refl
+
 -- ---- the whole input
 
 abbrev pub came_all : (n : ℕ) (a : List ℕ) (r : All) → HoldsAll n a r → List ℕ
@@ -80,3 +100,10 @@ all_once n a a' (Whole k) (Whole k') g h e = (g.size ∙ ap length e ∙ sym h.s
 all_once n a a' (Whole k) Longer g h e = let z = ap length e in omega (arith, z, g.size, g.fits, h.more)
 all_once n a a' Longer (Whole k') g h e = let z = ap length e in omega (arith, z, h.size, h.fits, g.more)
 all_once n a a' Longer Longer g h e = g.front ∙ ap (take n) e ∙ sym h.front
+
+-- two answers of the code that say the same are one
+pub told_all-once : (r s : Option ℕ) → told_all r ≡ told_all s → r ≡ s
+told_all-once (Some k) (Some m) e = let f : k ≡ m = cc in ap Some f
+told_all-once (Some k) None e = cc
+told_all-once None (Some m) e = cc
+told_all-once None None e = refl

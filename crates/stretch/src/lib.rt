@@ -167,6 +167,7 @@ pub fn count_on(
     sets: &mut PitSets,
 ) -> Stretch
     ensures same { SameWords sets.old sets.new }
+    ensures sizes { sets.new.sizes ≡ result.sizes }
     ensures counts { CountsOn log.now place most (desk (lent_before state names store ledger) (book numbers.old (sets_in sets.old))) sets.old.sizes (stretch_told result)
         (desk (lent_after state names store ledger) (book numbers.new (sets_in sets.new))) }
 {

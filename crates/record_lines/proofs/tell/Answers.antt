@@ -8,4 +8,4 @@ pub returns : goal.returns
 returns g c =
     let t = c.in-Some.told in
     tells-reached c.in-Some.ensures
-    (subst (λ (f : Next → ℕ → List ℕ). Ends c.records.new.out (f (ended_as t.ending) t.n) c.finish.new.self c.finish.result) (sym c.requires.last) c.finish.ensures)
+    (subst (λ (f : Next → ℕ → List ℕ). Ends c.records.new.out (f (ended_as t.ending) t.n) c.finish.new.self c.finish.result) (sym g.met.T.LastLine.ends) c.finish.ensures)

@@ -164,16 +164,16 @@ put_objects-loop-init t c =
     let e = repeat-all f (drop a.from.p a.self.now.s.now) a.n in
     (refl, (begins {Few = Few0} (repeat (a.n - 0) f) a.from.p a.from.q a.list.now e tt c.requires.0, ahead_as e c.requires.1))
 
-pub put_objects-bounds-self-spot : goal.put_objects-bounds-self-spot
-put_objects-bounds-self-spot t c = first-inside (turn-object t (goal.at.put_objects-bounds-self-spot t c).In-loop)
+pub put_objects-bounds-s-spot : goal.put_objects-bounds-s-spot
+put_objects-bounds-s-spot t c = first-inside (turn-object t (goal.at.put_objects-bounds-s-spot t c).In-loop)
 
-pub put_objects-loop-preserved-then-self-spot-eq0 : goal.put_objects-loop-preserved-then-self-spot-eq0
-put_objects-loop-preserved-then-self-spot-eq0 t c =
-    let test = (goal.at.put_objects-loop-preserved-then-self-spot-eq0 t c).In-loop in
+pub put_objects-loop-preserved-then-s-spot-eq0 : goal.put_objects-loop-preserved-then-s-spot-eq0
+put_objects-loop-preserved-then-s-spot-eq0 t c =
+    let test = (goal.at.put_objects-loop-preserved-then-s-spot-eq0 t c).In-loop in
     let a = c.args in
     let x = c.loop in
     let f = read_object a.self.now.packed.version a.deep a.declared in
-    let g = null-laid (turn-object t test) _ (first a.self.now x.spot.p) c.if-self-spot-eq0.true _ c.put.ensures in
+    let g = null-laid (turn-object t test) _ (first a.self.now x.spot.p) c.if-s-spot-eq0.true _ c.put.ensures in
     (c.put.auto.list ∙ x.invariant.0, (items-turn Few0 f a.n x.counter x.invariant.1.0 c.loop-test.true (went (x.spot.p + 1) (x.spot.q + 1)) _ g (record { p = x.spot.p + 1; q = x.spot.q + 1 }) refl, ahead-next _ _ (turn-ahead t test) g))
 
 pub put_objects-put_object-spot-requires : goal.put_objects-put_object-spot-requires

@@ -189,8 +189,8 @@ put_objects-loop-init t c =
     let e = repeat-all f (drop a.from.p a.self.now.list.now) a.n in
     (refl, (begins {Few = Few0} (repeat (a.n - 0) f) a.from.p a.from.q a.out.now e tt c.requires.0, ahead_as e c.requires.1))
 
-pub put_objects-bounds-self-spot : goal.put_objects-bounds-self-spot
-put_objects-bounds-self-spot t c = first-inside (turn-object t (goal.at.put_objects-bounds-self-spot t c).In-loop)
+pub put_objects-bounds-list-spot : goal.put_objects-bounds-list-spot
+put_objects-bounds-list-spot t c = first-inside (turn-object t (goal.at.put_objects-bounds-list-spot t c).In-loop)
 
 pub put_objects-put_number-requires : goal.put_objects-put_number-requires
 put_objects-put_number-requires t c =
