@@ -55,10 +55,8 @@ pub extern "C" fn qm_forget(state: &mut [u64], names: &mut [u8], sender: u64) ->
 pub extern "C" fn qm_lengths(lengths: &mut [u64]) -> u32
     ensures { LengthsTold lengths.old result lengths.new }
 {
-    if lengths.len() < LENGTHS {
-        return Refusal::NoRoom.number();
-    }
-    let all = [
+    // A constant: an array made here is laid twice, and takes twice the time.
+    const ALL: [u64; LENGTHS] = [
         slots::SLOTS as u64,
         datagram::MAX_PAYLOAD as u64,
         datagram::MAX_FRAGMENTS as u64,
@@ -70,7 +68,10 @@ pub extern "C" fn qm_lengths(lengths: &mut [u64]) -> u32
         watch::SENDERS as u64,
         log_index::MAX_INDEX as u64,
     ];
-    words::put_words(lengths, 0, &all);
+    if lengths.len() < LENGTHS {
+        return Refusal::NoRoom.number();
+    }
+    lengths[..LENGTHS].copy_from_slice(&ALL);
     0
 }
 

@@ -5,23 +5,16 @@ use output::Output;
 use refusals::Refusal;
 
 // One byte more than a payload may have.
-const PAYLOAD: usize = datagram::MAX_PAYLOAD + 1;
+pub(crate) const PAYLOAD: usize = datagram::MAX_PAYLOAD + 1;
 
 // A payload, all of the letter A, and room for any datagram of it.
 #[derive(Drop)]
 pub(crate) struct Cutting {
-    payload: [u8; PAYLOAD],
-    d: [u8; cutter::MOST_SIZE],
+    pub(crate) payload: [u8; PAYLOAD],
+    pub(crate) d: [u8; cutter::MOST_SIZE],
 }
 
 impl Cutting {
-    pub(crate) fn new() -> Cutting {
-        Cutting {
-            payload: [65u8; PAYLOAD],
-            d: [0u8; cutter::MOST_SIZE],
-        }
-    }
-
     // The first `room` bytes get the datagram that a case asks for.
     fn made(&mut self, case: &[u8], room: usize) -> Result<Cut, Refusal> {
         let letter = (wire::number(case, 0, 8) % 256) as u8;

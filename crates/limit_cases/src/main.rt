@@ -81,7 +81,11 @@ fn run(stdin: Stdin, buf: &mut [u8], out: &mut Output, cutting: &mut Cutting)
 fn main(rt: HostRuntime) {
     let mut buf = [0u8; 4096];
     let mut space = [0u8; 4096];
-    let mut cutting = Cutting::new();
+    // Made here: what a `new` gives back is moved, a mebibyte a run.
+    let mut cutting = Cutting {
+        payload: [65u8; cuts::PAYLOAD],
+        d: [0u8; cutter::MOST_SIZE],
+    };
     run(
         rt.stdin(),
         &mut buf,
