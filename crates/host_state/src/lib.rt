@@ -55,7 +55,7 @@ pub extern "C" fn qm_forget(state: &mut [u64], names: &mut [u8], sender: u64) ->
 pub extern "C" fn qm_lengths(lengths: &mut [u64]) -> u32
     ensures { LengthsTold lengths.old result lengths.new }
 {
-    // A constant: an array made here is laid twice, and takes twice the time.
+    // A constant: an array made here would be laid twice.
     const ALL: [u64; LENGTHS] = [
         slots::SLOTS as u64,
         datagram::MAX_PAYLOAD as u64,
